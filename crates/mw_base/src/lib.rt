@@ -1,0 +1,21 @@
+//! Numbers in their ranges, owned texts, bytes and lists, and the plain data that every crate above speaks of.
+#![tactic(auto)]
+
+mod ids;
+mod item;
+mod list;
+mod memory;
+mod options;
+mod spheres;
+mod text;
+
+pub use ids::{ItemId, LocId, SessionId, SlotId, TeamId};
+pub use item::NetItem;
+pub use list::{Bytes, List};
+pub use memory::Memory;
+pub use options::{Permission, RoomOptions};
+pub use spheres::{SphereList, Spot};
+pub use text::Text;
+
+#[cfg(test)]
+mod tests;

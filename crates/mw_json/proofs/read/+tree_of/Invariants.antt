@@ -1,0 +1,14 @@
+use Rattle.std.proofs.Common.{◌≡◌, ◌≤◌, List, ◌++◌, take, map}
+use Rattle.mw_model.specs.Json.{items_depth, members_depth}
+use Rattle.mw_json.specs.View.{view, member_view, items_of, members_of}
+use Rattle.mw_json.proofs.Trees.{Entry, meaning, named}
+use Rattle.mw_json.proofs.read.+tree_of.Given as goal
+
+abbrev pub invariant-items_of-loop-item : goal.invariant-items_of-loop-item
+invariant-items_of-loop-item l =
+    (map view l.found ≡ map meaning (take l.item-index l.item-items)) × (items_depth (items_of (map view l.found)) ≤ l.room)
+
+abbrev pub invariant-members_of-loop-key : goal.invariant-members_of-loop-key
+invariant-members_of-loop-key l =
+    (done : List Entry) × (l.members.entries ≡ done ++ l.key-iterator) × (map member_view l.found ≡ map named done)
+    × (members_depth (members_of (map member_view l.found)) ≤ l.room)

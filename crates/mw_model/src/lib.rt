@@ -1,0 +1,2 @@
+//! The definitions that contracts of several crates cite, over plain data alone.
+#![tactic(auto)]
