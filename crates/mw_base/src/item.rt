@@ -1,3 +1,5 @@
+use std::marker::Model;
+
 /// An item as the protocol shows it.
 #[derive(Clone, Copy, Debug, PartialEq, Eq)]
 pub struct NetItem {
@@ -9,4 +11,14 @@ pub struct NetItem {
     pub player: u16,
     /// Progression 1, useful 2, trap 4, else 0.
     pub flags: u8,
+}
+
+impl Model for NetItem {
+    ghost use Rattle.mw_model.specs.Items as plain;
+
+    ghost Value = { plain.NetItem };
+
+    ghost view = { λ i. record { item = i.item; location = i.location; player = i.player; flags = i.flags } };
+
+    ghost inverse = { λ i. record { item = i.item; location = i.location; player = i.player; flags = i.flags } };
 }

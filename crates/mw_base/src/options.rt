@@ -1,4 +1,7 @@
+ghost use Rattle.std.specs.Prelude.{◌≡◌};
+
 use crate::text::Text;
+use std::marker::Model;
 
 /// Who may use a command of the room, and when.
 #[derive(Clone, Copy, Debug, PartialEq, Eq)]
@@ -13,6 +16,23 @@ pub enum Permission {
     Auto,
     /// By itself at the slot's goal, and by command at any time.
     AutoEnabled,
+}
+
+impl Permission {
+    ghost use Rattle.mw_base.specs.Permissions.{permission_number};
+
+    /// Its number in Archipelago's network protocol: 0, 1, 2, 6 or 7.
+    pub fn number(self) -> u8
+        ensures { result ≡ permission_number self }
+    {
+        match self {
+            Permission::Disabled => 0,
+            Permission::Enabled => 1,
+            Permission::Goal => 2,
+            Permission::Auto => 6,
+            Permission::AutoEnabled => 7,
+        }
+    }
 }
 
 /// The settings of a room.
@@ -30,4 +50,20 @@ pub struct RoomOptions {
     pub collect: Permission,
     /// Who may ask what is left: disabled, enabled or goal.
     pub remaining: Permission,
+}
+
+impl Model for RoomOptions {
+    ghost use Rattle.mw_base.specs.Permissions.{permission_number};
+    ghost use Rattle.mw_model.specs.Seed as plain;
+
+    ghost Value = { plain.RoomOptions };
+
+    ghost view = { λ o. record {
+      password = o.password;
+      hint_cost = o.hint_cost;
+      location_check_points = o.location_check_points;
+      release = permission_number o.release;
+      collect = permission_number o.collect;
+      remaining = permission_number o.remaining;
+    } };
 }

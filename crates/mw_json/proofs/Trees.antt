@@ -4,7 +4,8 @@ use Rattle.serde_json.specs.View.{view as data_view, items_view as data_items, m
 use Rattle.serde_json.specs.declared.value.Value.{Value}
 use Rattle.mw_model.specs.Json.{Json, Items, Members, item, member, depth, items_depth, members_depth}
 use Rattle.mw_json.specs.Reading.{of_data, of_items, of_members}
-use Rattle.mw_json.specs.View.{view, member_view, items_of, members_of, tree_step, member_step}
+use Rattle.mw_json.specs.View.{view, member_view, items_of, members_of, items_view, tree_step, member_step}
+use Rattle.mw_json.specs.Grammar.{items_length}
 use Rattle.mw_json.specs.declared.tree.Tree.{Tree}
 use Rattle.mw_json.specs.declared.tree.Member.{roll-Member, fold-roll-Member}
 
@@ -46,3 +47,8 @@ shallow_member (x ∷ ms) m n h k = omega (arith, shallow_member ms m n (omega a
 
 pub member_view-made : (name : List ℕ) (value : Tree) → member_view (roll-Member record { name = name; value = value }) ≡ (name, view value)
 member_view-made name value = fold-roll-Member Json (List ℕ × Json) tree_step member_step record { name = name; value = value }
+
+-- a list has as many elements as its trees
+pub as_many : (ts : List Tree) → items_length (items_view ts) ≡ length ts
+as_many [] = refl
+as_many (t ∷ ts) = omega (arith, as_many ts)

@@ -1,2 +1,4 @@
+pub mod Grammar
+pub mod Paths
 pub mod Reading
 pub mod View
