@@ -1,6 +1,9 @@
 pub mod Checks
 pub mod Items
 pub mod Json
+pub mod Messages
+pub mod Packets
 pub mod Records
+pub mod Room
 pub mod Seed
 pub mod Spelling

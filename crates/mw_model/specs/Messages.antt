@@ -1,0 +1,187 @@
+-- What a room tells a session, and its JSON, after Archipelago's network protocol.
+use Rattle.std.specs.Prelude.{ℕ, ℤ, pos, ◌∷◌, [], List, Bool, codes, decimal, map, if◌then◌else◌, is_some}
+use Rattle.std.specs.Ordering.{nat_cmp, is_lt}
+use Rattle.std.specs.Cmp.Lexicographic.{slice_cmp}
+use Rattle.sha1.specs.Sha1.{sha1}
+use Rattle.hex.specs.Hex.{encode_lower}
+use Rattle.mw_model.specs.Items.{NetItem}
+use Rattle.mw_model.specs.Json.{Json, null, flag, whole, words, many, members, Items, no_items, item, Members, no_members, member}
+use Rattle.mw_model.specs.Seed.{Game, NamedId}
+use Rattle.mw_model.specs.Spelling.{spelling}
+
+-- a game, and the checksum of its names
+pub record GameSum : Type 0 where
+  pub game : List ℕ
+  pub checksum : List ℕ
+
+pub record RoomInfo : Type 0 where
+  pub password : Bool
+  pub release : ℕ
+  pub collect : ℕ
+  pub remaining : ℕ
+  pub hint_cost : ℕ
+  pub location_check_points : ℕ
+  pub games : List GameSum
+  pub seed_name : List ℕ
+  pub time : ℕ
+
+pub record NetworkPlayer : Type 0 where
+  pub team : ℕ
+  pub slot : ℕ
+  pub name : List ℕ
+
+pub record NetworkSlot : Type 0 where
+  pub slot : ℕ
+  pub name : List ℕ
+  pub game : List ℕ
+
+pub record Connected : Type 0 where
+  pub team : ℕ
+  pub slot : ℕ
+  pub players : List NetworkPlayer
+  pub missing_locations : List ℤ
+  pub checked_locations : List ℤ
+  pub slot_info : List NetworkSlot
+  pub hint_points : ℕ
+
+pub data ServerPacket : Type 0 where
+  room_info : RoomInfo → ServerPacket
+  connected : Connected → ServerPacket
+  -- the place of the first item in the session's list, and the items from there on
+  received_items : ℕ → List NetItem → ServerPacket
+  -- the slot's new locations, and its points
+  room_update : List ℤ → ℕ → ServerPacket
+
+-- ---- JSON
+
+abbrev pub items_of : List Json → Items
+items_of [] = no_items
+items_of (j ∷ js) = item j (items_of js)
+
+-- a member more, at its place in byte order
+abbrev pub put_member : List ℕ → Json → Members → Members
+put_member name j no_members = member name j no_members
+put_member name j (member other k ms) = if is_lt (slice_cmp nat_cmp name other) then member name j (member other k ms) else member other k (put_member name j ms)
+
+abbrev pub version_json : Json
+version_json =
+    members (member (codes "build") (whole (pos 0))
+    (member (codes "class") (words (codes "Version"))
+    (member (codes "major") (whole (pos 0))
+    (member (codes "minor") (whole (pos 5)) no_members))))
+
+abbrev pub item_json : NetItem → Json
+item_json i =
+    members (member (codes "class") (words (codes "NetworkItem"))
+    (member (codes "flags") (whole (pos i.flags))
+    (member (codes "item") (whole i.item)
+    (member (codes "location") (whole i.location)
+    (member (codes "player") (whole (pos i.player)) no_members)))))
+
+abbrev pub player_json : NetworkPlayer → Json
+player_json p =
+    members (member (codes "alias") (words p.name)
+    (member (codes "class") (words (codes "NetworkPlayer"))
+    (member (codes "name") (words p.name)
+    (member (codes "slot") (whole (pos p.slot))
+    (member (codes "team") (whole (pos p.team)) no_members)))))
+
+abbrev pub slot_json : NetworkSlot → Json
+slot_json s =
+    members (member (codes "class") (words (codes "NetworkSlot"))
+    (member (codes "game") (words s.game)
+    (member (codes "group_members") (many no_items)
+    (member (codes "name") (words s.name)
+    (member (codes "type") (whole (pos 1)) no_members)))))
+
+-- each slot under its number in decimal, in byte order
+abbrev pub slot_info_members : List NetworkSlot → Members
+slot_info_members [] = no_members
+slot_info_members (s ∷ ss) = put_member (decimal s.slot) (slot_json s) (slot_info_members ss)
+
+-- the games stand in byte order
+abbrev pub checksum_members : List GameSum → Members
+checksum_members [] = no_members
+checksum_members (g ∷ gs) = member g.game (words g.checksum) (checksum_members gs)
+
+abbrev pub text_json : List ℕ → Json
+text_json s = words s
+
+abbrev pub id_json : ℤ → Json
+id_json id = whole id
+
+abbrev pub game_name : GameSum → List ℕ
+game_name g = g.game
+
+abbrev pub permissions_json : RoomInfo → Json
+permissions_json r =
+    members (member (codes "collect") (whole (pos r.collect))
+    (member (codes "release") (whole (pos r.release))
+    (member (codes "remaining") (whole (pos r.remaining)) no_members)))
+
+abbrev pub room_info_json : RoomInfo → Json
+room_info_json r =
+    members (member (codes "cmd") (words (codes "RoomInfo"))
+    (member (codes "datapackage_checksums") (members (checksum_members r.games))
+    (member (codes "games") (many (items_of (map text_json (map game_name r.games))))
+    (member (codes "generator_version") version_json
+    (member (codes "hint_cost") (whole (pos r.hint_cost))
+    (member (codes "location_check_points") (whole (pos r.location_check_points))
+    (member (codes "password") (flag r.password)
+    (member (codes "permissions") (permissions_json r)
+    (member (codes "seed_name") (words r.seed_name)
+    (member (codes "tags") (many no_items)
+    (member (codes "time") (whole (pos r.time))
+    (member (codes "version") version_json no_members))))))))))))
+
+abbrev pub connected_json : Connected → Json
+connected_json c =
+    members (member (codes "checked_locations") (many (items_of (map id_json c.checked_locations)))
+    (member (codes "cmd") (words (codes "Connected"))
+    (member (codes "hint_points") (whole (pos c.hint_points))
+    (member (codes "missing_locations") (many (items_of (map id_json c.missing_locations)))
+    (member (codes "players") (many (items_of (map player_json c.players)))
+    (member (codes "slot") (whole (pos c.slot))
+    (member (codes "slot_data") (members no_members)
+    (member (codes "slot_info") (members (slot_info_members c.slot_info))
+    (member (codes "team") (whole (pos c.team)) no_members)))))))))
+
+abbrev pub received_items_json : ℕ → List NetItem → Json
+received_items_json index items =
+    members (member (codes "cmd") (words (codes "ReceivedItems"))
+    (member (codes "index") (whole (pos index))
+    (member (codes "items") (many (items_of (map item_json items))) no_members)))
+
+abbrev pub room_update_json : List ℤ → ℕ → Json
+room_update_json locations points =
+    members (member (codes "checked_locations") (many (items_of (map id_json locations)))
+    (member (codes "cmd") (words (codes "RoomUpdate"))
+    (member (codes "hint_points") (whole (pos points)) no_members)))
+
+abbrev pub packet_json : ServerPacket → Json
+packet_json (room_info r) = room_info_json r
+packet_json (connected c) = connected_json c
+packet_json (received_items index items) = received_items_json index items
+packet_json (room_update locations points) = room_update_json locations points
+
+-- a message is the list of its packets
+abbrev pub message_json : List ServerPacket → Json
+message_json packets = many (items_of (map packet_json packets))
+
+unfoldable pub message_text : List ServerPacket → List ℕ
+message_text packets = spelling (message_json packets)
+
+-- ---- a game's names
+
+abbrev pub ids_members : List NamedId → Members
+ids_members [] = no_members
+ids_members (n ∷ ns) = member n.name (whole n.id) (ids_members ns)
+
+abbrev pub game_json : Game → Json
+game_json g =
+    members (member (codes "item_name_to_id") (members (ids_members g.item_name_to_id))
+    (member (codes "location_name_to_id") (members (ids_members g.location_name_to_id)) no_members))
+
+-- SHA-1, in lower-case hexadecimal, of the compact text of the game's names
+unfoldable pub checksum_of : Game → List ℕ
+checksum_of g = encode_lower (sha1 (spelling (game_json g)))

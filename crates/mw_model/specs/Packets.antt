@@ -1,0 +1,96 @@
+-- What a client asks for, after Archipelago's network protocol, and when a Connect is refused.
+use Rattle.std.specs.Prelude.{ℕ, ℤ, pos, ◌+◌, ◌==◌, ◌&&◌, ◌||◌, ◌++◌, ◌∷◌, [], List, Bool, Option, Some, None, true, false, not, codes, bytes_eq, int_lt, is_some, length, unwrap_or, if◌then◌else◌}
+use Rattle.std.specs.Ordering.{int_eq}
+use Rattle.mw_model.specs.Seed.{Seed, Slot, slot_of}
+
+pub record Version : Type 0 where
+  pub major : ℤ
+  pub minor : ℤ
+  pub build : ℤ
+
+-- a session wants to play a slot
+pub record Connect : Type 0 where
+  pub name : List ℕ
+  pub password : Option (List ℕ)
+  pub game : Option (List ℕ)
+  pub version : Version
+  pub items_handling : Option ℤ
+  pub tags : Option (List (List ℕ))
+
+pub data Packet : Type 0 where
+  connect : Connect → Packet
+  -- the whole list of items again
+  sync : Packet
+  -- locations of the session's own slot are checked
+  location_checks : List ℤ → Packet
+
+-- ---- who is named
+
+pub record Player : Type 0 where
+  pub team : ℕ
+  pub slot : ℕ
+
+-- the team whose name for a slot this is, from a team on
+abbrev pub team_named : List ℕ → ℕ → List (List ℕ) → Option ℕ
+team_named name team [] = None
+team_named name team (first ∷ others) = if bytes_eq first name then Some team else team_named name (team + 1) others
+
+abbrev pub player_or : Option ℕ → ℕ → Option Player → Option Player
+player_or None slot others = others
+player_or (Some team) slot others = Some record { team = team; slot = slot }
+
+-- the player of a name, from a slot on
+abbrev pub player_among : List ℕ → ℕ → List Slot → Option Player
+player_among name number [] = None
+player_among name number (slot ∷ slots) = player_or (team_named name 0 slot.names) number (player_among name (number + 1) slots)
+
+abbrev pub player_named : Seed → List ℕ → Option Player
+player_named seed name = player_among name 1 seed.slots
+
+-- ---- refusals of a Connect, in their order
+
+abbrev pub has_text : List (List ℕ) → List ℕ → Bool
+has_text [] text = false
+has_text (first ∷ others) text = bytes_eq first text || has_text others text
+
+abbrev pub tags_of : Connect → List (List ℕ)
+tags_of c = unwrap_or c.tags []
+
+abbrev pub text_or_empty : Option (List ℕ) → List ℕ
+text_or_empty t = unwrap_or t []
+
+-- it may look on without a game
+abbrev pub looks_on : Connect → Bool
+looks_on c = (length (text_or_empty c.game) == 0) && (has_text (tags_of c) (codes "Tracker") || has_text (tags_of c) (codes "TextOnly"))
+
+abbrev pub is_right_game : Connect → Option Slot → Bool
+is_right_game c None = true
+is_right_game c (Some slot) = bytes_eq slot.game (text_or_empty c.game) || looks_on c
+
+abbrev pub is_game_of : Connect → Seed → Option Player → Bool
+is_game_of c seed None = true
+is_game_of c seed (Some p) = is_right_game c (slot_of seed p.slot)
+
+-- before version 0.4.0
+abbrev pub is_old : Version → Bool
+is_old v = int_lt v.major (pos 0) || (int_eq v.major (pos 0) && (int_lt v.minor (pos 4) || (int_eq v.minor (pos 4) && int_lt v.build (pos 0))))
+
+-- the masks 0, 1, 3, 5 and 7, and 0 where none is given
+abbrev pub is_mask : ℤ → Bool
+is_mask m = int_eq m (pos 0) || int_eq m (pos 1) || int_eq m (pos 3) || int_eq m (pos 5) || int_eq m (pos 7)
+
+abbrev pub error_where : Bool → List ℕ → List (List ℕ)
+error_where true text = text ∷ []
+error_where false text = []
+
+-- a password that is set has to be the one given
+abbrev pub is_wrong_password : Connect → Seed → Bool
+is_wrong_password c seed = not (length seed.server.password == 0) && not (bytes_eq seed.server.password (text_or_empty c.password))
+
+abbrev pub connect_errors : Seed → Connect → List (List ℕ)
+connect_errors seed c =
+    error_where (is_wrong_password c seed) (codes "InvalidPassword")
+    ++ error_where (not (is_some (player_named seed c.name))) (codes "InvalidSlot")
+    ++ error_where (not (is_game_of c seed (player_named seed c.name))) (codes "InvalidGame")
+    ++ error_where (is_old c.version) (codes "IncompatibleVersion")
+    ++ error_where (not (is_mask (unwrap_or c.items_handling (pos 0)))) (codes "InvalidItemsHandling")
