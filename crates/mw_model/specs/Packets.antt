@@ -53,23 +53,23 @@ abbrev pub has_text : List (List ℕ) → List ℕ → Bool
 has_text [] text = false
 has_text (first ∷ others) text = bytes_eq first text || has_text others text
 
-abbrev pub tags_of : Connect → List (List ℕ)
-tags_of c = unwrap_or c.tags []
-
 abbrev pub text_or_empty : Option (List ℕ) → List ℕ
 text_or_empty t = unwrap_or t []
 
+abbrev pub has_tag : Option (List (List ℕ)) → List ℕ → Bool
+has_tag tags tag = has_text (unwrap_or tags []) tag
+
 -- it may look on without a game
-abbrev pub looks_on : Connect → Bool
-looks_on c = (length (text_or_empty c.game) == 0) && (has_text (tags_of c) (codes "Tracker") || has_text (tags_of c) (codes "TextOnly"))
+abbrev pub looks_on : Option (List ℕ) → Option (List (List ℕ)) → Bool
+looks_on game tags = (length (text_or_empty game) == 0) && (has_tag tags (codes "Tracker") || has_tag tags (codes "TextOnly"))
 
-abbrev pub is_right_game : Connect → Option Slot → Bool
-is_right_game c None = true
-is_right_game c (Some slot) = bytes_eq slot.game (text_or_empty c.game) || looks_on c
+abbrev pub is_game_of : Option (List ℕ) → Option (List (List ℕ)) → Option Slot → Bool
+is_game_of game tags None = true
+is_game_of game tags (Some slot) = bytes_eq slot.game (text_or_empty game) || looks_on game tags
 
-abbrev pub is_game_of : Connect → Seed → Option Player → Bool
-is_game_of c seed None = true
-is_game_of c seed (Some p) = is_right_game c (slot_of seed p.slot)
+abbrev pub slot_played : Seed → Option Player → Option Slot
+slot_played seed None = None
+slot_played seed (Some p) = slot_of seed p.slot
 
 -- before version 0.4.0
 abbrev pub is_old : Version → Bool
@@ -84,13 +84,13 @@ error_where true text = text ∷ []
 error_where false text = []
 
 -- a password that is set has to be the one given
-abbrev pub is_wrong_password : Connect → Seed → Bool
-is_wrong_password c seed = not (length seed.server.password == 0) && not (bytes_eq seed.server.password (text_or_empty c.password))
+abbrev pub is_wrong_password : Seed → Option (List ℕ) → Bool
+is_wrong_password seed password = not (length seed.server.password == 0) && not (bytes_eq seed.server.password (text_or_empty password))
 
 abbrev pub connect_errors : Seed → Connect → List (List ℕ)
 connect_errors seed c =
-    error_where (is_wrong_password c seed) (codes "InvalidPassword")
+    error_where (is_wrong_password seed c.password) (codes "InvalidPassword")
     ++ error_where (not (is_some (player_named seed c.name))) (codes "InvalidSlot")
-    ++ error_where (not (is_game_of c seed (player_named seed c.name))) (codes "InvalidGame")
+    ++ error_where (not (is_game_of c.game c.tags (slot_played seed (player_named seed c.name)))) (codes "InvalidGame")
     ++ error_where (is_old c.version) (codes "IncompatibleVersion")
     ++ error_where (not (is_mask (unwrap_or c.items_handling (pos 0)))) (codes "InvalidItemsHandling")

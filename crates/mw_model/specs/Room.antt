@@ -14,14 +14,11 @@ pub record Connection : Type 0 where
   pub slot : ℕ
   pub mask : ℕ
 
--- the text of a message, and the journal's length after its event
-pub record Message : Type 0 where
-  pub text : List ℕ
-  pub shows : ℕ
-
+-- the texts of its untaken messages, and the greatest journal's length that one of them carries
 pub record Session : Type 0 where
   pub connection : Option Connection
-  pub untaken : List Message
+  pub untaken : List (List ℕ)
+  pub shows : ℕ
 
 -- sessions are numbered from 1 in the order in which they were opened
 pub record Room : Type 0 where
@@ -56,8 +53,8 @@ locations_among slot (h ∷ hs) = if h.slot == slot then h.location ∷ location
 abbrev pub locations_of : Seed → ℕ → List ℤ
 locations_of seed slot = locations_among slot seed.locations
 
-abbrev pub is_checked : List Record → ℕ → ℕ → ℤ → Bool
-is_checked journal team slot location = has_check (checked journal) record { team = team; slot = slot; location = location }
+abbrev pub is_checked : List Check → ℕ → ℕ → ℤ → Bool
+is_checked done team slot location = has_check done record { team = team; slot = slot; location = location }
 
 -- those of the checks that are of a team and slot
 abbrev pub locations_in : ℕ → ℕ → List Check → List ℤ
@@ -69,8 +66,8 @@ abbrev pub checked_of : List Record → ℕ → ℕ → List ℤ
 checked_of journal team slot = locations_in team slot (checked journal)
 
 -- Points: what a slot's checked locations are worth
-abbrev pub points : Seed → List Record → ℕ → ℕ → ℕ
-points seed journal team slot = seed.server.location_check_points * length (checked_of journal team slot)
+abbrev pub points : Seed → List Check → ℕ → ℕ → ℕ
+points seed done team slot = seed.server.location_check_points * length (locations_in team slot done)
 
 -- ---- records
 
@@ -139,16 +136,16 @@ games_played slots (g ∷ gs) = if plays slots g.name then record { game = g.nam
 
 abbrev pub room_info_of : Seed → ℕ → RoomInfo
 room_info_of seed time = record {
-    password = not (length seed.server.password == 0);
-    release = seed.server.release;
-    collect = seed.server.collect;
-    remaining = seed.server.remaining;
-    hint_cost = seed.server.hint_cost;
-    location_check_points = seed.server.location_check_points;
-    games = games_played seed.slots seed.games;
-    seed_name = seed.seed_name;
-    time = time;
-  }
+  password = not (length seed.server.password == 0);
+  release = seed.server.release;
+  collect = seed.server.collect;
+  remaining = seed.server.remaining;
+  hint_cost = seed.server.hint_cost;
+  location_check_points = seed.server.location_check_points;
+  games = games_played seed.slots seed.games;
+  seed_name = seed.seed_name;
+  time = time;
+}
 
 abbrev pub name_in : ℕ → Slot → List ℕ
 name_in team slot = unwrap_or (slice_get slot.names team) []
@@ -167,21 +164,21 @@ abbrev pub slot_infos : ℕ → ℕ → List Slot → List NetworkSlot
 slot_infos team number [] = []
 slot_infos team number (s ∷ ss) = record { slot = number; name = name_in team s; game = s.game } ∷ slot_infos team (number + 1) ss
 
-abbrev pub connected_of : Seed → List Record → Connection → Connected
-connected_of seed journal c = record {
-    team = c.team;
-    slot = c.slot;
-    players = players_of seed.teams seed.slots;
-    missing_locations = filter (λ l. not (is_checked journal c.team c.slot l)) (locations_of seed c.slot);
-    checked_locations = filter (λ l. is_checked journal c.team c.slot l) (locations_of seed c.slot);
-    slot_info = slot_infos c.team 1 seed.slots;
-    hint_points = points seed journal c.team c.slot;
-  }
+abbrev pub connected_of : Seed → List Check → Connection → Connected
+connected_of seed done c = record {
+  team = c.team;
+  slot = c.slot;
+  players = players_of seed.teams seed.slots;
+  missing_locations = filter (λ l. not (is_checked done c.team c.slot l)) (locations_of seed c.slot);
+  checked_locations = filter (λ l. is_checked done c.team c.slot l) (locations_of seed c.slot);
+  slot_info = slot_infos c.team 1 seed.slots;
+  hint_points = points seed done c.team c.slot;
+}
 
 -- what a new connection is answered
 abbrev pub connected_answer : Seed → List Record → Option Connection → List ServerPacket
 connected_answer seed journal None = []
-connected_answer seed journal (Some c) = connected (connected_of seed journal c) ∷ []
+connected_answer seed journal (Some c) = connected (connected_of seed (checked journal) c) ∷ []
 
 -- the new locations, where there are some
 abbrev pub update_with : ℕ → List ℤ → List ServerPacket
@@ -191,7 +188,7 @@ update_with points (l ∷ ls) = room_update (l ∷ ls) points ∷ []
 -- where the slot's checked locations grew
 abbrev pub update_owed : Seed → List Record → List Record → Connection → List ServerPacket
 update_owed seed before after c =
-    update_with (points seed after c.team c.slot) (drop (length (checked_of before c.team c.slot)) (checked_of after c.team c.slot))
+    update_with (points seed (checked after) c.team c.slot) (drop (length (checked_of before c.team c.slot)) (checked_of after c.team c.slot))
 
 abbrev pub items_from : ℕ → List NetItem → List ServerPacket
 items_from index [] = []
@@ -225,23 +222,31 @@ abbrev pub owed_to_other : Room → List Record → Option Connection → List S
 owed_to_other room after c = growth_owed false room.seed room.journal after c
 
 -- a message without packets isn't owed
-abbrev pub message_of : List ServerPacket → ℕ → List Message
-message_of [] shows = []
-message_of (p ∷ ps) shows = record { text = message_text (p ∷ ps); shows = shows } ∷ []
+abbrev pub message_of : List ServerPacket → List (List ℕ)
+message_of [] = []
+message_of (p ∷ ps) = message_text (p ∷ ps) ∷ []
+
+-- a message carries the journal's length after its event
+abbrev pub shows_after : List (List ℕ) → ℕ → ℕ → ℕ
+shows_after [] length_after before = before
+shows_after (text ∷ texts) length_after before = length_after
 
 -- ---- an event
 
+-- a session with a connection and these texts more
+abbrev pub with_texts : Option Connection → List (List ℕ) → ℕ → Session → Session
+with_texts connection texts length_after s = record {
+  connection = connection;
+  untaken = s.untaken ++ texts;
+  shows = shows_after texts length_after s.shows;
+}
+
 abbrev pub sender_after : Room → List Record → Packet → Session → Session
-sender_after room after packet s = record {
-    connection = or_else (made_by room.seed packet s.connection) s.connection;
-    untaken = s.untaken ++ message_of (owed_to_sender room after packet s.connection) (length after);
-  }
+sender_after room after packet s =
+    with_texts (or_else (made_by room.seed packet s.connection) s.connection) (message_of (owed_to_sender room after packet s.connection)) (length after) s
 
 abbrev pub other_after : Room → List Record → Session → Session
-other_after room after s = record {
-    connection = s.connection;
-    untaken = s.untaken ++ message_of (owed_to_other room after s.connection) (length after);
-  }
+other_after room after s = with_texts s.connection (message_of (owed_to_other room after s.connection)) (length after) s
 
 -- each session after a packet, from a number on
 abbrev pub sessions_after : Room → List Record → ℕ → Packet → ℕ → List Session → List Session
@@ -252,9 +257,10 @@ sessions_after room after sender packet number (s ∷ ss) =
 -- a session that was just opened is owed RoomInfo
 abbrev pub new_session : Room → ℕ → Session
 new_session room time = record {
-    connection = None;
-    untaken = message_of (room_info (room_info_of room.seed time) ∷ []) (length room.journal);
-  }
+  connection = None;
+  untaken = message_of (room_info (room_info_of room.seed time) ∷ []);
+  shows = length room.journal;
+}
 
 -- the room after an event
 abbrev pub next : Room → Event → Room
@@ -267,7 +273,7 @@ next room (sent number packet) =
 abbrev pub taken_among : ℕ → List Session → List Session
 taken_among zero sessions = sessions
 taken_among (suc before) [] = []
-taken_among (suc zero) (s ∷ ss) = record { connection = s.connection; untaken = [] } ∷ ss
+taken_among (suc zero) (s ∷ ss) = record { connection = s.connection; untaken = []; shows = 0 } ∷ ss
 taken_among (suc (suc before)) (s ∷ ss) = s ∷ taken_among (suc before) ss
 
 abbrev pub taken : Room → ℕ → Room

@@ -1,0 +1,13 @@
+-- What objects in memory show.
+use Rattle.std.specs.Prelude.{ℕ, List}
+use Rattle.mw_edges.specs.FaultPlan.{FaultPlan}
+
+-- a source's bytes that are left, or a sink's bytes that were put, and which calls fail
+pub record MemoryStream : Type 0 where
+  pub bytes : List ℕ
+  pub plan : FaultPlan
+
+-- a folder's files, each a name and its bytes, and which calls fail
+pub record MemoryFiles : Type 0 where
+  pub files : List (List ℕ × List ℕ)
+  pub plan : FaultPlan

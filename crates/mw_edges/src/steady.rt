@@ -1,0 +1,174 @@
+ghost use Rattle.std.specs.Prelude.{◌≡◌, ◌≢◌, ◌++◌, ℕ, List, [], min, length, take, drop, Some, Ok, Err, OnOk, OnErr, IfOk, unwrap_or};
+ghost use Rattle.std.specs.Io.{ReadsAtMost};
+ghost use Rattle.std.specs.Io.KnownBytes.{Appends, ReadConsumes};
+ghost use Rattle.mw_edges.specs.Causes.{HasCause, HasFault, PutsFront};
+ghost use Rattle.mw_edges.specs.Files.{steady_file};
+ghost use Rattle.mw_edges.specs.Folders.{GivesFile};
+
+use crate::files::{find_file, read_bytes};
+use crate::folder::{FileRead, Folder, FolderError};
+use crate::sink::{Sink, SinkError};
+use crate::source::{Failed, Source};
+use mw_base::{Bytes, List, Memory, Text};
+use std::alloc::Global;
+use std::marker::Model;
+
+/// A source over bytes in memory, which never fails. Contracts see the bytes that are left.
+#[derive(Drop)]
+pub struct SteadySource {
+    bytes: Bytes,
+    at: usize,
+}
+
+impl Model for SteadySource {
+    ghost use Rattle.std.specs.Prelude.{ℕ, ◌≤◌, List, length, drop};
+
+    ghost Value = { List ℕ };
+
+    ghost view = { λ s. drop s.at s.bytes };
+
+    ghost invariant = { λ s. s.at ≤ length s.bytes };
+}
+
+impl SteadySource {
+    /// A source of these bytes.
+    pub fn new(bytes: Bytes) -> SteadySource
+        ensures { result ≡ bytes }
+    {
+        SteadySource { bytes, at: 0 }
+    }
+
+    /// Takes bytes from the front of what is left, and gives their number.
+    pub(crate) fn give(&mut self, into: &mut [u8]) -> usize
+        ensures count { result ≡ min (length into.old) (length self.old) }
+        ensures given { take result into.new ≡ take result self.old }
+        ensures left { self.new ≡ drop result self.old }
+    {
+        let left = &self.bytes.as_slice()[self.at..];
+        let count = into.len().min(left.len());
+        into[..count].copy_from_slice(&left[..count]);
+        self.at += count;
+        count
+    }
+}
+
+impl Source for SteadySource {
+    ghost left = { λ s. Some s };
+
+    ghost faults = { λ _. 0 };
+
+    fn take(&mut self, into: &mut [u8]) -> Result<usize, Failed>
+        ensures bound { ReadsAtMost result into.new }
+        ensures bytes { ReadConsumes (Some self.old) (Some self.new) result into.new }
+        ensures count { result ≡ Ok (min (length into.old) (length self.old)) }
+        ensures cause { HasFault 0 0 result }
+    {
+        Ok(self.give(into))
+    }
+}
+
+/// A sink that keeps its bytes in memory, and never fails. Contracts see the bytes that were put.
+#[derive(Drop)]
+pub struct SteadySink {
+    held: Vec<u8>,
+}
+
+impl Model for SteadySink {
+    ghost use Rattle.std.specs.Prelude.{ℕ, List};
+
+    ghost Value = { List ℕ };
+
+    ghost view = { λ s. s.held.items };
+}
+
+impl SteadySink {
+    /// A sink to which nothing was put. It takes no memory yet.
+    pub fn new(alloc: Global) -> SteadySink
+        ensures { result ≡ [] }
+    {
+        SteadySink {
+            held: Vec::new(alloc),
+        }
+    }
+
+    /// The bytes that were put.
+    pub fn bytes(&self) -> &[u8]
+        ensures { result.now ≡ self.now }
+    {
+        self.held.as_slice()
+    }
+
+    /// Puts the bytes, or none of them.
+    pub(crate) fn keep(&mut self, bytes: &[u8]) -> Result<(), Memory>
+        ensures ok { OnOk result (self.new ≡ self.old ++ bytes.now) }
+        ensures err { OnErr result (self.new ≡ self.old) }
+    {
+        self.held.extend_from_slice(bytes)?;
+        Ok(())
+    }
+}
+
+impl Sink for SteadySink {
+    ghost held = { λ s. Some s };
+
+    ghost faults = { λ _. 0 };
+
+    fn put(&mut self, bytes: &[u8]) -> Result<(), SinkError>
+        ensures ok { OnOk result (Appends (Some self.old) (Some self.new) bytes.now) }
+        ensures err { OnErr result (PutsFront (Some self.old) (Some self.new) bytes.now) }
+        ensures same { OnErr result (self.new ≡ self.old) }
+        ensures steady { result ≢ Err SinkError.Failed }
+        ensures cause { HasCause 0 0 SinkError.Failed result }
+    {
+        match self.keep(bytes) {
+            Ok(()) => Ok(()),
+            Err(_) => Err(SinkError::Memory),
+        }
+    }
+}
+
+/// A folder of files in memory, which never fails: a file that was not given is there, and empty.
+/// Contracts see the files, each a name and its bytes; of two with one name the first counts.
+#[derive(Drop)]
+pub struct SteadyFolder {
+    files: List<(Text, Bytes)>,
+}
+
+impl Model for SteadyFolder {
+    ghost use Rattle.std.specs.Prelude.{ℕ, List};
+
+    ghost Value = { List (List ℕ × List ℕ) };
+
+    ghost view = { λ s. s.files };
+}
+
+impl SteadyFolder {
+    /// A folder of these files.
+    pub fn new(files: List<(Text, Bytes)>) -> SteadyFolder
+        ensures { result ≡ files }
+    {
+        SteadyFolder { files }
+    }
+}
+
+impl Folder for SteadyFolder {
+    ghost holds = { λ s name. steady_file s name };
+
+    ghost faults = { λ _. 0 };
+
+    fn read_file(&mut self, alloc: Global, name: &Text, limit: u64) -> Result<FileRead, FolderError>
+        ensures read { IfOk result (GivesFile (steady_file self.old name.now) limit) }
+        ensures same { (n : List ℕ) → steady_file self.new n ≡ steady_file self.old n }
+        ensures files { self.new ≡ self.old }
+        ensures steady { result ≢ Err FolderError.Failed }
+        ensures cause { HasCause 0 0 FolderError.Failed result }
+    {
+        let Some(bytes) = find_file(self.files.as_slice(), name.as_str()) else {
+            return Ok(FileRead::Whole(Bytes::new(alloc)));
+        };
+        match read_bytes(alloc, bytes.as_slice(), limit) {
+            Ok(read) => Ok(read),
+            Err(_) => Err(FolderError::Memory),
+        }
+    }
+}

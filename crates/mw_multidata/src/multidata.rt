@@ -1,0 +1,49 @@
+use crate::seed::{Game, Held, Slot};
+use mw_base::{List, RoomOptions, SphereList, Text};
+use std::marker::Model;
+
+/// A seed: what some seed file stands for.
+#[derive(Debug, Drop)]
+pub struct Multidata {
+    /// 1 to 128 characters.
+    pub seed_name: Text,
+    /// 1 to 8 teams, which all play the same placement.
+    pub teams: u8,
+    /// The settings of the room.
+    pub server: RoomOptions,
+    /// The games, in byte order of their names.
+    pub games: List<Game>,
+    /// 1 to 1,024 slots; the first one has number 1. No two names are equal over all teams and slots.
+    pub slots: List<Slot>,
+    /// At most 16,777,216 locations, strictly ascending by slot, then by location.
+    pub locations: List<Held>,
+    /// The spheres, none of them empty; each slot is there.
+    pub spheres: SphereList,
+}
+
+impl Model for Multidata {
+    ghost use Rattle.mw_model.specs.Seed as plain;
+    ghost use Rattle.mw_multidata.specs.SeedOf.{IsAccepted};
+
+    ghost Value = { plain.Seed };
+
+    ghost view = { λ m. record {
+      seed_name = m.seed_name;
+      teams = m.teams;
+      server = m.server;
+      games = m.games;
+      slots = m.slots;
+      locations = m.locations;
+      spheres = m.spheres;
+    } };
+
+    ghost invariant = { λ m. IsAccepted record {
+      seed_name = m.seed_name;
+      teams = m.teams;
+      server = m.server;
+      games = m.games;
+      slots = m.slots;
+      locations = m.locations;
+      spheres = m.spheres;
+    } };
+}

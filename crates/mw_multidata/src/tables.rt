@@ -1,0 +1,41 @@
+ghost use Rattle.std.specs.Prelude.{◌≡◌, IfOk};
+ghost use Rattle.mw_multidata.specs.SeedOf.{IsAccepted};
+
+use crate::multidata::Multidata;
+use mw_base::Memory;
+use std::alloc::Global;
+use std::marker::Model;
+
+/// A seed, kept for the look-ups of a room.
+#[derive(Debug, Drop)]
+pub struct RoomTables {
+    multidata: Multidata,
+}
+
+impl Model for RoomTables {
+    ghost use Rattle.mw_model.specs.Seed as plain;
+
+    ghost Value = { plain.Seed };
+
+    ghost view = { λ t. t.multidata };
+}
+
+impl RoomTables {
+    /// The tables of a seed.
+    pub fn of(alloc: Global, multidata: Multidata) -> Result<RoomTables, Memory>
+        ensures { IfOk result (λ t. t ≡ multidata) }
+    {
+        let _ = alloc;
+        Ok(RoomTables { multidata })
+    }
+
+    /// The seed.
+    pub fn multidata(&self) -> &Multidata
+        ensures value { result.now ≡ self.now }
+        ensures accepted { IsAccepted result.now }
+    {
+        let multidata = &self.multidata;
+        let _ = &multidata.seed_name;
+        multidata
+    }
+}

@@ -1,0 +1,14 @@
+//! What a client asks for, read from a message's text.
+#![tactic(auto)]
+
+mod connect;
+mod message;
+mod packet;
+mod parts;
+mod whole;
+
+pub use message::only_packet;
+pub use packet::{Packet, Version};
+
+#[cfg(test)]
+mod tests;

@@ -1,0 +1,23 @@
+-- Trees that can be written, one after another.
+use Rattle.std.proofs.Common.{◌≡◌, ℕ, List, [], ◌∷◌, ◌++◌, map, refl, ap}
+use Rattle.mw_model.specs.Json.{Json, words, item, member, IsWritable, ItemsAreWritable, MembersAreWritable}
+use Rattle.mw_model.specs.Messages.{GameSum, checksum_members, items_of}
+use Rattle.mw_json.specs.View as seen
+use Rattle.mw_json.specs.View.{view, items_view, members_of}
+use Rattle.mw_json.specs.declared.tree.Tree.{Tree}
+
+pub same_items : (js : List Json) → seen.items_of js ≡ items_of js
+same_items [] = refl
+same_items (j ∷ js) = ap (item j) (same_items js)
+
+-- a checksum under its game's name
+abbrev pub sum_member : GameSum → List ℕ × Json
+sum_member g = (g.game, words g.checksum)
+
+pub same_checksums : (gs : List GameSum) → members_of (map sum_member gs) ≡ checksum_members gs
+same_checksums [] = refl
+same_checksums (g ∷ gs) = ap (member g.game (words g.checksum)) (same_checksums gs)
+
+pub checksums : (gs : List GameSum) → MembersAreWritable (checksum_members gs)
+checksums [] = tt
+checksums (g ∷ gs) = (tt, checksums gs)

@@ -1,0 +1,48 @@
+ghost use Rattle.std.specs.Prelude.{◌≡◌, IfOk, map};
+ghost use Rattle.mw_model.specs.Json.{IsWritable, many};
+ghost use Rattle.mw_model.specs.Messages.{id_json, item_json, items_of};
+ghost use Rattle.mw_json.specs.View.{view};
+
+use mw_base::{List, Memory, NetItem};
+use mw_json::{Tree, id_tree, push_tree, put, put_number, put_words};
+use std::alloc::Global;
+
+/// Numbers of items or locations, as a list.
+#[tactic(auto, using(crate::proofs::Writable::same_items))]
+pub(crate) fn ids_tree(alloc: Global, ids: &[i64]) -> Result<Tree, Memory>
+    ensures value { IfOk result (λ t. view t ≡ many (items_of (map id_json ids.now))) }
+    ensures writable { IfOk result (λ t. IsWritable (view t)) }
+{
+    let mut trees = List::new(alloc);
+    for number in ids {
+        push_tree(&mut trees, id_tree(*number))?;
+    }
+    Ok(Tree::Many(trees))
+}
+
+/// An item as an object.
+pub(crate) fn item_tree(alloc: Global, item: &NetItem) -> Result<Tree, Memory>
+    ensures value { IfOk result (λ t. view t ≡ item_json item.now) }
+    ensures writable { IfOk result (λ t. IsWritable (view t)) }
+{
+    let mut parts = List::new(alloc);
+    put_words(alloc, &mut parts, "class", "NetworkItem")?;
+    put_number(alloc, &mut parts, "flags", u64::from(item.flags))?;
+    put(alloc, &mut parts, "item", id_tree(item.item))?;
+    put(alloc, &mut parts, "location", id_tree(item.location))?;
+    put_number(alloc, &mut parts, "player", u64::from(item.player))?;
+    Ok(Tree::Members(parts))
+}
+
+/// Items as a list.
+#[tactic(auto, using(crate::proofs::Writable::same_items))]
+pub(crate) fn items_tree(alloc: Global, items: &[NetItem]) -> Result<Tree, Memory>
+    ensures value { IfOk result (λ t. view t ≡ many (items_of (map item_json items.now))) }
+    ensures writable { IfOk result (λ t. IsWritable (view t)) }
+{
+    let mut trees = List::new(alloc);
+    for item in items {
+        push_tree(&mut trees, item_tree(alloc, item)?)?;
+    }
+    Ok(Tree::Many(trees))
+}

@@ -1,0 +1,71 @@
+ghost use Rattle.std.specs.Prelude.{◌≡◌, ◌≤◌, IfOk, OnOk, decimal, length, map};
+ghost use Rattle.mw_model.specs.Json.{IsWritable, MembersAreWritable, members};
+ghost use Rattle.mw_model.specs.Messages.{put_member, slot_info_members, slot_json};
+ghost use Rattle.mw_json.specs.View.{view, members_view};
+ghost use Rattle.mw_packets_out.specs.Places.{place_in};
+
+use crate::people::NetworkSlot;
+use mw_base::{List, Memory, Text};
+use mw_json::{Member, Tree, named, put, put_number, put_words};
+use std::alloc::Global;
+
+/// What is played in a slot, as an object.
+fn slot_tree(alloc: Global, slot: &NetworkSlot) -> Result<Tree, Memory>
+    ensures value { IfOk result (λ t. view t ≡ slot_json slot.now) }
+    ensures writable { IfOk result (λ t. IsWritable (view t)) }
+{
+    let mut parts = List::new(alloc);
+    let group_members = Tree::Many(List::new(alloc));
+    put_words(alloc, &mut parts, "class", "NetworkSlot")?;
+    put_words(alloc, &mut parts, "game", slot.game.as_str())?;
+    put(alloc, &mut parts, "group_members", group_members)?;
+    put_words(alloc, &mut parts, "name", slot.name.as_str())?;
+    put_number(alloc, &mut parts, "type", 1)?;
+    Ok(Tree::Members(parts))
+}
+
+/// A slot's number in decimal.
+fn slot_name(alloc: Global, slot: u16) -> Result<Text, Memory>
+    ensures { IfOk result (λ t. t ≡ decimal slot) }
+{
+    Ok(Text::from_string(format!(in alloc; "{slot}")?))
+}
+
+/// Where a member of this name is put: before the first whose name is greater.
+fn place_of(members: &[Member], name: &str) -> usize
+    ensures value { result ≡ place_in name.now (members_view members.now) }
+    ensures within { result ≤ length members.now }
+{
+    for (i, member) in members.iter().enumerate() {
+        if name < member.name.as_str() {
+            return i;
+        }
+    }
+    members.len()
+}
+
+/// A member more, at its place in byte order.
+fn insert(members: &mut Vec<Member>, name: Text, value: Tree) -> Result<(), Memory>
+    ensures value { OnOk result (members_view members.new.items ≡ put_member name (view value) (members_view members.old.items)) }
+    ensures writable { OnOk result (MembersAreWritable (members_view members.old.items) → IsWritable (view value) → MembersAreWritable (members_view members.new.items)) }
+{
+    let at = place_of(members.as_slice(), name.as_str());
+    members.insert(at, named(name, value))?;
+    Ok(())
+}
+
+/// The slots, each under its number in decimal, in byte order.
+pub(crate) fn slot_info_tree(alloc: Global, slots: &[NetworkSlot]) -> Result<Tree, Memory>
+    ensures value { IfOk result (λ t. view t ≡ members (slot_info_members slots.now)) }
+    ensures writable { IfOk result (λ t. IsWritable (view t)) }
+{
+    let mut infos = Vec::new(alloc);
+    let mut left = slots.len();
+    while left > 0 {
+        left -= 1;
+        let slot = &slots[left];
+        let name = slot_name(alloc, slot.slot)?;
+        insert(&mut infos, name, slot_tree(alloc, slot)?)?;
+    }
+    Ok(Tree::Members(List::from_vec(infos)))
+}

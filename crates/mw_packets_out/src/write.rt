@@ -1,0 +1,80 @@
+ghost use Rattle.std.specs.Prelude.{◌≡◌, IfOk, map};
+ghost use Rattle.mw_model.specs.Items.{NetItem as plain_item};
+ghost use Rattle.mw_model.specs.Json.{IsWritable};
+ghost use Rattle.mw_model.specs.Messages.{message_json, message_text, packet_json, received_items_json, room_update_json};
+ghost use Rattle.mw_json.specs.View.{view};
+ghost use Rattle.mw_packets_out.specs.View.{packet_view};
+
+use crate::connected::connected_tree;
+use crate::lists::{ids_tree, items_tree};
+use crate::packet::ServerPacket;
+use crate::room_info::room_info_tree;
+use mw_base::{List, Memory, NetItem, Text};
+use mw_json::{Tree, compact_text, push_tree, put, put_number, put_words};
+use std::alloc::Global;
+
+/// Items from a place in the session's list on, as an object.
+fn received_items_tree(alloc: Global, index: u64, items: &[NetItem]) -> Result<Tree, Memory>
+    ensures value { IfOk result (λ t. view t ≡ received_items_json index items.now) }
+    ensures writable { IfOk result (λ t. IsWritable (view t)) }
+{
+    let items = items_tree(alloc, items)?;
+    let mut parts = List::new(alloc);
+    put_words(alloc, &mut parts, "cmd", "ReceivedItems")?;
+    put_number(alloc, &mut parts, "index", index)?;
+    put(alloc, &mut parts, "items", items)?;
+    Ok(Tree::Members(parts))
+}
+
+/// Locations that were checked, and the slot's points, as an object.
+fn room_update_tree(alloc: Global, locations: &[i64], points: u64) -> Result<Tree, Memory>
+    ensures value { IfOk result (λ t. view t ≡ room_update_json locations.now points) }
+    ensures writable { IfOk result (λ t. IsWritable (view t)) }
+{
+    let checked = ids_tree(alloc, locations)?;
+    let mut parts = List::new(alloc);
+    put(alloc, &mut parts, "checked_locations", checked)?;
+    put_words(alloc, &mut parts, "cmd", "RoomUpdate")?;
+    put_number(alloc, &mut parts, "hint_points", points)?;
+    Ok(Tree::Members(parts))
+}
+
+/// A packet as an object.
+fn packet_tree(alloc: Global, packet: &ServerPacket) -> Result<Tree, Memory>
+    ensures value { IfOk result (λ t. view t ≡ packet_json (packet_view packet.now)) }
+    ensures writable { IfOk result (λ t. IsWritable (view t)) }
+{
+    match packet {
+        ServerPacket::RoomInfo(info) => room_info_tree(alloc, info),
+        ServerPacket::Connected(connected) => connected_tree(alloc, connected),
+        ServerPacket::ReceivedItems { index, items } => {
+            received_items_tree(alloc, *index, items.as_slice())
+        }
+        ServerPacket::RoomUpdate {
+            checked_locations,
+            hint_points,
+        } => room_update_tree(alloc, checked_locations.as_slice(), *hint_points),
+    }
+}
+
+/// The packets of a message as a list.
+#[tactic(auto, using(crate::proofs::Writable::same_items))]
+fn message_tree(alloc: Global, packets: &[ServerPacket]) -> Result<Tree, Memory>
+    ensures value { IfOk result (λ t. view t ≡ message_json (map packet_view packets.now)) }
+    ensures writable { IfOk result (λ t. IsWritable (view t)) }
+{
+    let mut trees = List::new(alloc);
+    for packet in packets {
+        push_tree(&mut trees, packet_tree(alloc, packet)?)?;
+    }
+    Ok(Tree::Many(trees))
+}
+
+/// A message's text: the list of its packets as compact JSON. Memory is its only error.
+#[tactic(auto, unfolding(mw_model::specs::Messages::message_text))]
+pub fn write_message(alloc: Global, packets: &List<ServerPacket>) -> Result<Text, Memory>
+    ensures { IfOk result (λ t. t ≡ message_text (map packet_view packets.now)) }
+{
+    let tree = message_tree(alloc, packets.as_slice())?;
+    compact_text(alloc, &tree)
+}

@@ -1,0 +1,78 @@
+-- A journal that grows: what its checks come to.
+use Rattle.std.proofs.Common.{◌≡◌, ℕ, ℤ, ◌+◌, ◌≤◌, ◌<◌, List, [], ◌∷◌, ◌++◌, ◌||◌, ◌&&◌, ◌==◌, Bool, true, false, length, drop, map, filter, Option, Some, None, refl, sym, ap, ap₂, ◌∙◌, subst, arith, append_assoc, append-nil, cond}
+use Rattle.std.proofs.lemmas.List.{map-append}
+use Rattle.std.specs.Ordering.{int_eq}
+use Rattle.mw_model.specs.Seed.{Seed, slot_of, held_at}
+use Rattle.mw_model.specs.Items.{NetItem}
+use Rattle.mw_model.specs.Records.{Record, checks}
+use Rattle.mw_model.specs.Checks.{Check, same_check, has_check, checks_at, asked_by, asked, unseen, distinct, checked, items_found, item_for, received, view, keeps, start_items}
+use Rattle.mw_model.specs.Room.{locations_in, checked_of}
+
+pub asked-append : (xs ys : List Record) → asked (xs ++ ys) ≡ asked xs ++ asked ys
+asked-append [] ys = refl
+asked-append (r ∷ rs) ys = ap (λ cs. asked_by r ++ cs) (asked-append rs ys) ∙ sym (append_assoc (asked_by r) (asked rs) (asked ys))
+
+-- what is unseen in a list and then in another
+pub unseen-append : (seen xs ys : List Check) → unseen seen (xs ++ ys) ≡ unseen seen xs ++ unseen (seen ++ unseen seen xs) ys
+unseen-append seen [] ys = ap (λ s. unseen s ys) (sym (append-nil seen))
+unseen-append seen (c ∷ xs) ys =
+    elim (has_check seen c) as (λ b. cond b (unseen seen (xs ++ ys)) (c ∷ unseen (seen ++ c ∷ []) (xs ++ ys))
+    ≡ cond b (unseen seen xs) (c ∷ unseen (seen ++ c ∷ []) xs) ++ unseen (seen ++ cond b (unseen seen xs) (c ∷ unseen (seen ++ c ∷ []) xs)) ys) [
+      | true ↦ unseen-append seen xs ys
+      | false ↦
+          ap (λ cs. c ∷ cs) (unseen-append (seen ++ c ∷ []) xs ys ∙ ap (λ s. unseen (seen ++ c ∷ []) xs ++ unseen s ys) (append_assoc seen (c ∷ []) (unseen (seen ++ c ∷ []) xs)))
+    ]
+
+pub checked-append : (journal more : List Record) → checked (journal ++ more) ≡ checked journal ++ unseen (checked journal) (asked more)
+checked-append journal more = ap distinct (asked-append journal more) ∙ unseen-append [] (asked journal) (asked more)
+
+pub items_found-append : (seed : Seed) (team slot : ℕ) (xs ys : List Check) → items_found seed team slot (xs ++ ys) ≡ items_found seed team slot xs ++ items_found seed team slot ys
+items_found-append seed team slot [] ys = refl
+items_found-append seed team slot (c ∷ xs) ys =
+    let first = item_for team slot c (held_at seed c.slot c.location) in
+    ap (λ is. first ++ is) (items_found-append seed team slot xs ys) ∙ sym (append_assoc first (items_found seed team slot xs) (items_found seed team slot ys))
+
+pub filter-append : {X : Type 0} (p : X → Bool) (xs ys : List X) → filter p (xs ++ ys) ≡ filter p xs ++ filter p ys
+filter-append p [] ys = refl
+filter-append p (x ∷ xs) ys =
+    elim (p x) as (λ b. cond b (x ∷ filter p (xs ++ ys)) (filter p (xs ++ ys)) ≡ cond b (x ∷ filter p xs) (filter p xs) ++ filter p ys) [
+      | true ↦ ap (λ zs. x ∷ zs) (filter-append p xs ys)
+      | false ↦ filter-append p xs ys
+    ]
+
+pub locations_in-append : (team slot : ℕ) (xs ys : List Check) → locations_in team slot (xs ++ ys) ≡ locations_in team slot xs ++ locations_in team slot ys
+locations_in-append team slot [] ys = refl
+locations_in-append team slot (c ∷ xs) ys =
+    elim ((c.team == team) && (c.slot == slot)) as (λ b. cond b (c.location ∷ locations_in team slot (xs ++ ys)) (locations_in team slot (xs ++ ys))
+    ≡ cond b (c.location ∷ locations_in team slot xs) (locations_in team slot xs) ++ locations_in team slot ys) [
+      | true ↦ ap (λ zs. c.location ∷ zs) (locations_in-append team slot xs ys)
+      | false ↦ locations_in-append team slot xs ys
+    ]
+
+-- the new checks of more records
+abbrev pub fresh : List Record → List Record → List Check
+fresh journal more = unseen (checked journal) (asked more)
+
+pub view-append : (seed : Seed) (mask team slot : ℕ) (journal more : List Record)
+    → view seed mask team slot (journal ++ more) ≡ view seed mask team slot journal ++ filter (keeps mask slot) (items_found seed team slot (fresh journal more))
+view-append seed mask team slot journal more =
+    let start = start_items (slot_of seed slot) in
+    ap (λ cs. filter (keeps mask slot) (start ++ items_found seed team slot cs)) (checked-append journal more)
+    ∙ ap (λ is. filter (keeps mask slot) (start ++ is)) (items_found-append seed team slot (checked journal) (fresh journal more))
+    ∙ ap (filter (keeps mask slot)) (sym (append_assoc start (items_found seed team slot (checked journal)) (items_found seed team slot (fresh journal more))))
+    ∙ filter-append (keeps mask slot) (received seed team slot journal) (items_found seed team slot (fresh journal more))
+
+pub checked_of-append : (team slot : ℕ) (journal more : List Record) → checked_of (journal ++ more) team slot ≡ checked_of journal team slot ++ locations_in team slot (fresh journal more)
+checked_of-append team slot journal more = ap (locations_in team slot) (checked-append journal more) ∙ locations_in-append team slot (checked journal) (fresh journal more)
+
+pub drop-front : {X : Type 0} (xs ys : List X) → drop (length xs) (xs ++ ys) ≡ ys
+drop-front [] ys = refl
+drop-front (x ∷ xs) ys = drop-front xs ys
+
+-- the tail of what grew
+pub drop-grown : {X : Type 0} (before after more : List X) → after ≡ before ++ more → drop (length before) after ≡ more
+drop-grown before after more e = ap (drop (length before)) e ∙ drop-front before more
+
+pub has_check_append : (xs ys : List Check) (c : Check) → has_check (xs ++ ys) c ≡ (has_check xs c || has_check ys c)
+has_check_append [] ys c = refl
+has_check_append (x ∷ xs) ys c = elim (same_check x c) as (λ b. (b || has_check (xs ++ ys) c) ≡ ((b || has_check xs c) || has_check ys c)) [ true ↦ refl | false ↦ has_check_append xs ys c ]

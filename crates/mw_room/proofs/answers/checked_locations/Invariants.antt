@@ -1,0 +1,10 @@
+use Rattle.std.proofs.Common.{◌≡◌, ◌++◌, drop}
+use Rattle.std.specs.List.{filter}
+use Rattle.mw_model.specs.Room.{is_checked, locations_among}
+use Rattle.mw_room.specs.Log.{checks_in}
+use Rattle.mw_room.proofs.answers.checked_locations.Given as goal
+
+abbrev pub invariant-loop-held : goal.invariant-loop-held
+invariant-loop-held l =
+    l.found ++ filter (λ x. is_checked (checks_in l.log) l.c.team l.c.slot x) (locations_among l.c.slot (drop l.held-index l.locations))
+    ≡ filter (λ x. is_checked (checks_in l.log) l.c.team l.c.slot x) (locations_among l.c.slot l.locations)

@@ -1,0 +1,10 @@
+pub mod Accepting
+pub mod Answering
+pub mod Events
+pub mod Fits
+pub mod Log
+pub mod Playable
+pub mod Space
+pub mod Stands
+pub mod States
+pub mod Views

@@ -1,0 +1,11 @@
+-- A seed file whose slots and teams have numbers.
+use Rattle.std.specs.Prelude.{◌≤◌, ℕ, List, All, length}
+use Rattle.mw_model.specs.Seed.{Seed, Slot}
+
+-- a slot has a name in each of at most eight teams
+abbrev pub HasFewNames : Slot → Type 0
+HasFewNames slot = length slot.names ≤ 8
+
+pub record IsPlayable (seed : Seed) : Type 0 where
+  pub few_slots : length seed.slots ≤ 1024
+  pub few_names : All HasFewNames seed.slots
