@@ -1,0 +1,44 @@
+#!/usr/bin/env bash
+# Prints the time and memory of `drive` on a seed file of about 17 MB with a script of 2,000 checks over two slots.
+# Run after `rt run` in crates/mw_cli, which leaves the program.
+set -eu
+cd "$(dirname "$0")/.."
+program=$PWD/crates/mw_cli/out/mw_cli
+[ -x "$program" ] || { echo "build it first: (cd crates/mw_cli && rt run)" >&2; exit 1; }
+room=$(mktemp -d)
+trap 'rm -rf "$room"' EXIT
+python3 - "$room" <<'PY'
+import json, sys
+folder = sys.argv[1]
+slots, games = 60, 60
+per = 10000
+data = {
+    "format": "mw-multidata-1", "seed_name": "bench", "teams": 1, "spheres": [],
+    "server": {"collect": "goal", "hint_cost": 10, "location_check_points": 1, "password": "", "release": "goal", "remaining": "goal"},
+    "games": {"G": {"item_name_to_id": {"Item": 1}, "location_name_to_id": {"L%d" % n: n for n in range(1, per + 1)}}},
+    "slots": [{"names": ["P%d" % s], "game": "G", "start": []} for s in range(1, slots + 1)],
+    "locations": [[s, n, 1, (s + n) % slots + 1, 0] for s in range(1, slots + 1) for n in range(1, per + 1)],
+}
+with open(folder + "/seed.json", "w") as f:
+    json.dump(data, f, separators=(",", ":"))
+connect = '[{"cmd":"Connect","game":"G","items_handling":7,"name":"P%d","tags":["NoText"],"version":{"build":0,"class":"Version","major":0,"minor":5}}]'
+lines = []
+for s in (1, 2):
+    lines += ["open", "text %d %s" % (s, connect % s)]
+for n in range(1, 1001):
+    for s in (1, 2):
+        lines.append('text %d [{"cmd":"LocationChecks","locations":[%d]}]' % (s, n))
+lines += ["take 1", "take 2"]
+with open(folder + "/script.txt", "w") as f:
+    f.write("\n".join(lines) + "\n")
+PY
+ls -l "$room/seed.json" | awk '{print "seed file: " $5 " bytes"}'
+python3 - "$program" "$room" <<'PY'
+import resource, subprocess, sys, time
+program, folder = sys.argv[1:]
+for name, script in (("empty script", b""), ("2,000 checks", open(folder + "/script.txt", "rb").read())):
+    begin = time.time()
+    run = subprocess.run([program, "drive", folder + "/seed.json"], input=script, stdout=subprocess.PIPE)
+    used = resource.getrusage(resource.RUSAGE_CHILDREN).ru_maxrss // 1024
+    print("%s: status %d, %.2f s, %d MB at most so far, %d bytes out" % (name, run.returncode, time.time() - begin, used, len(run.stdout)))
+PY

@@ -1,0 +1,283 @@
+use crate::run::run;
+use mw_base::{Bytes, List, Text};
+use mw_edges::{Faults, MemoryFolder, MemorySink, MemorySource};
+use std::alloc::Global;
+use std::test::Fail;
+
+const ROOM_A: &str =
+    r#"{"format":"mw-multidata-1","games":{"G":{"item_name_to_id":{"Boots":5,"Coin":8,"Map":9,"Sword":7},"location_name_to_id":{"A1":101,"A2":102,"B1":201}}},"locations":[[1,101,7,2,1],[1,102,8,1,0],[2,201,9,1,2]],"seed_name":"A","server":{"collect":"goal","hint_cost":10,"location_check_points":1,"password":"","release":"goal","remaining":"goal"},"slots":[{"game":"G","names":["Ann"],"start":[[5,0]]},{"game":"G","names":["Bob"],"start":[]}],"spheres":[],"teams":1}"#;
+
+/// The number of a call that never comes.
+const NEVER: u64 = u64::MAX;
+
+fn bytes_of(alloc: Global, text: &[u8]) -> Result<Bytes, Fail> {
+    Ok(Bytes::from_vec(Vec::from_slice(alloc, text)?))
+}
+
+fn faults(alloc: Global, failing: u64) -> Result<Faults, Fail> {
+    let mut list = List::new(alloc);
+    list.push(failing)?;
+    Ok(Faults::at(list))
+}
+
+/// What a run leaves: the status, what was put, and what the error sink got.
+struct Outcome {
+    status: u8,
+    out: MemorySink,
+    err: MemorySink,
+}
+
+/// Runs words on a folder that has this file as `A`, where the k-th call of each object fails.
+fn outcome(
+    alloc: Global,
+    words: &[&str],
+    file: &[u8],
+    script: &[u8],
+    failing: [u64; 4],
+) -> Result<Outcome, Fail> {
+    let mut files = List::new(alloc);
+    files.push((Text::of(alloc, "A")?, bytes_of(alloc, file)?))?;
+    let mut folder = MemoryFolder::new(files, faults(alloc, failing[0])?);
+    let mut input = MemorySource::new(bytes_of(alloc, script)?, faults(alloc, failing[1])?);
+    let mut out = MemorySink::new(alloc, faults(alloc, failing[2])?);
+    let mut err = MemorySink::new(alloc, faults(alloc, failing[3])?);
+    let mut texts = Vec::new(alloc);
+    for word in words {
+        texts.push(Text::of(alloc, word)?)?;
+    }
+    let status = run(alloc, &texts, &mut folder, &mut input, &mut out, &mut err);
+    Ok(Outcome { status, out, err })
+}
+
+/// What `drive A` prints of a script with ample memory.
+fn printed(alloc: Global, script: &str) -> Result<Outcome, Fail> {
+    outcome(
+        alloc,
+        &["drive", "A"],
+        ROOM_A.as_bytes(),
+        script.as_bytes(),
+        [NEVER; 4],
+    )
+}
+
+const ANN: &str =
+    r#"[{"cmd":"Connect","game":"G","items_handling":7,"name":"Ann","tags":["NoText"],"version":{"build":0,"class":"Version","major":0,"minor":5}}]"#;
+
+const BOB: &str =
+    r#"[{"cmd":"Connect","game":"G","items_handling":7,"name":"Bob","tags":["NoText"],"version":{"build":0,"class":"Version","major":0,"minor":5}}]"#;
+
+/// A script in which sessions 1 and 2 are opened, connect as these, and take what they are owed.
+fn two_sessions(alloc: Global, first: &str, second: &str, rest: &str) -> Result<String, Fail> {
+    Ok(format!(in alloc; "open\nopen\ntext 1 {first}\ntext 2 {second}\ntake 1\ntake 2\n{rest}")?)
+}
+
+/// What a script prints after the four lines of two sessions that open and connect.
+fn after_connecting(alloc: Global, script: &str) -> Result<String, Fail> {
+    let outcome = printed(alloc, script)?;
+    let mut rest = String::new(alloc);
+    for (number, line) in outcome.out.bytes().split(|b| *b == b'\n').enumerate() {
+        if number >= 4 && !line.is_empty() {
+            rest.push_str(std::str::from_utf8(line).or(Err("no text"))?)?;
+            rest.push_str("\n")?;
+        }
+    }
+    Ok(rest)
+}
+
+#[test]
+fn item_reaches_the_other(rt: HostRuntime) -> Result<(), Fail> {
+    let rest = "text 2 [{\"cmd\":\"LocationChecks\",\"locations\":[101]}]\ntake 1\n";
+    let script = two_sessions(rt.alloc(), BOB, ANN, rest)?;
+    let text = after_connecting(rt.alloc(), script.as_str())?;
+    assert_eq!(rt;
+        text.as_str(),
+        "1 [{\"cmd\":\"ReceivedItems\",\"index\":0,\"items\":[{\"class\":\"NetworkItem\",\"flags\":1,\"item\":7,\"location\":101,\"player\":1}]}]\n"
+    );
+    Ok(())
+}
+
+#[test]
+fn repeated_checks(rt: HostRuntime) -> Result<(), Fail> {
+    let rest =
+        "text 1 [{\"cmd\":\"LocationChecks\",\"locations\":[101,101,999,101]}]\ntext 1 [{\"cmd\":\"LocationChecks\",\"locations\":[101]}]\ntake 1\ntake 1\n";
+    let script = two_sessions(rt.alloc(), ANN, BOB, rest)?;
+    let text = after_connecting(rt.alloc(), script.as_str())?;
+    assert_eq!(rt;
+        text.as_str(),
+        "1 [{\"checked_locations\":[101],\"cmd\":\"RoomUpdate\",\"hint_points\":1}]\n"
+    );
+    Ok(())
+}
+
+#[test]
+fn two_sessions_of_a_slot(rt: HostRuntime) -> Result<(), Fail> {
+    let rest =
+        "text 1 [{\"cmd\":\"LocationChecks\",\"locations\":[102]}]\ntext 2 [{\"cmd\":\"LocationChecks\",\"locations\":[102]}]\ntake 1\ntake 2\n";
+    let script = two_sessions(rt.alloc(), ANN, ANN, rest)?;
+    let text = after_connecting(rt.alloc(), script.as_str())?;
+    assert_eq!(rt;
+        text.as_str(),
+        "1 [{\"checked_locations\":[102],\"cmd\":\"RoomUpdate\",\"hint_points\":1},{\"cmd\":\"ReceivedItems\",\"index\":1,\"items\":[{\"class\":\"NetworkItem\",\"flags\":0,\"item\":8,\"location\":102,\"player\":1}]}]\n2 [{\"checked_locations\":[102],\"cmd\":\"RoomUpdate\",\"hint_points\":1},{\"cmd\":\"ReceivedItems\",\"index\":1,\"items\":[{\"class\":\"NetworkItem\",\"flags\":0,\"item\":8,\"location\":102,\"player\":1}]}]\n"
+    );
+    Ok(())
+}
+
+#[test]
+fn sync_before_and_after(rt: HostRuntime) -> Result<(), Fail> {
+    let rest =
+        "text 1 [{\"cmd\":\"Sync\"}]\ntake 1\ntext 2 [{\"cmd\":\"LocationChecks\",\"locations\":[101]}]\ntake 1\ntext 1 [{\"cmd\":\"Sync\"}]\ntake 1\n";
+    let script = two_sessions(rt.alloc(), BOB, ANN, rest)?;
+    let text = after_connecting(rt.alloc(), script.as_str())?;
+    let line =
+        "1 [{\"cmd\":\"ReceivedItems\",\"index\":0,\"items\":[{\"class\":\"NetworkItem\",\"flags\":1,\"item\":7,\"location\":101,\"player\":1}]}]\n";
+    let twice = format!(in rt.alloc(); "{line}{line}")?;
+    assert_eq!(rt; text.as_str(), twice.as_str());
+    Ok(())
+}
+
+#[test]
+fn the_whole_first_run(rt: HostRuntime) -> Result<(), Fail> {
+    let script = format!(in rt.alloc();
+        "open\ntext 1 {ANN}\ntext 1 [{{\"cmd\":\"LocationChecks\",\"locations\":[101]}}]\ntext 1 [{{\"cmd\":\"Sync\"}}]\ntake 1\n"
+    )?;
+    let outcome = printed(rt.alloc(), script.as_str())?;
+    let expected =
+        r#"1 [{"cmd":"RoomInfo","datapackage_checksums":{"G":"3140df20051ca1c7a5dd4f886f8945c613c6fbba"},"games":["G"],"generator_version":{"build":0,"class":"Version","major":0,"minor":5},"hint_cost":10,"location_check_points":1,"password":false,"permissions":{"collect":2,"release":2,"remaining":2},"seed_name":"A","tags":[],"time":0,"version":{"build":0,"class":"Version","major":0,"minor":5}}]
+1 [{"checked_locations":[],"cmd":"Connected","hint_points":0,"missing_locations":[101,102],"players":[{"alias":"Ann","class":"NetworkPlayer","name":"Ann","slot":1,"team":0},{"alias":"Bob","class":"NetworkPlayer","name":"Bob","slot":2,"team":0}],"slot":1,"slot_data":{},"slot_info":{"1":{"class":"NetworkSlot","game":"G","group_members":[],"name":"Ann","type":1},"2":{"class":"NetworkSlot","game":"G","group_members":[],"name":"Bob","type":1}},"team":0},{"cmd":"ReceivedItems","index":0,"items":[{"class":"NetworkItem","flags":0,"item":5,"location":-2,"player":0}]}]
+1 [{"checked_locations":[101],"cmd":"RoomUpdate","hint_points":1}]
+1 [{"cmd":"ReceivedItems","index":0,"items":[{"class":"NetworkItem","flags":0,"item":5,"location":-2,"player":0}]}]
+"#;
+    assert_eq!(rt; outcome.status, 0);
+    assert_eq!(rt; outcome.out.bytes(), expected.as_bytes());
+    assert_eq!(rt; outcome.err.bytes(), b"".as_slice());
+    Ok(())
+}
+
+#[test]
+fn each_status_has_its_line(rt: HostRuntime) -> Result<(), Fail> {
+    let none = [NEVER; 4];
+    let script = "open\ntake 1\ntake 1\n";
+    let cases = [
+        ("A", ROOM_A, "", none, 0, ""),
+        ("A", ROOM_A, "#\n\ntake 07\n", none, 0, ""),
+        (
+            "A",
+            ROOM_A,
+            script,
+            [0, NEVER, NEVER, NEVER],
+            5,
+            "device failed\n",
+        ),
+        (
+            "A",
+            ROOM_A,
+            script,
+            [NEVER, 0, NEVER, NEVER],
+            5,
+            "device failed\n",
+        ),
+        (
+            "A",
+            ROOM_A,
+            script,
+            [NEVER, NEVER, 1, NEVER],
+            5,
+            "device failed\n",
+        ),
+        ("B", ROOM_A, script, none, 5, "device failed\n"),
+        ("A", ROOM_A, script, [0, NEVER, NEVER, 0], 5, ""),
+        (
+            "A",
+            "7",
+            script,
+            none,
+            7,
+            "multidata refused: WrongKind /\n",
+        ),
+        (
+            "A",
+            "{}",
+            script,
+            none,
+            7,
+            "multidata refused: MissingField /format\n",
+        ),
+        (
+            "A",
+            ROOM_A,
+            "open\nopen \n",
+            none,
+            7,
+            "script refused: line 2\n",
+        ),
+        (
+            "A",
+            ROOM_A,
+            "open\nlost 1\nopen x\n",
+            none,
+            7,
+            "script refused: line 3\n",
+        ),
+        (
+            "A",
+            ROOM_A,
+            "open\nlost 1\ncommit\n",
+            none,
+            7,
+            "not built: line 2\n",
+        ),
+        ("A", ROOM_A, "text 1 []\n", none, 7, "not built: line 1\n"),
+    ];
+    for (name, file, script, failing, status, line) in cases {
+        let outcome = outcome(
+            rt.alloc(),
+            &["drive", name],
+            file.as_bytes(),
+            script.as_bytes(),
+            failing,
+        )?;
+        assert_eq!(rt; outcome.status, status, "at {script}");
+        assert_eq!(rt; outcome.err.bytes(), line.as_bytes(), "at {script}");
+    }
+    Ok(())
+}
+
+#[test]
+fn bad_words(rt: HostRuntime) -> Result<(), Fail> {
+    let none = [NEVER; 4];
+    let one = outcome(rt.alloc(), &["fly"], b"", b"", none)?;
+    assert_eq!(rt; one.status, 2);
+    assert_eq!(rt; one.err.bytes(), b"bad words\n".as_slice());
+    let three = outcome(rt.alloc(), &["drive", "A", "B"], b"", b"", none)?;
+    assert_eq!(rt; three.status, 2);
+    assert_eq!(rt; three.out.bytes(), b"".as_slice());
+    Ok(())
+}
+
+#[test]
+fn gone_where_no_session_is_open(rt: HostRuntime) -> Result<(), Fail> {
+    let outcome = printed(rt.alloc(), "take 007\ntext 1 [{\"cmd\":\"Sync\"}]\n")?;
+    assert_eq!(rt; outcome.status, 0);
+    assert_eq!(rt; outcome.out.bytes(), b"7 gone\n1 gone\n".as_slice());
+    Ok(())
+}
+
+#[test]
+fn cut_seed_file(rt: HostRuntime) -> Result<(), Fail> {
+    let whole = ROOM_A.as_bytes();
+    for length in 0..whole.len() {
+        let outcome = outcome(
+            rt.alloc(),
+            &["drive", "A"],
+            &whole[..length],
+            b"",
+            [NEVER; 4],
+        )?;
+        assert_eq!(rt; outcome.status, 7, "at {length}");
+        assert_eq!(rt;
+            outcome.err.bytes(),
+            b"multidata refused: NoJson /\n".as_slice()
+        );
+    }
+    Ok(())
+}

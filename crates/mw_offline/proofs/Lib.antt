@@ -1,0 +1,11 @@
+pub mod Adding
+pub mod Causes
+pub mod Connections
+pub mod Digits
+pub mod Front
+pub mod Judged
+pub mod Messages
+pub mod Puts
+pub mod Steps
+pub mod Texts
+pub mod Walks

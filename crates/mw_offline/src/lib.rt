@@ -1,0 +1,20 @@
+//! The commands that don't wait, each with its statuses.
+#![tactic(auto)]
+
+mod built;
+mod command;
+mod drive;
+mod input;
+mod line;
+mod lines;
+mod numbers;
+mod offline;
+mod script;
+mod seed;
+mod sessions;
+mod stop;
+
+pub use command::Command;
+pub use offline::{DriveWords, cmd_drive};
+pub use script::{ScriptError, judge_script};
+pub use stop::Stop;
