@@ -21,6 +21,7 @@ fn faults(alloc: Global, failing: u64) -> Result<Faults, Fail> {
 }
 
 /// What a run leaves: the status, what was put, and what the error sink got.
+#[derive(Drop)]
 struct Outcome {
     status: u8,
     out: MemorySink,
@@ -28,7 +29,7 @@ struct Outcome {
 }
 
 /// Runs words on a folder that has this file as `A`, where the k-th call of each object fails.
-fn outcome(
+fn run_words(
     alloc: Global,
     words: &[&str],
     file: &[u8],
@@ -51,7 +52,7 @@ fn outcome(
 
 /// What `drive A` prints of a script with ample memory.
 fn printed(alloc: Global, script: &str) -> Result<Outcome, Fail> {
-    outcome(
+    run_words(
         alloc,
         &["drive", "A"],
         ROOM_A.as_bytes(),
@@ -229,7 +230,7 @@ fn each_status_has_its_line(rt: HostRuntime) -> Result<(), Fail> {
         ("A", ROOM_A, "text 1 []\n", none, 7, "not built: line 1\n"),
     ];
     for (name, file, script, failing, status, line) in cases {
-        let outcome = outcome(
+        let outcome = run_words(
             rt.alloc(),
             &["drive", name],
             file.as_bytes(),
@@ -245,10 +246,10 @@ fn each_status_has_its_line(rt: HostRuntime) -> Result<(), Fail> {
 #[test]
 fn bad_words(rt: HostRuntime) -> Result<(), Fail> {
     let none = [NEVER; 4];
-    let one = outcome(rt.alloc(), &["fly"], b"", b"", none)?;
+    let one = run_words(rt.alloc(), &["fly"], b"", b"", none)?;
     assert_eq!(rt; one.status, 2);
     assert_eq!(rt; one.err.bytes(), b"bad words\n".as_slice());
-    let three = outcome(rt.alloc(), &["drive", "A", "B"], b"", b"", none)?;
+    let three = run_words(rt.alloc(), &["drive", "A", "B"], b"", b"", none)?;
     assert_eq!(rt; three.status, 2);
     assert_eq!(rt; three.out.bytes(), b"".as_slice());
     Ok(())
@@ -266,7 +267,7 @@ fn gone_where_no_session_is_open(rt: HostRuntime) -> Result<(), Fail> {
 fn cut_seed_file(rt: HostRuntime) -> Result<(), Fail> {
     let whole = ROOM_A.as_bytes();
     for length in 0..whole.len() {
-        let outcome = outcome(
+        let outcome = run_words(
             rt.alloc(),
             &["drive", "A"],
             &whole[..length],
