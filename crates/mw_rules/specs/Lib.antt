@@ -1,0 +1,6 @@
+pub mod Rule
+pub mod Holds
+pub mod Names
+pub mod View
+pub mod Laws
+pub mod Ruling
