@@ -1,5 +1,5 @@
 -- What a rule names is all that its answer hangs on, and lies within the rule's numbers.
-use Rattle.std.proofs.Common.{◌≡◌, ℕ, suc, ◌+◌, ◌<◌, true, ◌&&◌, ◌||◌, eqb, leb, List, [], ◌∷◌, All, refl, ap, ap₂, sym, inl, inr, arith}
+use Rattle.std.proofs.Common.{◌≡◌, ℕ, suc, ◌+◌, ◌<◌, true, ◌&&◌, ◌||◌, eqb, leb, List, [], ◌∷◌, All, refl, ap, ap₂, inl, inr, arith}
 use Rattle.std.specs.List.{list_all, list_any}
 use Rattle.std.proofs.lemmas.Bool.{false≢true, or_cases, or_left, or_right, eq-eqb, eqb-true}
 use Rattle.mw_rules.specs.Rule.{Rule, always, never, has, has_all, has_any, has_count, can_reach, all_of, some_of, Rules, no_rules, a_rule, IsWithin, AreWithin}

@@ -26,22 +26,16 @@ pub trait Ruling {
         places: &[bool],
         steps: &mut Steps<L>,
     ) -> bool
-        requires {
-          (rules : List Meaning) × stands_for self.now rules × (number < length rules)
-              × IsWithin (length counts.now) (length places.now) (rule_at rules number)
-        }
-        ensures answer {
-          (rules : List Meaning) → stands_for self.now rules → number < length rules
-              → IsWithin (length counts.now) (length places.now) (rule_at rules number)
-              → result ≡ holds (rule_at rules number) (bag_of counts.now) (places_of places.now)
-        }
+        requires { (rules : List Meaning) × stands_for self.now rules × (number < length rules)
+            × IsWithin (length counts.now) (length places.now) (rule_at rules number) }
+        ensures answer { (rules : List Meaning) → stands_for self.now rules → number < length rules
+            → IsWithin (length counts.now) (length places.now) (rule_at rules number)
+            → result ≡ holds (rule_at rules number) (bag_of counts.now) (places_of places.now) }
         ensures steps { steps.new ≡ steps.old + 1 };
 
     /// The items and the places that the rule with this number names.
     fn named(&self, number: u32) -> &Named
         requires { (rules : List Meaning) × stands_for self.now rules × (number < length rules) }
-        ensures names {
-          (rules : List Meaning) → stands_for self.now rules → number < length rules
-              → AreNames (rule_at rules number) result.now.items result.now.places
-        };
+        ensures names { (rules : List Meaning) → stands_for self.now rules → number < length rules
+            → AreNames (rule_at rules number) result.now.items result.now.places };
 }
