@@ -1,3 +1,4 @@
 pub mod Naming
+pub mod Once
 pub mod Staying
 pub mod Views

@@ -138,14 +138,21 @@ impl Ruling for OneRule {
 }
 
 #[test]
-fn one_rule_is_counted(rt: HostRuntime) {
-    let named = Named {
-        items: List::new(rt.alloc()),
-        places: List::new(rt.alloc()),
-    };
-    let one = OneRule {
-        rule: Rule::Never,
-        named,
-    };
+#[tactic(auto, using(crate::proofs::Views::view_of_has_all, crate::proofs::Views::view_of_has, crate::proofs::Views::view_of_can_reach, crate::proofs::Views::view_of_and))]
+fn one_rule_tells_its_count_and_its_names(rt: HostRuntime) -> Result<(), Fail> {
+    let rule = Rule::Or(both(
+        rt.alloc(),
+        Rule::HasAll(two(rt.alloc(), 2, 0)?),
+        Rule::And(both(
+            rt.alloc(),
+            Rule::Has { item: 2, count: 3 },
+            Rule::CanReach { place: 1 },
+        )?),
+    )?);
+    let named = Named::of(rt.alloc(), &rule)?;
+    assert_eq!(rt; named.items.as_slice(), [0, 2].as_slice());
+    assert_eq!(rt; named.places.as_slice(), [1].as_slice());
+    let one = OneRule { rule, named };
     assert_eq!(rt; one.count(), 1);
+    Ok(())
 }
