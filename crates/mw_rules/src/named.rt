@@ -18,7 +18,7 @@ pub struct Named {
 }
 
 impl Named {
-    /// What the rule names.
+    /// What the rule names; `Memory` where memory ran out.
     pub fn of(alloc: Global, rule: &Rule) -> Result<Named, Memory>
         ensures { IfOk result (λ named. AreNames (view rule.now) named.items named.places) }
     {
