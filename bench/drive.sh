@@ -1,5 +1,5 @@
 #!/usr/bin/env bash
-# Prints the time and memory of `drive` on a seed file of about 17 MB with a script of 2,000 checks over two slots.
+# Prints the time (passed, and of the processor) and memory of `drive` on a seed file of about 17 MB with a script of 2,000 checks over two slots.
 # Run after `rt run` in crates/mw_cli, which leaves the program.
 set -eu
 cd "$(dirname "$0")/.."
@@ -10,7 +10,7 @@ trap 'rm -rf "$room"' EXIT
 python3 - "$room" <<'PY'
 import json, sys
 folder = sys.argv[1]
-slots, games = 60, 60
+slots = 100
 per = 10000
 data = {
     "format": "mw-multidata-1", "seed_name": "bench", "teams": 1, "spheres": [],
@@ -36,9 +36,12 @@ ls -l "$room/seed.json" | awk '{print "seed file: " $5 " bytes"}'
 python3 - "$program" "$room" <<'PY'
 import resource, subprocess, sys, time
 program, folder = sys.argv[1:]
+before = 0.0
 for name, script in (("empty script", b""), ("2,000 checks", open(folder + "/script.txt", "rb").read())):
     begin = time.time()
     run = subprocess.run([program, "drive", folder + "/seed.json"], input=script, stdout=subprocess.PIPE)
-    used = resource.getrusage(resource.RUSAGE_CHILDREN).ru_maxrss // 1024
-    print("%s: status %d, %.2f s, %d MB at most so far, %d bytes out" % (name, run.returncode, time.time() - begin, used, len(run.stdout)))
+    passed = time.time() - begin
+    usage = resource.getrusage(resource.RUSAGE_CHILDREN)
+    spent, before = usage.ru_utime + usage.ru_stime - before, usage.ru_utime + usage.ru_stime
+    print("%s: status %d, %.2f s (processor %.2f s), %d MB at most so far, %d bytes out" % (name, run.returncode, passed, spent, usage.ru_maxrss // 1024, len(run.stdout)))
 PY
