@@ -1,6 +1,10 @@
+ghost use Rattle.std.specs.Prelude.{None};
+
 use crate::run::run;
-use mw_base::{Bytes, List, Text};
-use mw_edges::{Faults, MemoryFolder, MemorySink, MemorySource};
+use mw_base::{Bytes, List, SessionId, Text};
+use mw_edges::{Faults, MemoryFolder, MemorySink, MemorySource, Sink, SinkError};
+use mw_multidata::{RoomTables, read};
+use mw_room::{Event, Room, SessionState};
 use std::alloc::Global;
 use std::test::Fail;
 
@@ -85,6 +89,33 @@ fn after_connecting(alloc: Global, script: &str) -> Result<String, Fail> {
     Ok(rest)
 }
 
+/// What the session of `open` and a Connect of Ann is owed, and then a check of 101.
+const FIRST_LINES: &str =
+    r#"1 [{"cmd":"RoomInfo","datapackage_checksums":{"G":"3140df20051ca1c7a5dd4f886f8945c613c6fbba"},"games":["G"],"generator_version":{"build":0,"class":"Version","major":0,"minor":5},"hint_cost":10,"location_check_points":1,"password":false,"permissions":{"collect":2,"release":2,"remaining":2},"seed_name":"A","tags":[],"time":0,"version":{"build":0,"class":"Version","major":0,"minor":5}}]
+1 [{"checked_locations":[],"cmd":"Connected","hint_points":0,"missing_locations":[101,102],"players":[{"alias":"Ann","class":"NetworkPlayer","name":"Ann","slot":1,"team":0},{"alias":"Bob","class":"NetworkPlayer","name":"Bob","slot":2,"team":0}],"slot":1,"slot_data":{},"slot_info":{"1":{"class":"NetworkSlot","game":"G","group_members":[],"name":"Ann","type":1},"2":{"class":"NetworkSlot","game":"G","group_members":[],"name":"Bob","type":1}},"team":0},{"cmd":"ReceivedItems","index":0,"items":[{"class":"NetworkItem","flags":0,"item":5,"location":-2,"player":0}]}]
+1 [{"checked_locations":[101],"cmd":"RoomUpdate","hint_points":1}]
+"#;
+
+#[test]
+fn first_check(rt: HostRuntime) -> Result<(), Fail> {
+    let script = format!(in rt.alloc();
+        "open\ntext 1 {ANN}\ntext 1 [{{\"cmd\":\"LocationChecks\",\"locations\":[101]}}]\ntake 1"
+    )?;
+    let outcome = printed(rt.alloc(), script.as_str())?;
+    assert_eq!(rt; outcome.status, 0);
+    assert_eq!(rt; outcome.out.bytes(), FIRST_LINES.as_bytes());
+    Ok(())
+}
+
+#[test]
+fn empty_script(rt: HostRuntime) -> Result<(), Fail> {
+    let outcome = printed(rt.alloc(), "")?;
+    assert_eq!(rt; outcome.status, 0);
+    assert_eq!(rt; outcome.out.bytes(), b"".as_slice());
+    assert_eq!(rt; outcome.err.bytes(), b"".as_slice());
+    Ok(())
+}
+
 #[test]
 fn item_reaches_the_other(rt: HostRuntime) -> Result<(), Fail> {
     let rest = "text 2 [{\"cmd\":\"LocationChecks\",\"locations\":[101]}]\ntake 1\n";
@@ -142,12 +173,9 @@ fn the_whole_first_run(rt: HostRuntime) -> Result<(), Fail> {
         "open\ntext 1 {ANN}\ntext 1 [{{\"cmd\":\"LocationChecks\",\"locations\":[101]}}]\ntext 1 [{{\"cmd\":\"Sync\"}}]\ntake 1\n"
     )?;
     let outcome = printed(rt.alloc(), script.as_str())?;
-    let expected =
-        r#"1 [{"cmd":"RoomInfo","datapackage_checksums":{"G":"3140df20051ca1c7a5dd4f886f8945c613c6fbba"},"games":["G"],"generator_version":{"build":0,"class":"Version","major":0,"minor":5},"hint_cost":10,"location_check_points":1,"password":false,"permissions":{"collect":2,"release":2,"remaining":2},"seed_name":"A","tags":[],"time":0,"version":{"build":0,"class":"Version","major":0,"minor":5}}]
-1 [{"checked_locations":[],"cmd":"Connected","hint_points":0,"missing_locations":[101,102],"players":[{"alias":"Ann","class":"NetworkPlayer","name":"Ann","slot":1,"team":0},{"alias":"Bob","class":"NetworkPlayer","name":"Bob","slot":2,"team":0}],"slot":1,"slot_data":{},"slot_info":{"1":{"class":"NetworkSlot","game":"G","group_members":[],"name":"Ann","type":1},"2":{"class":"NetworkSlot","game":"G","group_members":[],"name":"Bob","type":1}},"team":0},{"cmd":"ReceivedItems","index":0,"items":[{"class":"NetworkItem","flags":0,"item":5,"location":-2,"player":0}]}]
-1 [{"checked_locations":[101],"cmd":"RoomUpdate","hint_points":1}]
-1 [{"cmd":"ReceivedItems","index":0,"items":[{"class":"NetworkItem","flags":0,"item":5,"location":-2,"player":0}]}]
-"#;
+    let sync =
+        "1 [{\"cmd\":\"ReceivedItems\",\"index\":0,\"items\":[{\"class\":\"NetworkItem\",\"flags\":0,\"item\":5,\"location\":-2,\"player\":0}]}]\n";
+    let expected = format!(in rt.alloc(); "{FIRST_LINES}{sync}")?;
     assert_eq!(rt; outcome.status, 0);
     assert_eq!(rt; outcome.out.bytes(), expected.as_bytes());
     assert_eq!(rt; outcome.err.bytes(), b"".as_slice());
@@ -280,5 +308,63 @@ fn cut_seed_file(rt: HostRuntime) -> Result<(), Fail> {
             b"multidata refused: NoJson /\n".as_slice()
         );
     }
+    Ok(())
+}
+
+/// A sink without memory. It tells no content.
+#[derive(Drop)]
+struct FullSink;
+
+impl Sink for FullSink {
+    ghost held = { λ _. None };
+
+    ghost faults = { λ _. 0 };
+
+    fn put(&mut self, _bytes: &[u8]) -> Result<(), SinkError> {
+        Err(SinkError::Memory)
+    }
+}
+
+#[test]
+fn no_memory(rt: HostRuntime) -> Result<(), Fail> {
+    let alloc = rt.alloc();
+    let mut files = List::new(alloc);
+    files.push((Text::of(alloc, "A")?, bytes_of(alloc, ROOM_A.as_bytes())?))?;
+    let mut folder = MemoryFolder::new(files, faults(alloc, NEVER)?);
+    let mut input = MemorySource::new(bytes_of(alloc, b"open\n")?, faults(alloc, NEVER)?);
+    let mut out = FullSink;
+    let mut err = MemorySink::new(alloc, faults(alloc, NEVER)?);
+    let words = vec![in alloc; Text::of(alloc, "drive")?, Text::of(alloc, "A")?]?;
+    let status = run(alloc, &words, &mut folder, &mut input, &mut out, &mut err);
+    assert_eq!(rt; status, 6);
+    assert_eq!(rt; err.bytes(), b"no memory\n".as_slice());
+    Ok(())
+}
+
+/// How many messages a session takes, 0 where it isn't open.
+fn taken(room: &mut Room, session: SessionId) -> usize {
+    if room.state(session) == SessionState::Shut {
+        return 0;
+    }
+    room.take(session).len()
+}
+
+#[test]
+fn a_room_tells_how_it_stands(rt: HostRuntime) -> Result<(), Fail> {
+    let alloc = rt.alloc();
+    let Ok(seed) = read(alloc, ROOM_A.as_bytes()) else {
+        return Err(Fail::from("refused"));
+    };
+    let mut room = Room::new(alloc, RoomTables::of(alloc, seed)?)?;
+    let session = room.next_session();
+    assert_eq!(rt; session.get(), 1);
+    assert_eq!(rt; room.state(session), SessionState::Shut);
+    let plan = room.plan(&Event::Open { time: 7 })?;
+    assert_eq!(rt; plan.records().len(), 0);
+    room.apply(plan);
+    assert_eq!(rt; room.state(session), SessionState::Ready { shows: 0 });
+    assert_eq!(rt; taken(&mut room, session), 1);
+    assert_eq!(rt; taken(&mut room, session), 0);
+    assert_eq!(rt; room.length(), 0);
     Ok(())
 }
