@@ -2,7 +2,7 @@
 use Rattle.std.specs.Prelude.{ℕ, List}
 use Rattle.mw_edges.specs.FaultPlan.{FaultPlan}
 
--- a source's bytes that are left, or a sink's bytes that were put, and which calls fail
+-- a source's bytes that are left, and which calls fail
 pub record MemoryStream : Type 0 where
   pub bytes : List ℕ
   pub plan : FaultPlan
@@ -10,4 +10,15 @@ pub record MemoryStream : Type 0 where
 -- a folder's files, each a name and its bytes, and which calls fail
 pub record MemoryFiles : Type 0 where
   pub files : List (List ℕ × List ℕ)
+  pub plan : FaultPlan
+
+-- a sink's bytes that were put, and how often memory for more was wanting
+pub record SteadyBytes : Type 0 where
+  pub bytes : List ℕ
+  pub wanting : ℕ
+
+-- the same, and which calls fail
+pub record MemoryBytes : Type 0 where
+  pub bytes : List ℕ
+  pub wanting : ℕ
   pub plan : FaultPlan

@@ -1,7 +1,7 @@
 ghost use Rattle.std.specs.Prelude.{◌≡◌, ◌≢◌, ◌++◌, ℕ, List, [], min, length, take, drop, Some, Ok, Err, OnOk, OnErr, IfOk, unwrap_or};
 ghost use Rattle.std.specs.Io.{ReadsAtMost};
 ghost use Rattle.std.specs.Io.KnownBytes.{Appends, ReadConsumes};
-ghost use Rattle.mw_edges.specs.Causes.{HasCause, HasFault, PutsFront};
+ghost use Rattle.mw_edges.specs.Causes.{CountsErr, HasCause, HasFault, PutsFront};
 ghost use Rattle.mw_edges.specs.Files.{steady_file};
 ghost use Rattle.mw_edges.specs.Folders.{GivesFile};
 
@@ -9,6 +9,7 @@ use crate::files::{find_file, read_bytes};
 use crate::folder::{FileRead, Folder, FolderError};
 use crate::sink::{Sink, SinkError};
 use crate::source::{Failed, Source};
+use crate::tally::Tally;
 use mw_base::{Bytes, List, Memory, Text};
 use std::alloc::Global;
 use std::marker::Model;
@@ -67,58 +68,72 @@ impl Source for SteadySource {
     }
 }
 
-/// A sink that keeps its bytes in memory, and never fails. Contracts see the bytes that were put.
+/// A sink that keeps its bytes in memory, and never fails. Contracts see the bytes that were put, and
+/// how often memory for more was wanting.
 #[derive(Drop)]
 pub struct SteadySink {
     held: Vec<u8>,
+    wanting: Tally,
 }
 
 impl Model for SteadySink {
-    ghost use Rattle.std.specs.Prelude.{ℕ, List};
+    ghost use Rattle.mw_edges.specs.Memory.{SteadyBytes};
 
-    ghost Value = { List ℕ };
+    ghost Value = { SteadyBytes };
 
-    ghost view = { λ s. s.held.items };
+    ghost view = { λ s. record { bytes = s.held.items; wanting = s.wanting } };
 }
 
 impl SteadySink {
     /// A sink to which nothing was put. It takes no memory yet.
     pub fn new(alloc: Global) -> SteadySink
-        ensures { result ≡ [] }
+        ensures bytes { result.bytes ≡ [] }
+        ensures wanting { result.wanting ≡ 0 }
     {
         SteadySink {
             held: Vec::new(alloc),
+            wanting: Tally::new(),
         }
     }
 
     /// The bytes that were put.
     pub fn bytes(&self) -> &[u8]
-        ensures { result.now ≡ self.now }
+        ensures { result.now ≡ self.now.bytes }
     {
         self.held.as_slice()
     }
 
     /// Puts the bytes, or none of them.
     pub(crate) fn keep(&mut self, bytes: &[u8]) -> Result<(), Memory>
-        ensures ok { OnOk result (self.new ≡ self.old ++ bytes.now) }
-        ensures err { OnErr result (self.new ≡ self.old) }
+        ensures ok { OnOk result (self.new.bytes ≡ self.old.bytes ++ bytes.now) }
+        ensures err { OnErr result (self.new.bytes ≡ self.old.bytes) }
+        ensures counted { CountsErr self.old.wanting self.new.wanting result }
     {
-        self.held.extend_from_slice(bytes)?;
-        Ok(())
+        match self.held.extend_from_slice(bytes) {
+            Ok(()) => Ok(()),
+            Err(_) => {
+                self.wanting.raise();
+                Err(Memory)
+            }
+        }
     }
 }
 
 impl Sink for SteadySink {
-    ghost held = { λ s. Some s };
+    ghost held = { λ s. Some s.bytes };
 
     ghost faults = { λ _. 0 };
 
+    ghost refusals = { λ s. s.wanting };
+
     fn put(&mut self, bytes: &[u8]) -> Result<(), SinkError>
-        ensures ok { OnOk result (Appends (Some self.old) (Some self.new) bytes.now) }
-        ensures err { OnErr result (PutsFront (Some self.old) (Some self.new) bytes.now) }
-        ensures same { OnErr result (self.new ≡ self.old) }
+        ensures ok { OnOk result (Appends (Some self.old.bytes) (Some self.new.bytes) bytes.now) }
+        ensures err { OnErr result (PutsFront (Some self.old.bytes) (Some self.new.bytes) bytes.now) }
+        ensures same { OnErr result (self.new.bytes ≡ self.old.bytes) }
         ensures steady { result ≢ Err SinkError.Failed }
         ensures cause { HasCause 0 0 SinkError.Failed result }
+        ensures counted { CountsErr self.old.wanting self.new.wanting result }
+        ensures refused { HasFault self.old.wanting self.new.wanting result }
     {
         match self.keep(bytes) {
             Ok(()) => Ok(()),

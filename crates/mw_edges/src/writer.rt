@@ -1,7 +1,7 @@
 ghost use Rattle.std.specs.Prelude.{◌≡◌, ◌≢◌, Err, OnOk, OnErr};
 ghost use Rattle.std.specs.Io.{WritesAtMost};
 ghost use Rattle.std.specs.Io.KnownBytes.{Appends, Keeps, WriteAppends};
-ghost use Rattle.mw_edges.specs.Causes.{CountsErr, HasCause, PutsFront};
+ghost use Rattle.mw_edges.specs.Causes.{CountsErr, HasCause, HasFault, PutsFront};
 ghost use Rattle.mw_edges.specs.System.{writer_of, writer_faults};
 
 use crate::sink::{Sink, SinkError};
@@ -101,6 +101,8 @@ impl<W: Write> Sink for WriterSink<W> {
 
     ghost faults = { λ s. s.faults };
 
+    ghost refusals = { λ s. s.faults };
+
     fn put(&mut self, bytes: &[u8]) -> Result<(), SinkError>
         ensures ok { OnOk result
             (Appends (W.contents (writer_of self.old)) (W.contents (writer_of self.new)) bytes.now) }
@@ -109,6 +111,7 @@ impl<W: Write> Sink for WriterSink<W> {
         ensures memory { result ≢ Err SinkError.Memory }
         ensures counted { CountsErr (writer_faults self.old) (writer_faults self.new) result }
         ensures cause { HasCause (writer_faults self.old) (writer_faults self.new) SinkError.Failed result }
+        ensures refused { HasFault (writer_faults self.old) (writer_faults self.new) result }
     {
         match put_whole(&mut self.inner, bytes) {
             Ok(()) => Ok(()),

@@ -27,11 +27,10 @@ pub of_members-list : (es : List Entry) → of_members (data_members es) ≡ mem
 of_members-list [] = refl
 of_members-list (e ∷ es) = ap (member (string_bytes e.0) (meaning e.1)) (of_members-list es)
 
--- no item is deeper than all of them together
-pub depth_of_each : (vs : List Value) (i : ℕ) (d : Value) → i < length vs → depth (meaning (get_or vs i d)) ≤ items_depth (of_items (data_items vs))
-depth_of_each [] i d h = absurd (omega arith)
-depth_of_each (v ∷ vs) zero d h = omega arith
-depth_of_each (v ∷ vs) (suc i) d h = omega (arith, depth_of_each vs i d (omega arith))
+-- no part is deeper than all of them together
+pub depth_of_item : (done : List Value) (v : Value) (left : List Value) → depth (meaning v) ≤ items_depth (of_items (data_items (done ++ v ∷ left)))
+depth_of_item [] v left = omega arith
+depth_of_item (x ∷ done) v left = omega (arith, depth_of_item done v left)
 
 pub depth_of_member : (done : List Entry) (e : Entry) (left : List Entry) → depth (meaning e.1) ≤ members_depth (of_members (data_members (done ++ e ∷ left)))
 depth_of_member [] e left = omega arith

@@ -3,3 +3,5 @@ pub mod Grammar
 pub mod Paths
 pub mod Reading
 pub mod View
+pub mod Parts
+pub mod Settings

@@ -18,7 +18,7 @@ pub fn read_text(alloc: Global, bytes: &[u8]) -> Result<Tree, JsonError>
         → (j : Json) × IsReading bytes.now j × (max_depth < depth j) }
 {
     match Value::from_slice(alloc, bytes) {
-        Ok(value) => tree_of(alloc, &value, 64),
+        Ok(value) => tree_of(alloc, value, 64),
         Err(e) => match e.classify() {
             Category::Memory => Err(JsonError::Memory),
             _ => Err(JsonError::NoJson),
@@ -26,17 +26,18 @@ pub fn read_text(alloc: Global, bytes: &[u8]) -> Result<Tree, JsonError>
     }
 }
 
+/// The tree of a value. Each part of the value is freed as its tree is made.
 #[cycle(tree_of)]
-fn tree_of(alloc: Global, value: &Value, room: usize) -> Result<Tree, JsonError>
-    ensures ok { IfOk result (λ t. (view t ≡ of_data (data_view value.now)) × (depth (view t) ≤ room)) }
-    ensures too_deep { result ≡ Err JsonError.TooDeep → room < depth (of_data (data_view value.now)) }
+fn tree_of(alloc: Global, value: Value, room: usize) -> Result<Tree, JsonError>
+    ensures ok { IfOk result (λ t. (view t ≡ of_data (data_view value)) × (depth (view t) ≤ room)) }
+    ensures too_deep { result ≡ Err JsonError.TooDeep → room < depth (of_data (data_view value)) }
     ensures json { result ≢ Err JsonError.NoJson }
 {
     match value {
         Value::Null => Ok(Tree::Null),
-        Value::Bool(b) => Ok(Tree::Flag(*b)),
-        Value::Number(n) => Ok(number_of(n)),
-        Value::String(s) => Ok(Tree::Words(Text::of(alloc, s.as_str())?)),
+        Value::Bool(b) => Ok(Tree::Flag(b)),
+        Value::Number(n) => Ok(number_of(&n)),
+        Value::String(s) => Ok(Tree::Words(Text::from_string(s))),
         Value::Array(items) => {
             if room == 0 {
                 return Err(JsonError::TooDeep);
@@ -65,12 +66,12 @@ fn number_of(n: &Number) -> Tree
 }
 
 #[cycle(tree_of)]
-fn items_of(alloc: Global, items: &Vec<Value>, room: usize) -> Result<List<Tree>, JsonError>
-    ensures ok { IfOk result (λ ts. (items_view ts ≡ of_items (data_items items.now.items)) × (items_depth (items_view ts) ≤ room)) }
-    ensures too_deep { result ≡ Err JsonError.TooDeep → room < items_depth (of_items (data_items items.now.items)) }
+fn items_of(alloc: Global, items: Vec<Value>, room: usize) -> Result<List<Tree>, JsonError>
+    ensures ok { IfOk result (λ ts. (items_view ts ≡ of_items (data_items items.items)) × (items_depth (items_view ts) ≤ room)) }
+    ensures too_deep { result ≡ Err JsonError.TooDeep → room < items_depth (of_items (data_items items.items)) }
     ensures json { result ≢ Err JsonError.NoJson }
 {
-    let mut found = List::new(alloc);
+    let mut found = List::with_capacity(alloc, items.len())?;
     for item in items {
         found.push(tree_of(alloc, item, room)?)?;
     }
@@ -80,16 +81,16 @@ fn items_of(alloc: Global, items: &Vec<Value>, room: usize) -> Result<List<Tree>
 #[cycle(tree_of)]
 fn members_of(
     alloc: Global,
-    members: &Map<String, Value>,
+    members: Map<String, Value>,
     room: usize,
 ) -> Result<List<Member>, JsonError>
-    ensures ok { IfOk result (λ ms. (members_view ms ≡ of_members (data_members members.now.entries)) × (members_depth (members_view ms) ≤ room)) }
-    ensures too_deep { result ≡ Err JsonError.TooDeep → room < members_depth (of_members (data_members members.now.entries)) }
+    ensures ok { IfOk result (λ ms. (members_view ms ≡ of_members (data_members members.entries)) × (members_depth (members_view ms) ≤ room)) }
+    ensures too_deep { result ≡ Err JsonError.TooDeep → room < members_depth (of_members (data_members members.entries)) }
     ensures json { result ≢ Err JsonError.NoJson }
 {
-    let mut found = List::new(alloc);
-    for (key, member) in members.iter() {
-        let name = Text::of(alloc, key.as_str())?;
+    let mut found = List::with_capacity(alloc, members.len())?;
+    for (key, member) in members {
+        let name = Text::from_string(key);
         let value = tree_of(alloc, member, room)?;
         found.push(Member { name, value })?;
     }

@@ -1,9 +1,7 @@
 pub mod Accepted
-pub mod Elements
 pub mod Fronts
 pub mod Ids
 pub mod Names
-pub mod Numbers
 pub mod Passing
 pub mod Placed
 pub mod Shapes

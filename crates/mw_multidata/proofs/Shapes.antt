@@ -9,9 +9,9 @@ use Rattle.mw_model.specs.Seed.{Seed, Slot, Held}
 use Rattle.mw_json.specs.Grammar.{under, name_at, number_at, list_at, items_length, list_up_to, object_at, field_at}
 use Rattle.mw_json.specs.declared.refusal.Kind.TheVariants.{WrongKind, TooMany}
 use Rattle.mw_json.specs.declared.refusal.Step.TheVariants.{Index}
-use Rattle.mw_multidata.specs.Parts.{not_empty, list_of_length}
+use Rattle.mw_json.specs.Parts.{not_empty, list_of_length}
 use Rattle.mw_multidata.specs.Shape.{format_at, seed_name_at, server_at, games_at, names_from, names_at, start_at, slot_at, slots_from, slots_at, held_at, locations_from, locations_at, spheres_at, members_at, shape_at}
-use Rattle.mw_multidata.proofs.Numbers.{number_in_range}
+use Rattle.mw_json.proofs.Numbers.{number_in_range}
 use Rattle.mw_multidata.proofs.Passing.{past, after, within, where_true, in_field, if_told}
 
 -- ---- lists of a stated length

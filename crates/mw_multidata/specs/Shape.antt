@@ -5,33 +5,11 @@ use Rattle.mw_model.specs.Seed.{Seed, Slot, StartItem, Game, NamedId, Held, Room
 use Rattle.mw_json.specs.Grammar.{Breach, ◌>>=◌, refused, under, number_at, text_at, short_text, name_of, name_at, list_at, list_up_to, object_at, field_at}
 use Rattle.mw_json.specs.declared.refusal.Kind.TheVariants.{WrongKind, OtherFormat}
 use Rattle.mw_json.specs.declared.refusal.Step.TheVariants.{Name, Index}
-use Rattle.mw_multidata.specs.Parts.{id_at, slot_number_at, flags_at, not_empty, list_of_length, element_at}
+use Rattle.mw_json.specs.Parts.{id_at, not_empty, list_of_length, element_at}
+use Rattle.mw_json.specs.Settings.{password_at, permission_at, remaining_at}
+use Rattle.mw_multidata.specs.Parts.{slot_number_at, flags_at}
 
 -- ---- the settings of the room
-
--- a text of at most 128 characters
-unfoldable pub password_at : Json → Result (List ℕ) Breach
-password_at j = do
-  s ← text_at j
-  short_text 128 s
-
--- who may ask what is left, by its number in the protocol
-abbrev pub remaining_of : List ℕ → Result ℕ Breach
-remaining_of s = if bytes_eq s (codes "disabled") then Ok 0 else (if bytes_eq s (codes "enabled") then Ok 1 else (if bytes_eq s (codes "goal") then Ok 2 else refused WrongKind))
-
--- who may release or collect
-abbrev pub permission_of : List ℕ → Result ℕ Breach
-permission_of s = if bytes_eq s (codes "auto") then Ok 6 else (if bytes_eq s (codes "auto_enabled") then Ok 7 else remaining_of s)
-
-unfoldable pub remaining_at : Json → Result ℕ Breach
-remaining_at j = do
-  s ← text_at j
-  remaining_of s
-
-unfoldable pub permission_at : Json → Result ℕ Breach
-permission_at j = do
-  s ← text_at j
-  permission_of s
 
 unfoldable pub server_at : Json → Result RoomOptions Breach
 server_at j = do

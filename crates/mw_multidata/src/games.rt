@@ -4,10 +4,9 @@ ghost use Rattle.mw_json.specs.Grammar.{Gives, under, field_at};
 ghost use Rattle.mw_json.specs.declared.refusal.Step.TheVariants.{Name};
 ghost use Rattle.mw_multidata.specs.Shape.{named_id_at, named_ids, ids_at, game_at, games_of as games_of_members, games_at};
 
-use crate::parts::id_in;
 use crate::seed::{Game, NamedId};
 use mw_base::List;
-use mw_json::{Member, Refusal, Tree, at_name, copy_name, member_of, object_of};
+use mw_json::{Member, Refusal, Tree, at_name, copy_name, id_in, member_of, object_of};
 use std::alloc::Global;
 
 #[tactic(auto, unfolding(crate::specs::Shape::named_id_at))]

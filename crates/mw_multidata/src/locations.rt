@@ -3,10 +3,12 @@ ghost use Rattle.mw_json.specs.View.{view, items_view};
 ghost use Rattle.mw_json.specs.Grammar.{Gives};
 ghost use Rattle.mw_multidata.specs.Shape.{held_at, locations_from, locations_at};
 
-use crate::parts::{element, flags_in, item_in, list_with, location_in, slot_in, slot_number_in};
+use crate::parts::{flags_in, slot_in, slot_number_in};
 use crate::seed::Held;
 use mw_base::List;
-use mw_json::{Refusal, Tree, at_index, list_of_at_most};
+use mw_json::{
+    Refusal, Tree, at_index, element, item_id_in, list_of_at_most, list_with, location_id_in,
+};
 use std::alloc::Global;
 
 #[tactic(auto, unfolding(crate::specs::Shape::held_at))]
@@ -15,8 +17,8 @@ fn held_of(alloc: Global, tree: &Tree) -> Result<Held, Refusal>
 {
     let items = list_with(alloc, tree, 5)?;
     let slot = at_index(slot_in(alloc, element(items, 0)), 0)?;
-    let location = at_index(location_in(alloc, element(items, 1)), 1)?;
-    let item = at_index(item_in(alloc, element(items, 2)), 2)?;
+    let location = at_index(location_id_in(alloc, element(items, 1)), 1)?;
+    let item = at_index(item_id_in(alloc, element(items, 2)), 2)?;
     let receiver = at_index(slot_number_in(alloc, element(items, 3)), 3)?;
     let flags = at_index(flags_in(alloc, element(items, 4)), 4)?;
     Ok(Held {

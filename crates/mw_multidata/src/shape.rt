@@ -5,14 +5,14 @@ ghost use Rattle.mw_multidata.specs.Shape.{format_of, format_at, seed_name_of, s
 
 use crate::games::games_of;
 use crate::locations::locations_of;
-use crate::parts::number_between;
 use crate::seed::{Game, Held, Slot};
 use crate::server::server_of;
 use crate::slots::slots_of;
 use crate::spheres::spheres_of;
 use mw_base::{List, RoomOptions, SphereList, Text};
 use mw_json::{
-    Kind, Member, Refusal, Tree, at_name, copy_short, member_of, object_of, refuse, text_of,
+    Kind, Member, Refusal, Tree, at_name, copy_short, member_of, number_between, object_of, refuse,
+    text_of,
 };
 use std::alloc::Global;
 use std::marker::Model;

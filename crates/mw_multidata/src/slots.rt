@@ -3,11 +3,12 @@ ghost use Rattle.mw_json.specs.View.{view, items_view, members_view};
 ghost use Rattle.mw_json.specs.Grammar.{Gives, name_at, field_at};
 ghost use Rattle.mw_multidata.specs.Shape.{names_from, names_at, start_item_at, start_from, start_at, slot_at, slots_from, slots_at};
 
-use crate::parts::{element, flags_in, item_in, list_with, some_of};
+use crate::parts::flags_in;
 use crate::seed::{Slot, StartItem};
 use mw_base::{List, Text};
 use mw_json::{
-    Member, Refusal, Tree, at_index, at_name, list_of_at_most, member_of, name_in, object_of,
+    Member, Refusal, Tree, at_index, at_name, element, item_id_in, list_of_at_most, list_with,
+    member_of, name_in, object_of, some_of,
 };
 use std::alloc::Global;
 
@@ -51,7 +52,7 @@ fn start_item_of(alloc: Global, tree: &Tree) -> Result<StartItem, Refusal>
     ensures { Gives result (start_item_at (view tree.now)) }
 {
     let items = list_with(alloc, tree, 2)?;
-    let item = at_index(item_in(alloc, element(items, 0)), 0)?;
+    let item = at_index(item_id_in(alloc, element(items, 0)), 0)?;
     let flags = at_index(flags_in(alloc, element(items, 1)), 1)?;
     Ok(StartItem { item, flags })
 }

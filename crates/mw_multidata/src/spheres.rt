@@ -3,9 +3,9 @@ ghost use Rattle.mw_json.specs.View.{view, items_view};
 ghost use Rattle.mw_json.specs.Grammar.{Gives, number_at};
 ghost use Rattle.mw_multidata.specs.Shape.{spot_at, spots_from, sphere_at, spheres_from, spheres_at};
 
-use crate::parts::{element, list_with, number_between, slot_number_in, some_of};
+use crate::parts::slot_number_in;
 use mw_base::{List, SphereList, Spot};
-use mw_json::{Refusal, Tree, at_index, list_of};
+use mw_json::{Refusal, Tree, at_index, element, list_of, list_with, number_between, some_of};
 use std::alloc::Global;
 
 /// A location's index in its world's table.

@@ -1,4 +1,6 @@
-use Rattle.std.proofs.Common.{◌≡◌, ◌≤◌, List, ◌++◌, take, map}
+use Rattle.std.proofs.Common.{◌≡◌, ◌≤◌, List, ◌++◌, length, map}
+use Rattle.std.specs.Vec.Iter.{into_iter_items, into_iter_len}
+use Rattle.serde_json.specs.declared.value.Value.{Value}
 use Rattle.mw_model.specs.Json.{items_depth, members_depth}
 use Rattle.mw_json.specs.View.{view, member_view, items_of, members_of}
 use Rattle.mw_json.proofs.Trees.{Entry, meaning, named}
@@ -6,9 +8,10 @@ use Rattle.mw_json.proofs.read.+tree_of.Given as goal
 
 abbrev pub invariant-items_of-loop-item : goal.invariant-items_of-loop-item
 invariant-items_of-loop-item l =
-    (map view l.found ≡ map meaning (take l.item-index l.item-items)) × (items_depth (items_of (map view l.found)) ≤ l.room)
+    (done : List Value) × (l.fn.items.items ≡ done ++ into_iter_items l.item-iterator) × (map view l.found ≡ map meaning done)
+    × (items_depth (items_of (map view l.found)) ≤ l.room) × (into_iter_len l.item-iterator ≡ length (into_iter_items l.item-iterator))
 
 abbrev pub invariant-members_of-loop-key : goal.invariant-members_of-loop-key
 invariant-members_of-loop-key l =
-    (done : List Entry) × (l.members.entries ≡ done ++ l.key-iterator) × (map member_view l.found ≡ map named done)
+    (done : List Entry) × (l.fn.members.entries ≡ done ++ l.key-iterator) × (map member_view l.found ≡ map named done)
     × (members_depth (members_of (map member_view l.found)) ≤ l.room)

@@ -2,7 +2,7 @@
 use Rattle.std.proofs.Common.{◌≡◌, ◌<◌, ℕ, zero, suc, List, [], ◌∷◌, length, get_or, Ok, arith, refl}
 use Rattle.mw_json.specs.View.{view, items_view}
 use Rattle.mw_json.specs.declared.tree.Tree.{Tree}
-use Rattle.mw_multidata.specs.Parts.{item_at, not_empty}
+use Rattle.mw_json.specs.Parts.{item_at, not_empty}
 
 pub item_at_view : (ts : List Tree) (i : ℕ) (d : Tree) → i < length ts → item_at i (items_view ts) ≡ view (get_or ts i d)
 unfolding item_at
