@@ -1,5 +1,5 @@
 -- Causes of what is read, one after the other.
-use Rattle.std.proofs.Common.{◌≡◌, ℕ, List, Option, Ok, refl, inl, inr}
+use Rattle.std.proofs.Common.{◌≡◌, ◌⊎◌, ℕ, List, Option, Ok, refl, sym, subst, inl, inr}
 use Rattle.std.proofs.KnownBytes.{Keeps-refl}
 use Rattle.std.specs.Io.KnownBytes.{Consumes, IsAtEnd, Keeps, Appends}
 use Rattle.mw_edges.specs.Causes.{PutsFront}
@@ -7,7 +7,7 @@ use Rattle.mw_model.specs.Seed.{Seed}
 use Rattle.mw_model.specs.Room.{empty_room}
 use Rattle.mw_offline.specs.Commands.{Command}
 use Rattle.mw_offline.specs.Drive.{drive_text}
-use Rattle.mw_offline.specs.Endings.{IsFile, IsRead, IsSeedFile, IsSeedRefused, IsScriptRefused, IsReady, HasCauseIn, HasPut, stop_of, DriveText, Drives, PutsSome}
+use Rattle.mw_offline.specs.Endings.{IsFile, IsRead, IsSeedFile, IsSeedRefused, IsScriptRefused, IsReady, HasCauseIn, HasPut, stop_of, DriveText, Drives, PutsSome, Told, Ended, Stops}
 use Rattle.mw_offline.specs.declared.drive.Halt.{Halt}
 use Rattle.mw_offline.specs.declared.drive.Halt.TheVariants as Halted
 use Rattle.mw_offline.specs.declared.stop.Stop.{Stop}
@@ -73,3 +73,32 @@ nothing_put (LineNotBuilt line) file before after held = Keeps-refl held
 pub halt_put : (halt : Halt) (file : Option (Option (List ℕ))) (before after old new : Option (List ℕ)) → PutsSome file before after old new → HasPut (stop_of halt) file before after old new
 halt_put Halted.Fault file before after old new h = inr h
 halt_put Halted.Memory file before after old new h = inr h
+
+-- what was put before some stop was put before want of memory
+pub put_at_memory : (stop : Stop) (file : Option (Option (List ℕ))) (before after old new : Option (List ℕ)) → HasPut stop file before after old new → HasPut Memory file before after old new
+put_at_memory Fault file before after old new h = h
+put_at_memory Memory file before after old new h = h
+put_at_memory (SeedFile kind path) file before after old new h = inl h
+put_at_memory SeedFileTooLong file before after old new h = inl h
+put_at_memory SeedFileNotBuilt file before after old new h = inl h
+put_at_memory (Script line) file before after old new h = inl h
+put_at_memory (LineNotBuilt line) file before after old new h = inl h
+
+named_cause : (stop named : Stop) (file : Option (Option (List ℕ))) (before after : Option (List ℕ)) → (named ≡ stop) ⊎ (named ≡ Memory) → HasCauseIn stop file before after → HasCauseIn named file before after
+named_cause stop named file before after (inl e) cause = subst (λ s. HasCauseIn s file before after) (sym e) cause
+named_cause stop named file before after (inr e) cause = subst (λ s. HasCauseIn s file before after) (sym e) tt
+
+named_put : (stop named : Stop) (file : Option (Option (List ℕ))) (before after old new : Option (List ℕ)) → (named ≡ stop) ⊎ (named ≡ Memory) → HasPut stop file before after old new → HasPut named file before after old new
+named_put stop named file before after old new (inl e) put = subst (λ s. HasPut s file before after old new) (sym e) put
+named_put stop named file before after old new (inr e) put = subst (λ s. HasPut s file before after old new) (sym e) (put_at_memory stop file before after old new put)
+
+-- a cause told by its own line, or want of memory in its place, is a cause
+pub ended_for : (stop : Stop) (status : ℕ) (file : Option (Option (List ℕ))) (before after old new : Option (List ℕ)) (told : Told)
+    → Ended stop status told → HasCauseIn stop file before after → HasPut stop file before after old new
+    → (s : Stop) × Stops s status file before after old new told
+ended_for stop status file before after old new told h cause put = (h.named, record {
+  is_status = h.is_status;
+  cause = named_cause stop h.named file before after h.is cause;
+  put = named_put stop h.named file before after old new h.is put;
+  line = h.line;
+})

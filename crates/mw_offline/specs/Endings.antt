@@ -1,7 +1,7 @@
 -- How `drive` ends.
 use Rattle.std.specs.Prelude.{◌≡◌, ◌<◌, ◌≤◌, ◌⊎◌, ◌++◌, ℕ, List, [], length, Option, Some, None, Result, Ok, Err, codes, decimal, ⊤}
 use Rattle.std.specs.Io.KnownBytes.{Consumes, IsAtEnd, Keeps, Appends}
-use Rattle.mw_edges.specs.Causes.{PutsFront}
+use Rattle.mw_edges.specs.Causes.{PutsFront, Tells}
 use Rattle.mw_json.specs.Paths.{kind_text, path_text}
 use Rattle.mw_json.specs.Grammar.{Breach}
 use Rattle.mw_model.specs.Seed.{Seed}
@@ -21,11 +21,11 @@ max_seed_file = 67108864
 
 -- ---- what was read
 
--- where the folder tells a file's bytes, these are they
+-- these bytes are within the limit, and where the folder tells a file's bytes, they are these
 abbrev pub IsFile : Option (Option (List ℕ)) → List ℕ → Type 0
-IsFile None bytes = ⊤
+IsFile None bytes = length bytes ≤ max_seed_file
 IsFile (Some None) bytes = ⊥
-IsFile (Some (Some told)) bytes = bytes ≡ told
+IsFile (Some (Some told)) bytes = (bytes ≡ told) × (length told ≤ max_seed_file)
 
 -- where the folder tells a file's bytes, they are more than the limit
 abbrev pub IsLongFile : Option (Option (List ℕ)) → ℕ → Type 0
@@ -164,14 +164,30 @@ abbrev pub stop_of : Halt → Stop
 stop_of Halted.Fault = Fault
 stop_of Halted.Memory = Memory
 
--- it stopped for this cause: its status, what was read and put, and its line on the error sink or a front of it
-pub record Stops (stop : Stop) (status : ℕ) (file : Option (Option (List ℕ))) (before after old new told_old told_new : Option (List ℕ)) : Type 0 where
+-- what an error sink held before and after, and how often it had refused a put
+pub record Told : Type 0 where
+  pub old : Option (List ℕ)
+  pub new : Option (List ℕ)
+  pub before : ℕ
+  pub now : ℕ
+
+-- it ended for this cause, or without memory for its line: a status, and that cause's line on the error sink, or a
+-- front of the line where that sink refused
+pub record Ended (stop : Stop) (status : ℕ) (told : Told) : Type 0 where
+  pub named : Stop
+  pub is : (named ≡ stop) ⊎ (named ≡ Memory)
+  pub is_status : status ≡ status_of named
+  pub line : Tells told.old told.new told.before told.now (stop_line named)
+
+-- it stopped for this cause: its status, what was read and put, and its line on the error sink, or a front of the
+-- line where that sink refused
+pub record Stops (stop : Stop) (status : ℕ) (file : Option (Option (List ℕ))) (before after old new : Option (List ℕ)) (told : Told) : Type 0 where
   pub is_status : status ≡ status_of stop
   pub cause : HasCauseIn stop file before after
   pub put : HasPut stop file before after old new
-  pub told : PutsFront told_old told_new (stop_line stop)
+  pub line : Tells told.old told.new told.before told.now (stop_line stop)
 
 -- how `drive` ended with a status: with all done and the error sink as it was, or stopped for a cause
-abbrev pub DriveEnds : ℕ → Option (Option (List ℕ)) → Option (List ℕ) → Option (List ℕ) → Option (List ℕ) → Option (List ℕ) → Option (List ℕ) → Option (List ℕ) → Type 0
-DriveEnds status file before after old new told_old told_new =
-    ((status ≡ 0) × Drives file before after old new × Keeps told_old told_new) ⊎ ((stop : Stop) × Stops stop status file before after old new told_old told_new)
+abbrev pub DriveEnds : ℕ → Option (Option (List ℕ)) → Option (List ℕ) → Option (List ℕ) → Option (List ℕ) → Option (List ℕ) → Told → Type 0
+DriveEnds status file before after old new told =
+    ((status ≡ 0) × Drives file before after old new × Keeps told.old told.new) ⊎ ((stop : Stop) × Stops stop status file before after old new told)

@@ -1,6 +1,6 @@
-ghost use Rattle.std.specs.Prelude.{◌≡◌, ◌≢◌, ◌≤◌, ◌⊎◌, IfOk, IfErr, OnOk, OnErr, Ok, map};
+ghost use Rattle.std.specs.Prelude.{◌≡◌, ◌≢◌, ◌≤◌, ◌⊎◌, IfOk, IfErr, OnOk, OnErr, Ok, ℕ, List, map};
 ghost use Rattle.std.specs.Io.KnownBytes.{Keeps};
-ghost use Rattle.mw_edges.specs.Causes.{Rose, PutsFront};
+ghost use Rattle.mw_edges.specs.Causes.{Rose, PutsFront, Tells};
 ghost use Rattle.mw_model.specs.Room.{empty_room};
 ghost use Rattle.mw_model.specs.Seed.{Seed};
 ghost use Rattle.mw_offline.specs.declared.stop.Stop.{Stop as Cause};
@@ -14,7 +14,7 @@ use crate::drive::{Halt, run_commands};
 use crate::input::read_script;
 use crate::script::{ScriptError, judge_script};
 use crate::seed::read_seed;
-use crate::stop::{Stop, status, tell};
+use crate::stop::{Stop, end};
 use mw_base::{List, Text};
 use mw_edges::{Folder, Sink, Source};
 use mw_multidata::{Multidata, RoomTables};
@@ -83,6 +83,7 @@ fn prepare<F: Folder, S: Source>(
     ensures fault { result ≡ Err Stop.Fault
         → Rose (F.faults folder.old) (F.faults folder.new) ⊎ Rose (S.faults input.old) (S.faults input.new) }
     ensures later { (F.faults folder.old ≤ F.faults folder.new) × (S.faults input.old ≤ S.faults input.new) }
+    ensures same { (n : List ℕ) → F.holds folder.new n ≡ F.holds folder.old n }
 {
     let multidata = match read_seed(alloc, folder, &words.multidata) {
         Ok(multidata) => multidata,
@@ -115,6 +116,7 @@ fn drive<F: Folder, S: Source, O: Sink>(
     ensures put { IfErr result (λ e. HasPut e (F.holds folder.old words.now.multidata) (S.left input.old) (S.left input.new) (O.held out.old) (O.held out.new)) }
     ensures fault { result ≡ Err Stop.Fault → Rose (F.faults folder.old) (F.faults folder.new)
         ⊎ (Rose (S.faults input.old) (S.faults input.new) ⊎ Rose (O.faults out.old) (O.faults out.new)) }
+    ensures same { (n : List ℕ) → F.holds folder.new n ≡ F.holds folder.old n }
 {
     let prepared = match prepare(alloc, words, folder, input) {
         Ok(prepared) => prepared,
@@ -130,8 +132,9 @@ fn drive<F: Folder, S: Source, O: Sink>(
 /// Runs the script of the input on the room of a seed file, and prints the messages that are taken.
 ///
 /// The status is 0 where all is done and the input read to its end; 5 where the folder, the input or
-/// the out sink failed; 6 where memory ran out; 7 where the seed file or the script is refused, with
-/// its line on the error sink.
+/// the out sink failed; 6 where memory ran out; 7 where the seed file or the script is refused. With
+/// a status other than 0 the error sink gets that status's line, or a front of it where it refuses.
+#[tactic(auto, using(crate::proofs::Causes::ended_for))]
 pub fn cmd_drive<F: Folder, S: Source, O: Sink, E: Sink>(
     alloc: Global,
     words: &DriveWords,
@@ -140,16 +143,15 @@ pub fn cmd_drive<F: Folder, S: Source, O: Sink, E: Sink>(
     out: &mut O,
     err: &mut E,
 ) -> u8
-    ensures ends { DriveEnds result (F.holds folder.old words.now.multidata) (S.left input.old) (S.left input.new) (O.held out.old) (O.held out.new) (E.held err.old) (E.held err.new) }
+    ensures ends { DriveEnds result (F.holds folder.old words.now.multidata) (S.left input.old) (S.left input.new) (O.held out.old) (O.held out.new)
+        record { old = E.held err.old; new = E.held err.new; before = E.refusals err.old; now = E.refusals err.new } }
     ensures fault { result ≡ 5 → Rose (F.faults folder.old) (F.faults folder.new)
         ⊎ (Rose (S.faults input.old) (S.faults input.new) ⊎ Rose (O.faults out.old) (O.faults out.new)) }
+    ensures same { (n : List ℕ) → F.holds folder.new n ≡ F.holds folder.old n }
     ensures statuses { (result ≡ 0) ⊎ ((result ≡ 5) ⊎ ((result ≡ 6) ⊎ (result ≡ 7))) }
 {
     match drive(alloc, words, folder, input, out) {
         Ok(()) => 0,
-        Err(stop) => {
-            tell(alloc, err, &stop);
-            status(&stop)
-        }
+        Err(stop) => end(alloc, err, stop),
     }
 }

@@ -1,6 +1,6 @@
-ghost use Rattle.std.specs.Prelude.{◌≡◌, ◌≤◌, ◌≢◌, IfOk, IfErr, ℕ, List, Some};
+ghost use Rattle.std.specs.Prelude.{◌≡◌, ◌≤◌, ◌≢◌, IfOk, IfErr, ℕ, List, Some, length};
 ghost use Rattle.mw_edges.specs.Causes.{Rose};
-ghost use Rattle.mw_offline.specs.Endings.{IsFile, IsSeedFile, IsSeedRefused};
+ghost use Rattle.mw_offline.specs.Endings.{IsFile, IsSeedFile, IsSeedRefused, max_seed_file};
 
 use crate::stop::Stop;
 use mw_base::{Bytes, Text};
@@ -17,6 +17,7 @@ fn read_bytes<F: Folder>(alloc: Global, folder: &mut F, name: &Text) -> Result<B
     ensures err { IfErr result (IsSeedRefused (F.holds folder.old name.now)) }
     ensures fault { result ≡ Err Stop.Fault → Rose (F.faults folder.old) (F.faults folder.new) }
     ensures later { F.faults folder.old ≤ F.faults folder.new }
+    ensures same { (n : List ℕ) → F.holds folder.new n ≡ F.holds folder.old n }
 {
     match folder.read_file(alloc, name, MAX_SEED_FILE) {
         Ok(FileRead::Whole(bytes)) => Ok(bytes),
@@ -28,6 +29,7 @@ fn read_bytes<F: Folder>(alloc: Global, folder: &mut F, name: &Text) -> Result<B
 
 /// The seed of a file's bytes, if it is for one team.
 fn seed_of(alloc: Global, bytes: &[u8]) -> Result<Multidata, Stop>
+    requires { length bytes.now ≤ max_seed_file }
     ensures ok { IfOk result (λ m. IsSeedFile bytes.now m) }
     ensures err { IfErr result (IsSeedRefused (Some (Some bytes.now))) }
     ensures fault { result ≢ Err Stop.Fault }
@@ -55,6 +57,7 @@ pub(crate) fn read_seed<F: Folder>(
     ensures err { IfErr result (IsSeedRefused (F.holds folder.old name.now)) }
     ensures fault { result ≡ Err Stop.Fault → Rose (F.faults folder.old) (F.faults folder.new) }
     ensures later { F.faults folder.old ≤ F.faults folder.new }
+    ensures same { (n : List ℕ) → F.holds folder.new n ≡ F.holds folder.old n }
 {
     let bytes = read_bytes(alloc, folder, name)?;
     seed_of(alloc, bytes.as_slice())

@@ -1,6 +1,6 @@
-ghost use Rattle.std.specs.Prelude.{◌≡◌, ◌++◌, IfOk, OnOk, string_bytes};
-ghost use Rattle.mw_edges.specs.Causes.{PutsFront};
-ghost use Rattle.mw_offline.specs.Endings.{status_of, stop_line};
+ghost use Rattle.std.specs.Prelude.{◌≡◌, ◌++◌, IfOk, string_bytes};
+ghost use Rattle.mw_edges.specs.Causes.{Tells};
+ghost use Rattle.mw_offline.specs.Endings.{status_of, stop_line, Ended};
 ghost use Rattle.mw_offline.specs.declared.stop.Stop.TheVariants.{SeedFile};
 
 use mw_base::Memory;
@@ -38,21 +38,6 @@ pub enum Stop {
     },
 }
 
-/// The status of a cause.
-pub(crate) fn status(stop: &Stop) -> u8
-    ensures { result ≡ status_of stop.now }
-{
-    match stop {
-        Stop::Fault => 5,
-        Stop::Memory => 6,
-        Stop::SeedFile { .. }
-        | Stop::SeedFileTooLong
-        | Stop::SeedFileNotBuilt
-        | Stop::Script { .. }
-        | Stop::LineNotBuilt { .. } => 7,
-    }
-}
-
 fn seed_file_line(alloc: Global, kind: Kind, path: &Path) -> Result<String, Memory>
     ensures { IfOk result (λ t. string_bytes t ≡ stop_line (SeedFile kind path.now)) }
 {
@@ -77,22 +62,39 @@ fn line(alloc: Global, stop: &Stop) -> Result<String, Memory>
     }
 }
 
-/// Puts bytes, or a front of them where the sink refuses.
-fn put_front<E: Sink>(err: &mut E, bytes: &[u8])
-    ensures { PutsFront (E.held err.old) (E.held err.new) bytes.now }
+/// Puts a line, or a front of it where the sink refuses.
+fn tell<E: Sink>(err: &mut E, line: &str)
+    ensures { Tells (E.held err.old) (E.held err.new) (E.refusals err.old) (E.refusals err.new) line.now }
 {
-    let _ = err.put(bytes);
+    let _ = err.put(line.as_bytes());
 }
 
-/// Puts the line of a cause. Where memory for it is wanting, or the sink refuses, a front of it.
-pub(crate) fn tell<E: Sink>(alloc: Global, err: &mut E, stop: &Stop)
-    ensures { PutsFront (E.held err.old) (E.held err.new) (stop_line stop.now) }
+/// Tells that memory ran out, and answers its status. It takes none.
+fn end_without_memory<E: Sink>(err: &mut E) -> u8
+    ensures status { result ≡ status_of Stop.Memory }
+    ensures line { Tells (E.held err.old) (E.held err.new) (E.refusals err.old) (E.refusals err.new) (stop_line Stop.Memory) }
 {
-    if let Stop::Memory = stop {
-        put_front(err, b"no memory\n");
-        return;
-    }
-    if let Ok(line) = line(alloc, stop) {
-        put_front(err, line.as_bytes());
+    tell(err, "no memory\n");
+    6
+}
+
+/// Tells a cause, and answers its status. Where memory for its line is wanting, that is the cause.
+pub(crate) fn end<E: Sink>(alloc: Global, err: &mut E, stop: Stop) -> u8
+    ensures ended { Ended stop result record { old = E.held err.old; new = E.held err.new; before = E.refusals err.old; now = E.refusals err.new } }
+    ensures fault { result ≡ 5 → stop ≡ Stop.Fault }
+{
+    match stop {
+        Stop::Fault => {
+            tell(err, "device failed\n");
+            5
+        }
+        Stop::Memory => end_without_memory(err),
+        _ => match line(alloc, &stop) {
+            Ok(line) => {
+                tell(err, line.as_str());
+                7
+            }
+            Err(_) => end_without_memory(err),
+        },
     }
 }

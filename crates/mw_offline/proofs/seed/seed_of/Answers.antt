@@ -8,4 +8,4 @@ pub returns-else-multidata-eq1-clause-err : goal.returns-else-multidata-eq1-clau
 returns-else-multidata-eq1-clause-err c =
     let teams : c.multidata.inside.teams ≡ c.in-Ok.multidata.teams = ap (λ (s : Seed). s.teams) c.multidata.view_is in
     let some = some_team c.in-Ok.multidata (subst IsAccepted c.multidata.view_is c.multidata.invariant) in
-    (c.args.bytes.now, c.in-Ok.multidata, refl, c.in-Ok.ensures, omega (arith, teams, some, c.if-multidata-eq1.false))
+    (c.args.bytes.now, c.in-Ok.multidata, (refl, c.requires), c.in-Ok.ensures, omega (arith, teams, some, c.if-multidata-eq1.false))
