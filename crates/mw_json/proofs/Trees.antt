@@ -1,8 +1,8 @@
 -- A tree beside the value of the crate that it was made of.
-use Rattle.std.proofs.Common.{◌≡◌, ℕ, zero, suc, ◌<◌, ◌≤◌, List, [], ◌∷◌, ◌++◌, length, get_or, map, take, String, Global, string_bytes, refl, ap, arith}
+use Rattle.std.proofs.Common.{◌≡◌, ℕ, ◌≤◌, List, [], ◌∷◌, ◌++◌, length, map, String, Global, string_bytes, refl, ap, arith}
 use Rattle.serde_json.specs.View.{view as data_view, items_view as data_items, members_view as data_members}
 use Rattle.serde_json.specs.declared.value.Value.{Value}
-use Rattle.mw_model.specs.Json.{Json, Items, Members, item, member, depth, items_depth, members_depth}
+use Rattle.mw_model.specs.Json.{Json, item, member, depth, items_depth, members_depth}
 use Rattle.mw_json.specs.Reading.{of_data, of_items, of_members}
 use Rattle.mw_json.specs.View.{view, member_view, items_of, members_of, items_view, tree_step, member_step}
 use Rattle.mw_json.specs.Grammar.{items_length}

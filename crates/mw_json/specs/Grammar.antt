@@ -1,10 +1,10 @@
 -- Grammars of JSON files: a value, or the first breach with the steps that lead outward from it.
-use Rattle.std.specs.Prelude.{◌≡◌, ◌==◌, ◌||◌, ◌&&◌, ◌+◌, ℕ, pos, negsuc, List, [], ◌∷◌, ◌++◌, Bool, false, Option, Some, None, Result, Ok, Err, bytes_eq, nat_le, nat_lt, length, chars, codes, decimal, if◌then◌else◌}
-use Rattle.mw_model.specs.Json.{Json, null, flag, whole, not_whole, words, many, members, Items, no_items, item, Members, no_members, member, find_member}
+use Rattle.std.specs.Prelude.{◌≡◌, ◌==◌, ◌||◌, ◌&&◌, ◌+◌, ℕ, pos, negsuc, List, [], ◌∷◌, ◌++◌, Bool, false, Option, Some, None, Result, Ok, Err, nat_le, nat_lt, length, chars, if◌then◌else◌}
+use Rattle.mw_model.specs.Json.{Json, null, flag, whole, not_whole, words, many, members, Items, no_items, item, Members, find_member}
 use Rattle.mw_json.specs.declared.refusal.Kind.{Kind}
 use Rattle.mw_json.specs.declared.refusal.Kind.TheVariants.{MissingField, NotWhole, WrongKind, TooMany, NameTooLong}
 use Rattle.mw_json.specs.declared.refusal.Step.{Step}
-use Rattle.mw_json.specs.declared.refusal.Step.TheVariants.{Name, Index}
+use Rattle.mw_json.specs.declared.refusal.Step.TheVariants.{Name}
 use Rattle.mw_json.specs.declared.refusal.Refusal.{Refusal}
 use Rattle.mw_json.specs.declared.refusal.Refusal.TheVariants.{Memory, Named}
 

@@ -1,8 +1,8 @@
 -- The reading of a text.
-use Rattle.std.specs.Prelude.{◌≡◌, ◌<◌, ◌≤◌, ℕ, pos, List, Option, Some, None, option_map, IsUtf8}
+use Rattle.std.specs.Prelude.{◌≡◌, ℕ, pos, List, Option, Some, option_map, IsUtf8}
 use Rattle.serde_json.specs.Data as found
 use Rattle.serde_json.specs.Read.{read}
-use Rattle.mw_model.specs.Json.{Json, null, flag, whole, not_whole, words, many, members, Items, no_items, item, Members, no_members, member, depth}
+use Rattle.mw_model.specs.Json.{Json, null, flag, whole, not_whole, words, many, members, Items, no_items, item, Members, no_members, member}
 
 abbrev pub of_number : found.Num → Json
 of_number (found.unsigned n) = whole (pos n)

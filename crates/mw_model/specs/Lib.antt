@@ -1,4 +1,5 @@
 pub mod Checks
+pub mod Examples
 pub mod Items
 pub mod Json
 pub mod Messages

@@ -1,11 +1,11 @@
 -- What a room tells a session, and its JSON, after Archipelago's network protocol.
-use Rattle.std.specs.Prelude.{ℕ, ℤ, pos, ◌∷◌, [], List, Bool, codes, decimal, map, if◌then◌else◌, is_some}
+use Rattle.std.specs.Prelude.{ℕ, ℤ, pos, ◌∷◌, [], List, Bool, codes, decimal, map, if◌then◌else◌}
 use Rattle.std.specs.Ordering.{nat_cmp, is_lt}
 use Rattle.std.specs.Cmp.Lexicographic.{slice_cmp}
 use Rattle.sha1.specs.Sha1.{sha1}
 use Rattle.hex.specs.Hex.{encode_lower}
 use Rattle.mw_model.specs.Items.{NetItem}
-use Rattle.mw_model.specs.Json.{Json, null, flag, whole, words, many, members, Items, no_items, item, Members, no_members, member}
+use Rattle.mw_model.specs.Json.{Json, flag, whole, words, many, members, Items, no_items, item, Members, no_members, member}
 use Rattle.mw_model.specs.Seed.{Game, NamedId}
 use Rattle.mw_model.specs.Spelling.{spelling}
 

@@ -1,7 +1,6 @@
 -- The room: what an event records, and what it owes to each session.
-use Rattle.std.specs.Prelude.{ℕ, ℤ, zero, suc, pos, ◌+◌, ◌-◌, ◌*◌, ◌==◌, ◌&&◌, ◌||◌, ◌++◌, ◌∷◌, [], List, Bool, Option, Some, None, true, false, not, length, drop, map, filter, slice_get, nat_lt, is_some, option_and_then, unwrap_or, bytes_eq, if◌then◌else◌}
-use Rattle.std.specs.Ordering.{int_eq}
-use Rattle.mw_model.specs.Seed.{Seed, Slot, Game, Held, slot_of, held_at}
+use Rattle.std.specs.Prelude.{ℕ, ℤ, zero, suc, pos, ◌+◌, ◌*◌, ◌==◌, ◌&&◌, ◌||◌, ◌++◌, ◌∷◌, [], List, Bool, Option, Some, None, true, false, not, length, drop, map, filter, slice_get, is_some, unwrap_or, bytes_eq, if◌then◌else◌}
+use Rattle.mw_model.specs.Seed.{Seed, Slot, Game, Held, held_at}
 use Rattle.mw_model.specs.Items.{NetItem}
 use Rattle.mw_model.specs.Records.{Record, checks}
 use Rattle.mw_model.specs.Checks.{Check, has_check, checks_at, unseen, checked, view}

@@ -1,5 +1,5 @@
 -- The compact text of a tree, over the tokens of the crate `json`.
-use Rattle.std.specs.Prelude.{ℕ, ℤ, pos, negsuc, List, [], ◌∷◌, ◌++◌, decimal}
+use Rattle.std.specs.Prelude.{ℕ, ℤ, pos, negsuc, List, decimal}
 use Rattle.std.specs.Fmt.{signed_decimal}
 use Rattle.json.specs.Json as json
 use Rattle.json.specs.Tree.{json_tokens}

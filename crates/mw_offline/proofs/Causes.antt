@@ -1,7 +1,7 @@
 -- Causes of what is read, one after the other.
-use Rattle.std.proofs.Common.{◌≡◌, ◌⊎◌, ℕ, List, Option, Ok, refl, sym, subst, inl, inr}
+use Rattle.std.proofs.Common.{◌≡◌, ◌⊎◌, ℕ, List, Option, refl, sym, subst, inl, inr}
 use Rattle.std.proofs.KnownBytes.{Keeps-refl}
-use Rattle.std.specs.Io.KnownBytes.{Consumes, IsAtEnd, Keeps, Appends}
+use Rattle.std.specs.Io.KnownBytes.{Appends}
 use Rattle.mw_edges.specs.Causes.{PutsFront}
 use Rattle.mw_model.specs.Seed.{Seed}
 use Rattle.mw_model.specs.Room.{empty_room}
@@ -96,9 +96,12 @@ named_put stop named file before after old new (inr e) put = subst (λ s. HasPut
 pub ended_for : (stop : Stop) (status : ℕ) (file : Option (Option (List ℕ))) (before after old new : Option (List ℕ)) (told : Told)
     → Ended stop status told → HasCauseIn stop file before after → HasPut stop file before after old new
     → (s : Stop) × Stops s status file before after old new told
-ended_for stop status file before after old new told h cause put = (h.named, record {
-  is_status = h.is_status;
-  cause = named_cause stop h.named file before after h.is cause;
-  put = named_put stop h.named file before after old new h.is put;
-  line = h.line;
-})
+ended_for stop status file before after old new told h cause put = (
+  h.named,
+  record {
+    is_status = h.is_status;
+    cause = named_cause stop h.named file before after h.is cause;
+    put = named_put stop h.named file before after old new h.is put;
+    line = h.line;
+  },
+)

@@ -1,10 +1,10 @@
 -- A script with commands is within its limit.
-use Rattle.std.proofs.Common.{◌≡◌, ◌≤◌, ℕ, List, Bool, true, false, length, take, Result, Ok, Err, cond, inl, inr, sym, ap, ◌∙◌}
+use Rattle.std.proofs.Common.{◌≡◌, ◌≤◌, ℕ, List, false, length, take, Ok, Err, cond, inl, inr, sym, ap, ◌∙◌}
 use Rattle.std.proofs.lemmas.Bool.Decides.{leb_tells}
 use Rattle.std.specs.Prelude.{nat_le}
 use Rattle.mw_model.specs.Seed.{Seed}
 use Rattle.mw_offline.specs.Commands.{Command}
-use Rattle.mw_offline.specs.Script.{ScriptRefusal, refused, script_of, max_script, judged, first_refused, too_long as too_long_at}
+use Rattle.mw_offline.specs.Script.{refused, script_of, max_script, judged, first_refused, too_long as too_long_at}
 use Rattle.mw_offline.specs.Lines.{lines_of, ended_lines}
 
 -- one that is longer has none

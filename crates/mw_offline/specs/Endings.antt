@@ -1,5 +1,5 @@
 -- How `drive` ends.
-use Rattle.std.specs.Prelude.{◌≡◌, ◌<◌, ◌≤◌, ◌⊎◌, ◌++◌, ℕ, List, [], length, Option, Some, None, Result, Ok, Err, codes, decimal, ⊤}
+use Rattle.std.specs.Prelude.{◌≡◌, ◌<◌, ◌≤◌, ◌⊎◌, ◌++◌, ℕ, List, length, Option, Some, None, Ok, Err, codes, decimal, ⊤}
 use Rattle.std.specs.Io.KnownBytes.{Consumes, IsAtEnd, Keeps, Appends}
 use Rattle.mw_edges.specs.Causes.{PutsFront, Tells}
 use Rattle.mw_json.specs.Paths.{kind_text, path_text}

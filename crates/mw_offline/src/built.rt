@@ -1,11 +1,8 @@
 ghost use Rattle.std.specs.Prelude.{◌≡◌, ◌&&◌, ◌++◌, ◌∷◌, [], IfOk, OnOk, None, map, is_some, option_map, pos, unwrap_or};
 ghost use Rattle.std.specs.Option.{option_to_list};
 ghost use Rattle.std.specs.Ordering.{int_eq};
-ghost use Rattle.mw_model.specs.Packets.{has_tag as has_tag_lem, has_text as has_text_lem};
 ghost use Rattle.mw_model.specs.Room.{made_by};
-ghost use Rattle.mw_multidata.specs.SeedOf.{IsAccepted};
 ghost use Rattle.mw_packets_in.specs.View.{packet_view};
-ghost use Rattle.mw_room.specs.Playable.{IsPlayable};
 ghost use Rattle.mw_offline.specs.Commands.{command_view};
 ghost use Rattle.mw_offline.specs.Gives.{GivesBuilt, IsAdded};
 ghost use Rattle.mw_offline.specs.Lines.{line_of as line_of_lem};
@@ -14,9 +11,9 @@ ghost use Rattle.mw_offline.specs.Script.{message_packet, connected, connected_b
 use crate::command::Command;
 use crate::line::{Line, line_of};
 use crate::sessions::{add_session, has_session};
-use mw_base::{List, Memory, Text};
+use mw_base::{List, Memory};
 use mw_multidata::Multidata;
-use mw_packets_in::{Packet, only_packet};
+use mw_packets_in::{Packet, has_tag, only_packet};
 use mw_room::connection_made;
 use std::alloc::Global;
 use std::collections::BTreeSet;
@@ -49,48 +46,11 @@ fn packet_in(alloc: Global, message: &str) -> Result<Option<Packet>, Memory>
     only_packet(alloc, message)
 }
 
-/// A seed was accepted.
-fn accepted(seed: &Multidata)
-    ensures { IsAccepted seed.now }
-{
-    let _ = &seed.seed_name;
-}
-
-/// A seed that was accepted has slots and teams in their ranges.
-fn playable(seed: &Multidata)
-    requires { IsAccepted seed.now }
-    ensures { IsPlayable seed.now }
-{
-    let _ = seed;
-}
-
 /// Whether the room accepts a packet as the first Connect of a session.
 fn is_accepted(seed: &Multidata, packet: &Packet) -> bool
     ensures { result ≡ is_some (made_by seed.now (packet_view packet.now) None) }
 {
-    accepted(seed);
-    playable(seed);
     connection_made(seed, packet).is_some()
-}
-
-fn has_text(texts: &[Text], text: &str) -> bool
-    ensures { result ≡ has_text_lem texts.now text.now }
-{
-    for first in texts {
-        if first.as_str() == text {
-            return true;
-        }
-    }
-    false
-}
-
-fn has_tag(tags: &Option<List<Text>>, tag: &str) -> bool
-    ensures { result ≡ has_tag_lem tags.now tag.now }
-{
-    match tags {
-        Some(tags) => has_text(tags.as_slice(), tag),
-        None => false,
-    }
 }
 
 /// Whether a packet's line is built, after lines that connected these sessions.

@@ -5,10 +5,12 @@ mod connect;
 mod message;
 mod packet;
 mod parts;
+mod tags;
 mod whole;
 
 pub use message::only_packet;
 pub use packet::{Packet, Version};
+pub use tags::has_tag;
 
 #[cfg(test)]
 mod tests;

@@ -1,10 +1,9 @@
 -- Trees that can be written, one after another.
-use Rattle.std.proofs.Common.{◌≡◌, ℕ, List, [], ◌∷◌, ◌++◌, map, refl, ap}
-use Rattle.mw_model.specs.Json.{Json, words, item, member, IsWritable, ItemsAreWritable, MembersAreWritable}
+use Rattle.std.proofs.Common.{◌≡◌, ℕ, List, [], ◌∷◌, map, refl, ap}
+use Rattle.mw_model.specs.Json.{Json, words, item, member, MembersAreWritable}
 use Rattle.mw_model.specs.Messages.{GameSum, checksum_members, items_of}
 use Rattle.mw_json.specs.View as seen
 use Rattle.mw_json.specs.View.{view, items_view, members_of}
-use Rattle.mw_json.specs.declared.tree.Tree.{Tree}
 
 pub same_items : (js : List Json) → seen.items_of js ≡ items_of js
 same_items [] = refl

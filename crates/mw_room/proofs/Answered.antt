@@ -1,14 +1,14 @@
 -- What is owed for a packet, by the log.
-use Rattle.std.proofs.Common.{◌≡◌, ℕ, zero, suc, ◌+◌, ◌==◌, List, [], ◌∷◌, ◌++◌, Bool, true, false, length, Option, Some, None, refl, sym, ap, ap₂, ◌∙◌, subst, arith, append-nil, cond}
+use Rattle.std.proofs.Common.{◌≡◌, ℕ, zero, suc, ◌+◌, ◌==◌, List, [], ◌∷◌, ◌++◌, true, false, length, Option, Some, None, refl, sym, ap, ap₂, ◌∙◌, subst, arith, append-nil, cond}
 use Rattle.std.specs.Prelude.{slice_get, is_some}
 use Rattle.std.proofs.lemmas.Bool.Decides.{Decides-eqb}
 use Rattle.mw_model.specs.Seed.{Seed}
 use Rattle.mw_model.specs.Records.{Record}
 use Rattle.mw_model.specs.Packets.{Packet, connect, sync, location_checks}
-use Rattle.mw_model.specs.Messages.{ServerPacket, connected}
-use Rattle.mw_model.specs.Checks.{checked, view}
-use Rattle.mw_model.specs.Room.{Room, Session, Connection, records_of, made_by, connected_of, connected_answer, growth_owed, items_from, items_owed, update_owed, owed_to_sender, owed_to_other, asks_whole, or_else, message_of, with_texts, sender_after, other_after, sessions_after, connection_in, nth_session}
-use Rattle.mw_room.specs.Log.{Logged, checks_in, view_in}
+use Rattle.mw_model.specs.Messages.{connected}
+use Rattle.mw_model.specs.Checks.{checked}
+use Rattle.mw_model.specs.Room.{Room, Session, Connection, records_of, made_by, connected_of, connected_answer, growth_owed, items_from, owed_to_sender, or_else, message_of, with_texts, sender_after, other_after, sessions_after, connection_in, nth_session}
+use Rattle.mw_room.specs.Log.{Logged, view_in}
 use Rattle.mw_room.specs.Stands.{Stands}
 use Rattle.mw_room.specs.Answering.{new_in, other_in, welcome_in, answer_in, after_in, all_after, records_in}
 use Rattle.mw_room.proofs.Grown.{Grows, grows_checks, grows_nothing, record_is, update_is, growth_is, view_now}

@@ -1,10 +1,10 @@
 -- The log that grows, beside the journal's checks.
-use Rattle.std.proofs.Common.{◌≡◌, ℕ, ℤ, ◌+◌, ◌≤◌, ◌<◌, List, [], ◌∷◌, ◌++◌, ◌||◌, ◌&&◌, ◌==◌, Bool, true, false, length, drop, get_or, map, Option, Some, None, refl, sym, ap, ap₂, ◌∙◌, subst, arith, append_assoc, append-nil, cond}
+use Rattle.std.proofs.Common.{◌≡◌, ℕ, ℤ, ◌+◌, ◌<◌, List, [], ◌∷◌, ◌++◌, ◌&&◌, ◌==◌, Bool, true, false, length, drop, get_or, Option, Some, None, refl, sym, ap, ap₂, ◌∙◌, append_assoc, append-nil, cond}
 use Rattle.std.specs.Option.{option_to_list, is_some}
 use Rattle.std.specs.Ordering.{int_eq}
 use Rattle.std.proofs.lemmas.Bool.Decides.{Decides-and, Decides-eqb, Decides-int_eq}
 use Rattle.std.proofs.lemmas.List.{map-append, drop_more}
-use Rattle.mw_model.specs.Seed.{Seed, Held, held_among, held_at}
+use Rattle.mw_model.specs.Seed.{Seed, Held, held_among}
 use Rattle.mw_model.specs.Checks.{Check, has_check, checks_at, unseen, items_found, item_for, found_item}
 use Rattle.mw_model.specs.Room.{known}
 use Rattle.mw_room.specs.Log.{Logged, logged_check, checks_in, AllHeld, items_in, entry_unless, fresh_entry, fresh_entries}

@@ -1,11 +1,8 @@
 -- A journal that grows: what its checks come to.
-use Rattle.std.proofs.Common.{◌≡◌, ℕ, ℤ, ◌+◌, ◌≤◌, ◌<◌, List, [], ◌∷◌, ◌++◌, ◌||◌, ◌&&◌, ◌==◌, Bool, true, false, length, drop, map, filter, Option, Some, None, refl, sym, ap, ap₂, ◌∙◌, subst, arith, append_assoc, append-nil, cond}
-use Rattle.std.proofs.lemmas.List.{map-append}
-use Rattle.std.specs.Ordering.{int_eq}
+use Rattle.std.proofs.Common.{◌≡◌, ℕ, List, [], ◌∷◌, ◌++◌, ◌||◌, ◌&&◌, ◌==◌, Bool, true, false, length, drop, filter, refl, sym, ap, ◌∙◌, append_assoc, append-nil, cond}
 use Rattle.mw_model.specs.Seed.{Seed, slot_of, held_at}
-use Rattle.mw_model.specs.Items.{NetItem}
-use Rattle.mw_model.specs.Records.{Record, checks}
-use Rattle.mw_model.specs.Checks.{Check, same_check, has_check, checks_at, asked_by, asked, unseen, distinct, checked, items_found, item_for, received, view, keeps, start_items}
+use Rattle.mw_model.specs.Records.{Record}
+use Rattle.mw_model.specs.Checks.{Check, same_check, has_check, asked_by, asked, unseen, distinct, checked, items_found, item_for, received, view, keeps, start_items}
 use Rattle.mw_model.specs.Room.{locations_in, checked_of}
 
 pub asked-append : (xs ys : List Record) → asked (xs ++ ys) ≡ asked xs ++ asked ys

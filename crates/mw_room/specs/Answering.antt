@@ -1,5 +1,5 @@
 -- What a packet records and answers, by the log.
-use Rattle.std.specs.Prelude.{ℕ, ◌==◌, ◌+◌, ◌++◌, ◌∷◌, [], List, Bool, true, false, Option, Some, None, map, if◌then◌else◌}
+use Rattle.std.specs.Prelude.{ℕ, ◌==◌, ◌+◌, ◌++◌, ◌∷◌, [], List, Bool, true, false, Option, Some, None, map}
 use Rattle.mw_model.specs.Seed.{Seed}
 use Rattle.mw_model.specs.Records.{Record}
 use Rattle.mw_model.specs.Packets.{Packet, connect, sync, location_checks}

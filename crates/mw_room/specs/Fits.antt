@@ -1,8 +1,8 @@
 -- A plan that was made of a room.
-use Rattle.std.specs.Prelude.{◌≡◌, ◌<◌, ◌+◌, ◌^◌, ◌++◌, ◌∷◌, [], List, map, length, vec_len, option_to_list}
+use Rattle.std.specs.Prelude.{◌<◌, ◌+◌, ◌^◌, ◌++◌, ◌∷◌, [], List, map, length, vec_len, option_to_list}
 use Rattle.mw_room.specs.Space.{HasSpace}
 use Rattle.mw_room.specs.Stands.{Stands}
-use Rattle.mw_room.specs.Views.{room_view, plan_records}
+use Rattle.mw_room.specs.Views.{plan_records}
 use Rattle.mw_records.specs.Records.{record_view}
 use Rattle.mw_room.specs.declared.session.Session.{Session}
 use Rattle.mw_room.specs.declared.session.Change.{Change}

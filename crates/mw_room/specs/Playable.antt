@@ -1,5 +1,5 @@
 -- A seed file whose slots and teams have numbers.
-use Rattle.std.specs.Prelude.{◌≤◌, ℕ, List, All, length}
+use Rattle.std.specs.Prelude.{◌≤◌, All, length}
 use Rattle.mw_model.specs.Seed.{Seed, Slot}
 
 -- a slot has a name in each of at most eight teams

@@ -1,5 +1,5 @@
 -- The room as plain data.
-use Rattle.std.specs.Prelude.{◌≡◌, ◌++◌, ◌∷◌, [], ℕ, List, Option, map, length, option_to_list}
+use Rattle.std.specs.Prelude.{◌++◌, ◌∷◌, [], ℕ, List, map, option_to_list}
 use Rattle.mw_model.specs.Room as plain
 use Rattle.mw_model.specs.Records as recorded
 use Rattle.mw_records.specs.Records.{record_view}

@@ -3,9 +3,7 @@ ghost use Rattle.std.specs.Option.{option_copied};
 ghost use Rattle.mw_model.specs.Room.{empty_room, new_session as new_session_lem, next, records_by, taken, nth_session, connection_in, session_of, opened, sent};
 ghost use Rattle.mw_packets_in.specs.View.{packet_view};
 ghost use Rattle.mw_room.specs.Events.{event_view};
-ghost use Rattle.mw_multidata.specs.SeedOf.{IsAccepted};
 ghost use Rattle.mw_room.specs.Fits.{Fits};
-ghost use Rattle.mw_room.specs.Playable.{IsPlayable};
 ghost use Rattle.mw_room.specs.States.{state_of, untaken_in, IsOpen};
 ghost use Rattle.mw_room.specs.Views.{room_view, session_view, plan_records, planned};
 
@@ -14,23 +12,16 @@ use crate::changes::new_entries;
 use crate::event::Event;
 use crate::growth::Growth;
 use crate::plan::Plan;
+use crate::playable::playable;
 use crate::room::Room;
 use crate::session::{Connection, Session};
 use crate::state::SessionState;
 use crate::steps::{change_all, changes_for, records_for};
 use mw_base::{List, Memory, SessionId, Text};
-use mw_multidata::{Multidata, RoomTables};
+use mw_multidata::RoomTables;
 use mw_packets_in::Packet;
 use mw_packets_out::{ServerPacket, write_message};
 use std::alloc::Global;
-
-/// A seed file that was accepted has slots and teams in their ranges.
-fn playable(seed: &Multidata)
-    requires { IsAccepted seed.now }
-    ensures { IsPlayable seed.now }
-{
-    let _ = seed;
-}
 
 /// The session at an index, which counts from 0.
 fn session_before(sessions: &[Session], before: usize) -> Option<&Session>

@@ -1,16 +1,17 @@
 ghost use Rattle.std.specs.Prelude.{◌≡◌, ◌≤◌, pos, length, unwrap_or, Some, None, if◌then◌else◌};
 ghost use Rattle.std.specs.Option.{option_copied};
-ghost use Rattle.mw_model.specs.Packets.{team_named as team_named_lem, player_named as player_named_lem, has_text, text_or_empty, has_tag as has_tag_lem, looks_on as looks_on_lem, is_game_of as is_game_of_lem, is_old as is_old_lem, is_mask, is_wrong_password as is_wrong_password_lem, slot_played as slot_played_lem};
+ghost use Rattle.mw_model.specs.Packets.{team_named as team_named_lem, player_named as player_named_lem, text_or_empty, looks_on as looks_on_lem, is_game_of as is_game_of_lem, is_old as is_old_lem, is_mask, is_wrong_password as is_wrong_password_lem, slot_played as slot_played_lem};
 ghost use Rattle.mw_model.specs.Room.{made_by, mask_of};
 ghost use Rattle.mw_packets_in.specs.View.{packet_view};
 ghost use Rattle.mw_room.specs.Accepting.{accept as accept_lem, connection_unless as connection_unless_lem};
 ghost use Rattle.mw_room.specs.Playable.{IsPlayable};
 
 use crate::owed::slot_at;
+use crate::playable::playable;
 use crate::session::Connection;
 use mw_base::{List, SlotId, TeamId, Text};
 use mw_multidata::{Multidata, Slot};
-use mw_packets_in::{Packet, Version};
+use mw_packets_in::{Packet, Version, has_tag};
 use std::marker::Model;
 
 /// A player: the team, and the slot.
@@ -56,26 +57,6 @@ pub fn player_named(seed: &Multidata, name: &str) -> Option<Player>
         }
     }
     None
-}
-
-fn has_tag(tags: &Option<List<Text>>, tag: &str) -> bool
-    ensures { result ≡ has_tag_lem tags.now tag.now }
-{
-    match tags {
-        Some(tags) => is_among(tags.as_slice(), tag),
-        None => false,
-    }
-}
-
-fn is_among(texts: &[Text], text: &str) -> bool
-    ensures { result ≡ has_text texts.now text.now }
-{
-    for first in texts {
-        if first.as_str() == text {
-            return true;
-        }
-    }
-    false
 }
 
 fn or_empty(text: &Option<Text>) -> &str
@@ -179,9 +160,9 @@ fn accept(
 
 /// The connection that a packet makes for a session that isn't connected.
 pub fn connection_made(seed: &Multidata, packet: &Packet) -> Option<Connection>
-    requires { IsPlayable seed.now }
     ensures { result ≡ made_by seed.now (packet_view packet.now) None }
 {
+    playable(seed);
     match packet {
         Packet::Connect {
             name,

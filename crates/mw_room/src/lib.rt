@@ -11,6 +11,7 @@ mod log;
 mod logged;
 mod owed;
 mod plan;
+mod playable;
 mod room;
 mod session;
 mod state;

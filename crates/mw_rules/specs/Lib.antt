@@ -1,4 +1,5 @@
 pub mod Rule
+pub mod Examples
 pub mod Holds
 pub mod Names
 pub mod View

@@ -1,4 +1,4 @@
-use Rattle.std.proofs.Common.{◌≡◌, ◌<◌, refl, ap, subst, arith}
+use Rattle.std.proofs.Common.{◌≡◌, refl, ap, subst, arith}
 use Rattle.mw_model.specs.Seed.{Seed}
 use Rattle.mw_multidata.specs.SeedOf.{IsAccepted}
 use Rattle.mw_multidata.proofs.Accepted.{some_team}

@@ -1,4 +1,4 @@
-use Rattle.std.proofs.Common.{◌≡◌, ℕ, refl, sym, inl, inr, arith}
+use Rattle.std.proofs.Common.{refl, sym, inl, inr, arith}
 use Rattle.mw_offline.specs.declared.stop.Stop.TheVariants.{Fault, Memory}
 use Rattle.mw_offline.proofs.stop.end.Goals as goal
 

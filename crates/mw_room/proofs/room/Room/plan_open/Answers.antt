@@ -1,4 +1,4 @@
-use Rattle.std.proofs.Common.{◌≡◌, ◌∷◌, ◌++◌, ◌+◌, ◌<◌, ◌^◌, [], ℕ, List, length, map, refl, sym, ap, ap₂, ◌∙◌, subst, arith, append-nil}
+use Rattle.std.proofs.Common.{◌≡◌, ◌∷◌, ◌++◌, ◌+◌, ◌<◌, ◌^◌, [], List, length, map, sym, ap, ap₂, ◌∙◌, subst, arith, append-nil}
 use Rattle.mw_model.specs.Records as recorded
 use Rattle.mw_model.specs.Room as plain
 use Rattle.mw_records.specs.Records.{record_view}
@@ -8,7 +8,6 @@ use Rattle.mw_room.specs.Log.{Logged}
 use Rattle.mw_room.specs.Space.{HasSpace}
 use Rattle.mw_room.specs.Stands.{Stands}
 use Rattle.mw_room.specs.Views.{room_view, session_view, all_changed}
-use Rattle.mw_room.specs.declared.session.Session.{Session}
 use Rattle.mw_room.specs.declared.session.Change.{Change}
 use Rattle.mw_room.proofs.Changing.{all_changed-none, no_changes_fit}
 use Rattle.mw_room.proofs.Grown.{nothing_stands}

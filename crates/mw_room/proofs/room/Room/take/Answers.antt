@@ -1,9 +1,8 @@
-use Rattle.std.proofs.Common.{◌≡◌, ◌<◌, ◌≤◌, ◌-◌, [], ℕ, List, Vec, Global, Option, length, map, get_or, set, sym, ap, ap₂, ◌∙◌, subst, arith}
+use Rattle.std.proofs.Common.{◌≡◌, ◌<◌, ◌-◌, [], ℕ, List, Vec, Global, Option, length, map, get_or, set, ap, ap₂, ◌∙◌, subst}
 use Rattle.std.proofs.lemmas.List.{length-map}
 use Rattle.mw_model.specs.Room as plain
 use Rattle.mw_records.specs.Records.{record_view}
-use Rattle.mw_room.specs.States.{untaken_in}
-use Rattle.mw_room.specs.Views.{room_view, session_view}
+use Rattle.mw_room.specs.Views.{session_view}
 use Rattle.mw_room.specs.declared.session.Session.{Session}
 use Rattle.mw_room.proofs.Sessions.{open_number, untaken_is, taken_is}
 use Rattle.mw_room.proofs.room.Room.take.Goals as goal
