@@ -2,7 +2,7 @@ ghost use Rattle.std.specs.Prelude.{None};
 
 use crate::run::run;
 use mw_base::{Bytes, List, SessionId, Text};
-use mw_edges::{Faults, MemoryFolder, MemorySink, MemorySource, Sink, SinkError};
+use mw_edges::{Faults, MemoryFolder, MemorySink, MemorySource, Sink, SinkError, Tally};
 use mw_multidata::{RoomTables, read};
 use mw_room::{Event, Room, SessionState};
 use std::alloc::Global;
@@ -313,14 +313,19 @@ fn cut_seed_file(rt: HostRuntime) -> Result<(), Fail> {
 
 /// A sink without memory. It tells no content.
 #[derive(Drop)]
-struct FullSink;
+struct FullSink {
+    refused: Tally,
+}
 
 impl Sink for FullSink {
     ghost held = { λ _. None };
 
     ghost faults = { λ _. 0 };
 
+    ghost refusals = { λ s. s.refused };
+
     fn put(&mut self, _bytes: &[u8]) -> Result<(), SinkError> {
+        self.refused.raise();
         Err(SinkError::Memory)
     }
 }
@@ -332,7 +337,9 @@ fn no_memory(rt: HostRuntime) -> Result<(), Fail> {
     files.push((Text::of(alloc, "A")?, bytes_of(alloc, ROOM_A.as_bytes())?))?;
     let mut folder = MemoryFolder::new(files, faults(alloc, NEVER)?);
     let mut input = MemorySource::new(bytes_of(alloc, b"open\n")?, faults(alloc, NEVER)?);
-    let mut out = FullSink;
+    let mut out = FullSink {
+        refused: Tally::new(),
+    };
     let mut err = MemorySink::new(alloc, faults(alloc, NEVER)?);
     let words = vec![in alloc; Text::of(alloc, "drive")?, Text::of(alloc, "A")?]?;
     let status = run(alloc, &words, &mut folder, &mut input, &mut out, &mut err);
