@@ -1,7 +1,13 @@
+pub mod Files
+pub mod Joint
+pub mod JointOf
+pub mod Labels
 pub mod Names
+pub mod OptionNames
 pub mod Players
 pub mod PlayersKept
 pub mod RuleCode
 pub mod RulesKept
+pub mod Steps
 pub mod World
 pub mod WorldKept

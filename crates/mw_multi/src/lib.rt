@@ -1,18 +1,32 @@
 //! The tables of worlds and of players, and the worlds of all slots joined.
 #![tactic(auto)]
 
+mod build;
 mod entrance;
+mod files;
+mod games;
 mod item;
+mod joint;
+mod labels;
 mod location;
+mod names;
+mod options;
 mod player;
 mod players;
+mod refusal;
+mod slot;
+mod slots;
+mod text;
 mod world;
 
 pub use entrance::Entrance;
 pub use item::{Class, Item};
+pub use joint::Joint;
 pub use location::{LocKind, Location};
 pub use player::{Options, Player, StartEntry};
 pub use players::Players;
+pub use refusal::{JointRefusal, OptionName};
+pub use slot::Slot;
 pub use world::{PoolEntry, World};
 
 #[cfg(test)]

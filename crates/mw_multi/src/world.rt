@@ -83,3 +83,24 @@ impl Model for World {
       goal = rule_view w.goal;
     } };
 }
+
+impl World {
+    ghost use Rattle.std.specs.Prelude.{◌≡◌, ◌≤◌, length};
+    ghost use Rattle.mw_multi.specs.World.{place_count};
+
+    /// How many places it has, at most 15,000.
+    pub fn place_count(&self) -> u32
+        ensures value { result ≡ place_count self.now }
+        ensures few { result ≤ 15000 }
+    {
+        (self.regions.len() + self.locations.len()) as u32
+    }
+
+    /// How many items it has, at most 10,000.
+    pub fn item_count(&self) -> u32
+        ensures value { result ≡ length self.now.items }
+        ensures few { result ≤ 10000 }
+    {
+        self.items.len() as u32
+    }
+}
