@@ -17,6 +17,7 @@ mod refusal;
 mod slot;
 mod slots;
 mod text;
+mod tree_rules;
 mod world;
 
 pub use entrance::Entrance;
@@ -27,6 +28,7 @@ pub use player::{Options, Player, StartEntry};
 pub use players::Players;
 pub use refusal::{JointRefusal, OptionName};
 pub use slot::Slot;
+pub use tree_rules::TreeRules;
 pub use world::{PoolEntry, World};
 
 #[cfg(test)]
