@@ -1,3 +1,4 @@
+pub mod Counts
 pub mod FileNames
 pub mod Fronts
 pub mod Indexes

@@ -1,6 +1,7 @@
 //! The tables of worlds and of players, and the worlds of all slots joined.
 #![tactic(auto)]
 
+mod bag;
 mod build;
 mod entrance;
 mod files;
@@ -11,6 +12,7 @@ mod labels;
 mod location;
 mod names;
 mod options;
+mod placement;
 mod player;
 mod players;
 mod refusal;
@@ -20,10 +22,12 @@ mod text;
 mod tree_rules;
 mod world;
 
+pub use bag::Bag;
 pub use entrance::Entrance;
 pub use item::{Class, Item};
 pub use joint::Joint;
 pub use location::{LocKind, Location};
+pub use placement::{Placement, Put};
 pub use player::{Options, Player, StartEntry};
 pub use players::Players;
 pub use refusal::{JointRefusal, OptionName};
