@@ -7,3 +7,4 @@ pub mod Lengths
 pub mod Marks
 pub mod Numbering
 pub mod Samples
+pub mod Standing

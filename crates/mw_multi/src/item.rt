@@ -32,3 +32,15 @@ impl Model for Item {
 
     ghost view = { λ i. record { name = i.name; id = i.id; class = i.class } };
 }
+
+impl Item {
+    ghost use Rattle.std.specs.Prelude.{◌≡◌};
+    ghost use Rattle.mw_multi.specs.RulesKept.{is_progression};
+
+    /// Whether it is of class progression.
+    pub fn is_progression(&self) -> bool
+        ensures { result ≡ is_progression self.now.class }
+    {
+        matches!(self.class, Class::Progression)
+    }
+}
