@@ -27,20 +27,6 @@ impl Model for Bag {
     ghost invariant = { λ b. All (λ n. n < 2 ^ 31) b.counts.items };
 }
 
-/// How many items the slots have together.
-fn items_in(slots: &[Slot]) -> usize
-    requires { length slots.now ≤ 1024 }
-    ensures value { result ≡ item_total slots.now }
-    ensures few { result ≤ 10000 * length slots.now }
-{
-    let mut total = 0;
-    for slot in slots {
-        let world = slot.world;
-        total += world.item_count() as usize;
-    }
-    total
-}
-
 /// Adds the copies of entries of a slot.
 fn add_entries(bag: &mut Bag, first_item: u32, entries: &[PoolEntry])
     requires few { length bag.old < 2 ^ 31 }
@@ -106,7 +92,7 @@ impl Bag {
     pub fn empty(alloc: Global, joint: &Joint) -> Result<Bag, Memory>
         ensures { IfOk result (λ bag. bag ≡ replicate (item_total joint.now.slots) 0) }
     {
-        let counts = vec![in alloc; 0; items_in(joint.slots.as_slice())]?;
+        let counts = vec![in alloc; 0; joint.item_count() as usize]?;
         Ok(Bag { counts })
     }
 

@@ -8,9 +8,9 @@ use crate::joint::Joint;
 use crate::names::Names;
 use crate::players::Players;
 use crate::refusal::JointRefusal;
-use crate::slot::Slot;
 use crate::slots::slots_in;
 use crate::text::text_in;
+use crate::totals::places_in;
 use crate::world::World;
 use mw_base::{List, Memory};
 use std::alloc::Global;
@@ -24,19 +24,6 @@ fn names_of<'a>(alloc: Global, worlds: &'a [World]) -> Result<List<Names<'a>>, M
         names.push(Names::of(alloc, world)?)?;
     }
     Ok(names)
-}
-
-/// How many places the slots have together.
-fn places_in(slots: &[Slot]) -> u64
-    requires { length slots.now ≤ 1024 }
-    ensures { result ≡ place_total slots.now }
-{
-    let mut total = 0;
-    for slot in slots {
-        let world = slot.world;
-        total += world.place_count() as u64;
-    }
-    total
 }
 
 /// There are not too many places.
@@ -87,7 +74,7 @@ impl<'a> Joint<'a> {
             names.as_slice(),
             players.players.as_slice(),
         )?;
-        judge_places(places_in(slots.as_slice()))?;
+        judge_places(places_in(slots.as_slice()) as u64)?;
         judge_text(text_in(worlds))?;
         Ok(Joint { players, slots })
     }

@@ -20,6 +20,7 @@ mod refusal;
 mod slot;
 mod slots;
 mod text;
+mod totals;
 mod tree_rules;
 mod world;
 

@@ -72,21 +72,8 @@ fn number_of(joint: &Joint, put: Put) -> Option<u32>
     }
 }
 
-/// How many places the slots have together.
-fn places_in(slots: &[Slot]) -> usize
-    requires { length slots.now ≤ 1024 }
-    ensures { result ≡ place_total slots.now }
-{
-    let mut total = 0;
-    for slot in slots {
-        let world = slot.world;
-        total += world.place_count() as usize;
-    }
-    total
-}
-
 /// An empty entry for each of so many places.
-fn empty_table(alloc: Global, places: usize) -> Result<Vec<List<u32>>, Memory>
+fn empty_table(alloc: Global, places: u32) -> Result<Vec<List<u32>>, Memory>
     ensures { IfOk result (λ table. table.items ≡ replicate places []) }
 {
     let mut table = Vec::new(alloc);
@@ -101,8 +88,7 @@ impl Placed {
     pub fn none(alloc: Global, joint: &Joint) -> Result<Placed, Memory>
         ensures { IfOk result (IsPlaced joint.now.slots []) }
     {
-        let places = places_in(joint.slots.as_slice());
-        let table = empty_table(alloc, places)?;
+        let table = empty_table(alloc, joint.place_count())?;
         Ok(Placed { table })
     }
 

@@ -1,6 +1,6 @@
 use Rattle.std.proofs.Common.{◌≡◌, ◌≤◌, ◌*◌, take}
 use Rattle.mw_multi.specs.Joint.{item_total}
-use Rattle.mw_multi.proofs.bag.items_in.Given as goal
+use Rattle.mw_multi.proofs.totals.items_in.Given as goal
 
 abbrev pub invariant-loop-slot : goal.invariant-loop-slot
 invariant-loop-slot l = record {
