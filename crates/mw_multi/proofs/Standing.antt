@@ -1,7 +1,7 @@
 -- What stands at a place, as one item more is put.
 use Rattle.std.proofs.Common.{◌≡◌, ◌≢◌, ℕ, zero, suc, ◌+◌, ◌-◌, ◌<◌, ◌≤◌, ◌∙◌, sym, ap, List, [], ◌∷◌, ◌++◌, length, get_or, set, Bool, true, false, refl, arith, append-nil, length-set, take, add-one}
-use Rattle.std.specs.Prelude.{Option, Some, None, replicate, is_some, filter, flat_map, nat_lt, ◌==◌, if◌then◌else◌, option_map, slice_get}
-use Rattle.std.proofs.lemmas.Grind.{common_steps, flat_map-append}
+use Rattle.std.specs.Prelude.{Option, Some, is_some, filter, flat_map, nat_lt, ◌==◌, if◌then◌else◌, slice_get}
+use Rattle.std.proofs.lemmas.Grind.{flat_map-append}
 use Rattle.std.proofs.lemmas.Bool.Decides.{Decides-eqb}
 use Rattle.std.proofs.lemmas.List.{get_or-set_same, get_or-set_other}
 use Rattle.std.proofs.Math.Seq.{take-suc}
@@ -10,7 +10,7 @@ use Rattle.std.proofs.lemmas.List.Sums.{sum_by-cons}
 use Rattle.mw_multi.specs.World.{World, place_count}
 use Rattle.mw_multi.specs.Joint.{Slot, AreNumbered, place_total, item_total, slot_places}
 use Rattle.mw_multi.proofs.Numbering.{SlotFits, slot_fits}
-use Rattle.mw_multi.specs.Placement.{Put, Site, slot_at, site_of, site_in, site_from, stands_at, put_numbers, standing, numbers_at, IsPlaced}
+use Rattle.mw_multi.specs.Placement.{Put, Site, slot_at, site_in, site_from, stands_at, put_numbers, standing, numbers_at, IsPlaced}
 
 nat_lt_true : (a b : ℕ) → nat_lt a b ≡ true → a < b
 nat_lt_true a b e = grind arith

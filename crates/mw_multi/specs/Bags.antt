@@ -2,7 +2,7 @@
 use Rattle.std.specs.Prelude.{◌≡◌, ℕ, ◌+◌, ◌==◌, List, length, sum_by, if◌then◌else◌}
 use Rattle.mw_rules.specs.Holds.{bag_of}
 use Rattle.mw_multi.specs.World.{PoolEntry}
-use Rattle.mw_multi.specs.Joint.{Slot, Joint, item_total}
+use Rattle.mw_multi.specs.Joint.{Slot, item_total}
 
 -- what an entry of the slot counts for the item of this number
 abbrev pub entry_count : ℕ → ℕ → PoolEntry → ℕ

@@ -60,3 +60,28 @@ impl<'a> Model for Slot<'a> {
       start = s.start;
     } };
 }
+
+impl<'a> Slot<'a> {
+    ghost use Rattle.std.specs.Prelude.{◌≡◌, ◌<◌, ◌+◌, ◌^◌, length};
+    ghost use Rattle.mw_multi.specs.Joint.{slot_places};
+    ghost use Rattle.mw_multi.specs.Steps.{region_place, location_place};
+
+    /// The number over all slots of a region, given its index.
+    pub fn region_place(&self, region: u32) -> u32
+        requires region { region < length self.now.world.regions }
+        requires fits { self.now.first_place + slot_places self.now < 2 ^ 32 }
+        ensures { result ≡ region_place self.now region }
+    {
+        self.first_place + region
+    }
+
+    /// The number over all slots of a location, given its index; locations come after the regions.
+    pub fn location_place(&self, location: u32) -> u32
+        requires location { location < length self.now.world.locations }
+        requires fits { self.now.first_place + slot_places self.now < 2 ^ 32 }
+        ensures { result ≡ location_place self.now location }
+    {
+        let world = self.world;
+        self.first_place + world.regions.len() as u32 + location
+    }
+}

@@ -1,4 +1,3 @@
-use Rattle.std.proofs.Common.{◌≡◌}
 use Rattle.mw_multi.proofs.Counts.{count_bound}
 use Rattle.mw_multi.proofs.bag.add_pool.Goals as goal
 

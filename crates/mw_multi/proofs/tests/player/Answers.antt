@@ -1,6 +1,4 @@
 use Rattle.std.proofs.Common.{rules}
-use Rattle.std.proofs.lemmas.List.Elements.{All-same}
-use Rattle.mw_multi.specs.Names.{IsName}
 use Rattle.mw_multi.proofs.Samples.{options_kept, player_kept}
 use Rattle.mw_multi.proofs.tests.player.Goals as goal
 

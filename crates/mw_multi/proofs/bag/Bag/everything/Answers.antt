@@ -1,4 +1,4 @@
-use Rattle.std.proofs.Common.{◌≡◌, ◌≤◌, ◌*◌, ap, length, arith}
+use Rattle.std.proofs.Common.{◌≤◌, ◌*◌, ap, length, arith}
 use Rattle.mw_multi.specs.Bags.{start_count}
 use Rattle.mw_multi.proofs.Counts.{items_bound, start_bound}
 use Rattle.mw_multi.proofs.Numbering.{slot_fits}

@@ -1,4 +1,4 @@
-use Rattle.std.proofs.Common.{◌≡◌, take}
+use Rattle.std.proofs.Common.{take}
 use Rattle.mw_multi.proofs.Standing.{next_put}
 use Rattle.mw_multi.proofs.placed.Placed.of.Goals as goal
 

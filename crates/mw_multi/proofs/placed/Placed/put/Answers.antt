@@ -1,4 +1,4 @@
-use Rattle.std.proofs.Common.{◌≡◌, ◌<◌, ◌∙◌, ◌++◌, sym, ap, length, set, arith}
+use Rattle.std.proofs.Common.{◌≡◌, ◌<◌, ◌∙◌, ◌++◌, ap, length, set, arith}
 use Rattle.mw_multi.specs.Placement.{numbers_at, put_numbers}
 use Rattle.mw_multi.proofs.Standing.{site_within, placed_put}
 use Rattle.mw_multi.proofs.placed.Placed.put.Goals as goal
