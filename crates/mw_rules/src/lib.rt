@@ -1,6 +1,7 @@
 //! Rules over the counts of one slot's items and the list of its places.
 #![tactic(auto)]
 
+mod copy;
 mod gather;
 mod judge;
 mod laws;

@@ -1,0 +1,15 @@
+pub mod Bags
+pub mod Files
+pub mod Joint
+pub mod JointOf
+pub mod Labels
+pub mod Names
+pub mod OptionNames
+pub mod Placement
+pub mod Players
+pub mod PlayersKept
+pub mod RuleCode
+pub mod RulesKept
+pub mod Steps
+pub mod World
+pub mod WorldKept

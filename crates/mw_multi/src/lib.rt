@@ -1,0 +1,42 @@
+//! The tables of worlds and of players, and the worlds of all slots joined.
+#![tactic(auto)]
+
+mod bag;
+mod build;
+mod entrance;
+mod files;
+mod games;
+mod item;
+mod joint;
+mod labels;
+mod location;
+mod names;
+mod options;
+mod placed;
+mod placement;
+mod player;
+mod players;
+mod refusal;
+mod slot;
+mod slots;
+mod text;
+mod totals;
+mod tree_rules;
+mod world;
+
+pub use bag::Bag;
+pub use entrance::Entrance;
+pub use item::{Class, Item};
+pub use joint::Joint;
+pub use location::{LocKind, Location};
+pub use placed::Placed;
+pub use placement::{Placement, Put};
+pub use player::{Options, Player, StartEntry};
+pub use players::Players;
+pub use refusal::{JointRefusal, OptionName};
+pub use slot::Slot;
+pub use tree_rules::TreeRules;
+pub use world::{PoolEntry, World};
+
+#[cfg(test)]
+mod tests;

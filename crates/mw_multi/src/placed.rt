@@ -1,0 +1,129 @@
+ghost use Rattle.std.specs.Prelude.{◌≡◌, ◌<◌, ◌≤◌, ◌+◌, ◌^◌, ◌++◌, ◌∷◌, [], List, IfOk, OnOk, OnErr, length, option_copied, option_to_list, slice_index_or, slice_set, replicate, vec_len};
+ghost use Rattle.mw_multi.specs.Joint.{slot_items, place_total};
+ghost use Rattle.mw_multi.specs.Placement.{Put as PlainPut, slot_at, PutKept, IsPlacement, numbers_in, put_numbers, numbers_at, IsPlaced};
+
+use crate::joint::Joint;
+use crate::placement::{Placement, Put};
+use crate::slot::Slot;
+use mw_base::{List, Memory};
+use std::alloc::Global;
+use std::marker::Model;
+
+/// A placement as a table with an entry for each place: the numbers over all slots of the progression item that stands
+/// there, one for each owner of its receiver.
+#[derive(Debug, Drop)]
+pub struct Placed {
+    table: Vec<List<u32>>,
+}
+
+impl Model for Placed {
+    ghost use Rattle.std.specs.Prelude.{ℕ, List};
+
+    ghost Value = { List (List ℕ) };
+
+    ghost view = { λ p. p.table.items };
+}
+
+/// The slot of a number; None exactly where there is no such slot. Numbers count from 1.
+fn slot_of<'a, 'b>(slots: &'a [Slot<'b>], number: u16) -> Option<&'a Slot<'b>>
+    ensures { option_copied result ≡ slot_at slots.now number }
+{
+    if number == 0 {
+        None
+    } else {
+        slots.get(number as usize - 1)
+    }
+}
+
+/// The number over all slots of an item of a slot, where it is a progression item.
+fn number_in(slot: &Slot, item: u32) -> Option<u32>
+    requires { slot.now.first_item + slot_items slot.now < 2 ^ 32 }
+    ensures { option_to_list result ≡ numbers_in item slot.now }
+{
+    let world = slot.world;
+    match world.items.get(item as usize) {
+        Some(found) => {
+            if found.is_progression() {
+                Some(slot.first_item + item)
+            } else {
+                None
+            }
+        }
+        None => None,
+    }
+}
+
+/// One number more at a place. After `Memory` the table is as before.
+fn push_number(table: &mut Vec<List<u32>>, place: u32, number: u32) -> Result<(), Memory>
+    requires { place < vec_len table.old }
+    ensures ok { OnOk result (table.new.items ≡ slice_set table.old.items place (numbers_at table.old.items place ++ number ∷ [])) }
+    ensures err { OnErr result (table.new.items ≡ table.old.items) }
+{
+    table[place as usize].push(number)
+}
+
+/// The number over all slots of what a put stands for, where it is a progression item.
+fn number_of(joint: &Joint, put: Put) -> Option<u32>
+    ensures { option_to_list result ≡ put_numbers joint.now.slots put }
+{
+    match slot_of(joint.slots.as_slice(), put.receiver) {
+        Some(slot) => number_in(slot, put.item),
+        None => None,
+    }
+}
+
+/// An empty entry for each of so many places.
+fn empty_table(alloc: Global, places: u32) -> Result<Vec<List<u32>>, Memory>
+    ensures { IfOk result (λ table. table.items ≡ replicate places []) }
+{
+    let mut table = Vec::new(alloc);
+    for _ in 0..places {
+        table.push(List::new(alloc))?;
+    }
+    Ok(table)
+}
+
+impl Placed {
+    /// A table of the joint's places where nothing stands; `Memory` where memory ran out.
+    pub fn none(alloc: Global, joint: &Joint) -> Result<Placed, Memory>
+        ensures { IfOk result (IsPlaced joint.now.slots []) }
+    {
+        let table = empty_table(alloc, joint.place_count())?;
+        Ok(Placed { table })
+    }
+
+    /// Puts one item more into a table of the joint. After `Memory` the table is as before.
+    pub fn put(&mut self, joint: &Joint, put: Put) -> Result<(), Memory>
+        requires size { length self.old ≡ place_total joint.now.slots }
+        requires kept { PutKept joint.now.slots put }
+        ensures ok { OnOk result ((puts : List PlainPut) → IsPlaced joint.now.slots puts self.old → IsPlaced joint.now.slots (puts ++ put ∷ []) self.new) }
+        ensures err { OnErr result (self.new ≡ self.old) }
+    {
+        let Some(number) = number_of(joint, put) else {
+            return Ok(());
+        };
+        push_number(&mut self.table, put.place, number)?;
+        Ok(())
+    }
+
+    /// The table of a placement of the joint; `Memory` where memory ran out.
+    pub fn of(alloc: Global, joint: &Joint, placement: &Placement) -> Result<Placed, Memory>
+        requires { IsPlacement joint.now placement.now }
+        ensures { IfOk result (IsPlaced joint.now.slots placement.now) }
+    {
+        let mut placed = Placed::none(alloc, joint)?;
+        for put in placement.as_slice() {
+            placed.put(joint, *put)?;
+        }
+        Ok(placed)
+    }
+
+    /// The numbers over all slots of what stands at a place.
+    pub fn at(&self, place: u32) -> &[u32]
+        requires { place < length self.now }
+        ensures { result.now ≡ numbers_at self.now place }
+    {
+        let entry = &self.table[place as usize];
+        entry.as_slice()
+    }
+}
