@@ -1,0 +1,9 @@
+pub mod Accepted
+pub mod Distinct
+pub mod Fronts
+pub mod Indexing
+pub mod Passing
+pub mod RawKept
+pub mod Read
+pub mod RuleResolved
+pub mod Shaped

@@ -1,0 +1,13 @@
+pub mod Lists
+pub mod Names
+pub mod Raw
+pub mod RawCode
+pub mod RawView
+pub mod RawViews
+pub mod RuleNames
+pub mod RuleShape
+pub mod Sizes
+pub mod Small
+pub mod WorldNames
+pub mod WorldOf
+pub mod WorldShape
