@@ -40,7 +40,7 @@ unless : (most : ℕ) (s : List ℕ) (bad : Bool) → (bad ≡ false → (0 < le
 unless most s true h = tt
 unless most s false h = let known = h refl in where_true (IsName most) (nat_le (length (chars s)) most) s NameTooLong (λ e. record { there = known.0; short = short most s e; plain = known.1 })
 
-name_of-kept : (most : ℕ) (s : List ℕ) → IfOk (name_of most s) (IsName most)
+pub name_of-kept : (most : ℕ) (s : List ℕ) → IfOk (name_of most s) (IsName most)
 name_of-kept most s = unless most s ((length s == 0) || has_control s) (λ e. (there s (has_control s) e, plain s (no_control s (has_control s) e)))
 
 pub name_kept : (most : ℕ) (j : Json) → IfOk (name_at most j) (IsName most)

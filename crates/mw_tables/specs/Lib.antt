@@ -1,5 +1,7 @@
 pub mod Lists
 pub mod Names
+pub mod PlayersOf
+pub mod PlayersShape
 pub mod Raw
 pub mod RawCode
 pub mod RawView

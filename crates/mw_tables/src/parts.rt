@@ -28,7 +28,8 @@ pub(crate) fn count_in(alloc: Global, tree: &Tree) -> Result<u32, Refusal>
     Ok(number as u32)
 }
 
-fn names_from(alloc: Global, items: &[Tree]) -> Result<List<Text>, Refusal>
+/// Names, one after another.
+pub(crate) fn names_from(alloc: Global, items: &[Tree]) -> Result<List<Text>, Refusal>
     ensures { Gives result (each_from (name_at 128) 0 (items_view items.now)) }
 {
     let mut names = List::new(alloc);
