@@ -3,7 +3,8 @@ use Rattle.std.proofs.Common.{◌≡◌, ℕ, ℤ, suc, ◌+◌, ◌<◌, List, 
 use Rattle.std.specs.Prelude.{bytes_eq, IfSome}
 use Rattle.std.specs.Ordering.{int_eq}
 use Rattle.std.proofs.lemmas.List.{map-append, length-map, length-take-le, take_more}
-use Rattle.mw_tables.specs.Names.{index_of, index_of_id, or_here, or_its_place}
+use Rattle.mw_tables.specs.Names.{index_of, index_of_id}
+use Rattle.mw_tables.specs.Noting.{or_here, or_its_place}
 
 later : (found : Option ℕ) (here : Bool) (i : ℕ) → option_map suc (or_here found here i) ≡ or_here (option_map suc found) here (suc i)
 later (Some k) here i = refl

@@ -1,5 +1,6 @@
 pub mod Lists
 pub mod Names
+pub mod Noting
 pub mod PlayersOf
 pub mod PlayersShape
 pub mod Raw

@@ -49,12 +49,3 @@ names_once whole i [] = Ok tt
 names_once whole i (n ∷ ns) = do
   first ← under (Index i) (demand DuplicateName (stands_first whole i n))
   names_once whole (i + 1) ns
-
--- what was found, or else this place where it is the one
-abbrev pub or_here : Option ℕ → Bool → ℕ → Option ℕ
-or_here (Some k) here i = Some k
-or_here None here i = if here then Some i else None
-
-abbrev pub or_its_place : Option ℕ → Option ℤ → ℤ → ℕ → Option ℕ
-or_its_place found (Some id) q i = or_here found (int_eq id q) i
-or_its_place found None q i = found

@@ -1,7 +1,8 @@
 ghost use Rattle.std.specs.Prelude.{◌≡◌, ◌≤◌, ℕ, ℤ, List, bytes_eq, length, map, IfOk, OnOk, OnSome};
 ghost use Rattle.std.specs.Ordering.{int_eq};
 ghost use Rattle.std.specs.HashMap as hash;
-ghost use Rattle.mw_tables.specs.Names.{index_of, index_of_id, or_here, or_its_place};
+ghost use Rattle.mw_tables.specs.Names.{index_of, index_of_id};
+ghost use Rattle.mw_tables.specs.Noting.{or_here, or_its_place};
 
 use crate::names::{HasId, Named};
 use mw_base::Memory;
