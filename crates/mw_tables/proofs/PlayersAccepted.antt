@@ -1,0 +1,231 @@
+-- A players file that is accepted stands for players.
+use Rattle.std.proofs.Common.{◌≡◌, ◌≤◌, ℕ, ◌+◌, List, [], ◌∷◌, ◌++◌, length, Bool, true, false, Result, Ok, if◌then◌else◌, All, refl, sym, ap, ◌∙◌, subst, arith, append-nil, append_assoc}
+use Rattle.std.specs.Str.{chars}
+use Rattle.std.specs.Prelude.{IfOk, codes, nat_le, sum_by, flat_map, bytes_eq, not}
+use Rattle.std.specs.List.{IsDistinct}
+use Rattle.std.proofs.lemmas.Cmp.{nat_list_eq_equiv}
+use Rattle.std.proofs.lemmas.Grind.{common_steps}
+use Rattle.std.proofs.lemmas.List.Elements.{All-nil, All-cons}
+use Rattle.std.proofs.lemmas.Map.Keys.{IsDistinct-push}
+use Rattle.std.proofs.lemmas.Result.{IfOk-weaker, IfOk-at_ok}
+use Rattle.mw_model.specs.Json.{Json, Items, no_items, item, Members, no_members, member}
+use Rattle.mw_json.specs.Grammar.{Breach, under, number_at, text_at, name_of, name_at, list_at, items_length, list_up_to, object_at, field_at}
+use Rattle.mw_json.specs.Parts.{not_empty, list_of_length}
+use Rattle.mw_json.specs.Settings.{password_at, remaining_at, permission_at}
+use Rattle.mw_json.specs.declared.refusal.Kind.TheVariants.{WrongKind, TooMany, NameTooLong, DuplicateName}
+use Rattle.mw_json.specs.declared.refusal.Step.TheVariants.{Name, Index}
+use Rattle.mw_multi.specs.Names.{IsName}
+use Rattle.mw_multi.specs.Players.{StartEntry, Player, Players}
+use Rattle.mw_multi.specs.PlayersKept.{RoomKept, StartKept, start_count, OptionsKept, PlayerKept, player_names, IsPlayers}
+use Rattle.mw_tables.specs.Lists.{each_from, field_or}
+use Rattle.mw_tables.specs.Names.{demand}
+use Rattle.mw_tables.specs.PlayersOf.{has_name, names_differ, players_named}
+use Rattle.mw_tables.specs.PlayersShape.{room_at, usual_room, wishes_at, start_entry_at, start_entries, start_inventory_at, options_at, no_options, team_names_at, player_at, players_from, player_list_at, players_shape_at}
+use Rattle.mw_tables.specs.WorldShape.{format_at}
+use Rattle.mw_tables.proofs.Distinct.{regroup}
+use Rattle.mw_tables.proofs.Passing.{past, after, within, where_true, in_field}
+use Rattle.mw_tables.proofs.RawKept.{field_or_kept}
+use Rattle.mw_tables.proofs.Read.{name_of-kept, name_kept, number_kept, each_kept}
+
+-- ---- the room
+
+abbrev IsPassword : List ℕ → Type 0
+IsPassword s = length (chars s) ≤ 128
+
+few_characters : (n : ℕ) → nat_le n 128 ≡ true → n ≤ 128
+few_characters n h = grind (arith, common_steps)
+
+password_kept : (j : Json) → IfOk (password_at j) IsPassword
+unfolding password_at
+password_kept j = past IsPassword (text_at j) _ (λ s. where_true IsPassword (nat_le (length (chars s)) 128) s NameTooLong (λ e. few_characters (length (chars s)) e))
+
+abbrev IsRemaining : ℕ → Type 0
+IsRemaining n = n ≤ 2
+
+chosen : (b : Bool) (n : ℕ) (other : Result ℕ Breach) → n ≤ 2 → IfOk other IsRemaining → IfOk (if b then Ok n else other) IsRemaining
+chosen true n other h k = h
+chosen false n other h k = k
+
+remaining_kept : (j : Json) → IfOk (remaining_at j) IsRemaining
+unfolding remaining_at
+remaining_kept j = past IsRemaining (text_at j) _ (λ s.
+    chosen (bytes_eq s (codes "disabled")) 0 _ (omega arith)
+    (chosen (bytes_eq s (codes "enabled")) 1 _ (omega arith)
+    (chosen (bytes_eq s (codes "goal")) 2 _ (omega arith) tt)))
+
+abbrev IsUpTo : ℕ → ℕ → Type 0
+IsUpTo most n = (0 ≤ n) × (n ≤ most)
+
+room_kept : (j : Json) → IfOk (room_at j) RoomKept
+unfolding room_at chars
+room_kept j =
+    past RoomKept (object_at j) _ (λ ms.
+    after IsPassword RoomKept (field_or (codes "password") [] password_at ms) _ (field_or_kept IsPassword (codes "password") [] password_at ms (omega arith) password_kept) (λ password p.
+    after (IsUpTo 1000) RoomKept (field_or (codes "hint_cost") 10 (number_at 0 1000) ms) _ (field_or_kept (IsUpTo 1000) (codes "hint_cost") 10 (number_at 0 1000) ms (omega arith, omega arith) (number_kept 0 1000)) (λ hint_cost c.
+    after (IsUpTo 1000000) RoomKept (field_or (codes "location_check_points") 1 (number_at 0 1000000) ms) _ (field_or_kept (IsUpTo 1000000) (codes "location_check_points") 1 (number_at 0 1000000) ms (omega arith, omega arith) (number_kept 0 1000000)) (λ points l.
+    past RoomKept (field_or (codes "release") 6 permission_at ms) _ (λ release.
+    past RoomKept (field_or (codes "collect") 6 permission_at ms) _ (λ collect.
+    after IsRemaining RoomKept (field_or (codes "remaining") 2 remaining_at ms) _ (field_or_kept IsRemaining (codes "remaining") 2 remaining_at ms (omega arith) remaining_kept) (λ remaining r.
+    record { password = p; hint_cost = c.1; location_check_points = l.1; remaining = r })))))))
+
+usual_kept : RoomKept usual_room
+unfolding chars
+usual_kept = record { password = omega arith; hint_cost = omega arith; location_check_points = omega arith; remaining = omega arith }
+
+-- ---- options
+
+names_there : (most : ℕ) (js : Items) → IfOk (each_from (name_at most) 0 js) (λ ns. (length ns ≡ items_length js) × All (IsName most) ns)
+names_there most js = each_kept (IsName most) (name_at most) (name_kept most) 0 js
+
+wishes_kept : (j : Json) → IfOk (wishes_at j) (All (IsName 128))
+unfolding wishes_at
+wishes_kept j = past (All (IsName 128)) (list_at j) _ (λ js. IfOk-weaker (each_from (name_at 128) 0 js) (λ ns. (length ns ≡ items_length js) × All (IsName 128) ns) (All (IsName 128)) (λ ns h. h.1) (names_there 128 js))
+
+entry_kept : (name : List ℕ) (j : Json) → IfOk (start_entry_at name j) StartKept
+unfolding start_entry_at
+entry_kept name j =
+    after (IsName 128) StartKept (name_of 128 name) _ (name_of-kept 128 name) (λ named n.
+    after (λ c. (1 ≤ c) × (c ≤ 256)) StartKept (number_at 1 256 j) _ (number_kept 1 256 j) (λ count c.
+    record { name = n; low = c.0; high = c.1 }))
+
+entries_kept : (ms : Members) → IfOk (start_entries ms) (All StartKept)
+entries_kept no_members = All-nil StartKept
+entries_kept (member name j ms) =
+    after StartKept (All StartKept) (under (Name name) (start_entry_at name j)) _ (within StartKept (Name name) (start_entry_at name j) (entry_kept name j)) (λ first h.
+    after (All StartKept) (All StartKept) (start_entries ms) _ (entries_kept ms) (λ others k. All-cons StartKept first others h k))
+
+record StartsKept (ss : List StartEntry) : Type 0 where
+  each : All StartKept ss
+  together : sum_by start_count ss ≤ 256
+
+few_items : (n : ℕ) → nat_le n 256 ≡ true → n ≤ 256
+few_items n h = grind (arith, common_steps)
+
+starts_kept : (j : Json) → IfOk (start_inventory_at j) StartsKept
+unfolding start_inventory_at
+starts_kept j =
+    past StartsKept (object_at j) _ (λ ms.
+    after (All StartKept) StartsKept (start_entries ms) _ (entries_kept ms) (λ ss h.
+    where_true StartsKept (nat_le (sum_by start_count ss) 256) ss TooMany (λ e. record { each = h; together = few_items (sum_by start_count ss) e })))
+
+options_kept : (j : Json) → IfOk (options_at j) OptionsKept
+unfolding options_at
+options_kept j =
+    let Wishes = All (IsName 128) in
+    past OptionsKept (object_at j) _ (λ ms.
+    after Wishes OptionsKept (field_or (codes "local_items") [] wishes_at ms) _ (field_or_kept Wishes (codes "local_items") [] wishes_at ms (All-nil (IsName 128)) wishes_kept) (λ local a.
+    after Wishes OptionsKept (field_or (codes "non_local_items") [] wishes_at ms) _ (field_or_kept Wishes (codes "non_local_items") [] wishes_at ms (All-nil (IsName 128)) wishes_kept) (λ non_local b.
+    after Wishes OptionsKept (field_or (codes "exclude_locations") [] wishes_at ms) _ (field_or_kept Wishes (codes "exclude_locations") [] wishes_at ms (All-nil (IsName 128)) wishes_kept) (λ exclude c.
+    after Wishes OptionsKept (field_or (codes "priority_locations") [] wishes_at ms) _ (field_or_kept Wishes (codes "priority_locations") [] wishes_at ms (All-nil (IsName 128)) wishes_kept) (λ priority d.
+    after StartsKept OptionsKept (field_or (codes "start_inventory") [] start_inventory_at ms) _ (field_or_kept StartsKept (codes "start_inventory") [] start_inventory_at ms (record { each = All-nil StartKept; together = omega arith }) starts_kept) (λ start s.
+    record { local_items = a; non_local_items = b; exclude_locations = c; priority_locations = d; start_inventory = s.each; together = s.together }))))))
+
+no_options_kept : OptionsKept no_options
+no_options_kept = record { local_items = All-nil (IsName 128); non_local_items = All-nil (IsName 128); exclude_locations = All-nil (IsName 128); priority_locations = All-nil (IsName 128); start_inventory = All-nil StartKept; together = omega arith }
+
+-- ---- players
+
+abbrev HasNames : ℕ → List (List ℕ) → Type 0
+HasNames teams ns = (length ns ≡ teams) × All (IsName 16) ns
+
+team_names_kept : (teams : ℕ) (j : Json) → IfOk (team_names_at teams j) (HasNames teams)
+unfolding team_names_at list_of_length
+team_names_kept teams j =
+    after (λ js. items_length js ≡ teams) (HasNames teams) (list_of_length teams j) _
+    (past (λ js. items_length js ≡ teams) (list_at j) _ (λ js. where_true (λ js. items_length js ≡ teams) _ js WrongKind (λ e. grind (arith, common_steps)))) (λ js h.
+    IfOk-weaker (each_from (name_at 16) 0 js) (λ ns. (length ns ≡ items_length js) × All (IsName 16) ns) (HasNames teams) (λ ns k. (k.0 ∙ h, k.1)) (names_there 16 js))
+
+player_kept : (teams : ℕ) (j : Json) → IfOk (player_at teams j) (PlayerKept teams)
+unfolding player_at
+player_kept teams j =
+    past (PlayerKept teams) (object_at j) _ (λ ms.
+    after (HasNames teams) (PlayerKept teams) (field_at (codes "names") (team_names_at teams) ms) _ (in_field (HasNames teams) (codes "names") (team_names_at teams) ms (team_names_kept teams)) (λ names n.
+    after (IsName 128) (PlayerKept teams) (field_at (codes "world") (name_at 128) ms) _ (in_field (IsName 128) (codes "world") (name_at 128) ms (name_kept 128)) (λ world w.
+    after OptionsKept (PlayerKept teams) (field_or (codes "options") no_options options_at ms) _ (field_or_kept OptionsKept (codes "options") no_options options_at ms no_options_kept options_kept) (λ options o.
+    record { count = n.0; names = n.1; world = w; options = o }))))
+
+abbrev AreKept : ℕ → ℕ → List Player → Type 0
+AreKept teams count ps = (length ps ≡ count) × All (PlayerKept teams) ps
+
+from_kept : (teams i : ℕ) (js : Items) → IfOk (players_from teams i js) (AreKept teams (items_length js))
+from_kept teams i no_items = (refl, All-nil (PlayerKept teams))
+from_kept teams i (item j js) =
+    after (PlayerKept teams) (AreKept teams (items_length (item j js))) (under (Index i) (player_at teams j)) _ (within (PlayerKept teams) (Index i) (player_at teams j) (player_kept teams j)) (λ first h.
+    after (AreKept teams (items_length js)) (AreKept teams (items_length (item j js))) (players_from teams (i + 1) js) _ (from_kept teams (i + 1) js) (λ others k.
+    (omega (arith, k.0), All-cons (PlayerKept teams) first others h k.1)))
+
+record ListKept (teams : ℕ) (ps : List Player) : Type 0 where
+  some_players : 1 ≤ length ps
+  few_players : length ps ≤ 1024
+  each : All (PlayerKept teams) ps
+
+some_there : (js : Items) → IfOk (not_empty js) (λ some. (some ≡ js) × (1 ≤ items_length js))
+some_there no_items = tt
+some_there (item j js) = (refl, omega arith)
+
+players_kept : (teams : ℕ) (j : Json) → IfOk (player_list_at teams j) (ListKept teams)
+unfolding player_list_at list_up_to
+players_kept teams j =
+    after (λ js. items_length js ≤ 1024) (ListKept teams) (list_up_to 1024 j) _
+    (past (λ js. items_length js ≤ 1024) (list_at j) _ (λ js. where_true (λ js. items_length js ≤ 1024) _ js TooMany (λ e. grind (arith, common_steps)))) (λ js h.
+    after (λ some. (some ≡ js) × (1 ≤ items_length js)) (ListKept teams) (not_empty js) _ (some_there js) (λ some k.
+    IfOk-weaker (players_from teams 0 some) (AreKept teams (items_length some)) (ListKept teams)
+    (λ ps l. record { some_players = omega (arith, l.0, ap items_length k.0, k.1); few_players = omega (arith, l.0, ap items_length k.0, h); each = l.1 })
+    (from_kept teams 0 some)))
+
+-- ---- the whole
+
+record IsShaped (p : Players) : Type 0 where
+  some_teams : 1 ≤ p.teams
+  few_teams : p.teams ≤ 8
+  room : RoomKept p.room
+  players : ListKept p.teams p.players
+
+abbrev IsTeams : ℕ → Type 0
+IsTeams n = (1 ≤ n) × (n ≤ 8)
+
+shaped : (j : Json) → IfOk (players_shape_at j) IsShaped
+unfolding players_shape_at
+shaped j =
+    past IsShaped (object_at j) _ (λ ms.
+    past IsShaped (field_at (codes "format") (format_at (codes "mw-players-1")) ms) _ (λ format.
+    after IsTeams IsShaped (field_or (codes "teams") 1 (number_at 1 8) ms) _ (field_or_kept IsTeams (codes "teams") 1 (number_at 1 8) ms (omega arith, omega arith) (number_kept 1 8)) (λ teams t.
+    after RoomKept IsShaped (field_or (codes "room") usual_room room_at ms) _ (field_or_kept RoomKept (codes "room") usual_room room_at ms usual_kept room_kept) (λ room r.
+    after (ListKept teams) IsShaped (field_at (codes "players") (player_list_at teams) ms) _ (in_field (ListKept teams) (codes "players") (player_list_at teams) ms (players_kept teams)) (λ players p.
+    record { some_teams = t.0; few_teams = t.1; room = r; players = p })))))
+
+-- ---- names
+
+not_there : (b : Bool) → IfOk (demand DuplicateName (not b)) (λ _. b ≡ false)
+not_there true = tt
+not_there false = refl
+
+abbrev Apart : List (List ℕ) → Type 0
+Apart ns = IsDistinct bytes_eq ns
+
+apart : (before : List (List ℕ)) (i : ℕ) (ns : List (List ℕ)) → Apart before → IfOk (names_differ before i ns) (λ _. Apart (before ++ ns))
+apart before i [] d = subst Apart (sym (append-nil before)) d
+apart before i (n ∷ ns) d =
+    let New : Unit {0} → Type 0 = λ _. has_name before n ≡ false in
+    after New (λ _. Apart (before ++ n ∷ ns)) (under (Index i) (demand DuplicateName (not (has_name before n)))) _ (within New (Index i) (demand DuplicateName (not (has_name before n))) (not_there (has_name before n))) (λ t h.
+    subst (λ whole. IfOk (names_differ (before ++ n ∷ []) (i + 1) ns) (λ _. Apart whole)) (sym (regroup before n ns)) (apart (before ++ n ∷ []) (i + 1) ns (IsDistinct-push nat_list_eq_equiv before n d h)))
+
+all_apart : (before : List (List ℕ)) (i : ℕ) (ps : List Player) → Apart before → IfOk (players_named before i ps) (λ _. Apart (before ++ flat_map player_names ps))
+all_apart before i [] d = subst Apart (sym (append-nil before)) d
+all_apart before i (p ∷ ps) d =
+    let These : Unit {0} → Type 0 = λ _. Apart (before ++ p.names) in
+    after These (λ _. Apart (before ++ flat_map player_names (p ∷ ps))) (under (Index i) (under (Name (codes "names")) (names_differ before 0 p.names))) _
+    (within These (Index i) (under (Name (codes "names")) (names_differ before 0 p.names)) (within These (Name (codes "names")) (names_differ before 0 p.names) (apart before 0 p.names d))) (λ t h.
+    subst (λ whole. IfOk (players_named (before ++ p.names) (i + 1) ps) (λ _. Apart whole)) (append_assoc before p.names (flat_map player_names ps)) (all_apart (before ++ p.names) (i + 1) ps h))
+
+none_twice : Apart []
+unfolding IsDistinct
+none_twice = tt
+
+-- what has the shape and names that differ is players
+pub is_players : (j : Json) (p : Players) (t : Unit {0}) → players_shape_at j ≡ Ok p → under (Name (codes "players")) (players_named [] 0 p.players) ≡ Ok t → IsPlayers p
+is_players j p t shape names =
+    let h = IfOk-at_ok IsShaped shape (shaped j) in
+    let These : Unit {0} → Type 0 = λ _. Apart (flat_map player_names p.players) in
+    let differ = IfOk-at_ok These names (within These (Name (codes "players")) (players_named [] 0 p.players) (all_apart [] 0 p.players none_twice)) in
+    record { some_teams = h.some_teams; few_teams = h.few_teams; room = h.room; some_players = h.players.some_players; few_players = h.players.few_players; each = h.players.each; differ = differ }

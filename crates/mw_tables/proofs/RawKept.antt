@@ -1,0 +1,175 @@
+-- What the tables of a world keep as they are written.
+use Rattle.std.proofs.Common.{◌≡◌, ◌≤◌, ℕ, ◌+◌, ◌&&◌, List, length, Bool, true, false, Option, Some, None, Result, Ok, Err, if◌then◌else◌, All, arith}
+use Rattle.std.specs.Prelude.{IfOk, bytes_eq, codes, nat_le}
+use Rattle.std.proofs.lemmas.Grind.{common_steps}
+use Rattle.std.proofs.lemmas.Result.{IfOk-weaker}
+use Rattle.mw_model.specs.Json.{Json, null, flag, whole, not_whole, words, many, members, Items, no_items, item, Members, no_members, member, find_member}
+use Rattle.mw_json.specs.Grammar.{Breach, under, refused, number_at, name_at, object_at}
+use Rattle.mw_json.specs.declared.refusal.Kind.TheVariants.{WrongKind, RuleTooLarge}
+use Rattle.mw_json.specs.declared.refusal.Step.TheVariants.{Name, Index}
+use Rattle.mw_multi.specs.RulesKept.{IsCount}
+use Rattle.mw_tables.specs.Raw.{RawRule, always, never, has, has_all, has_any, has_count, reach_region, reach_location, all_of, some_of, RawRules, no_rules, a_rule, rules_of, nodes, depth}
+use Rattle.mw_tables.specs.Lists.{first_at, field_or}
+use Rattle.mw_tables.specs.RuleShape.{names_at, has_at, has_all_at, has_any_at, has_count_at, region_at, location_at, place_at, can_reach_at, reach_in, count_in, leaf_in, leaf_or, all_or, some_or, there, form_at, rules_under, rules_at, rules_from, rule_at}
+use Rattle.mw_tables.proofs.Passing.{past, after, within, where_true}
+use Rattle.mw_tables.proofs.Read.{name_kept, number_kept, list_kept}
+use Rattle.mw_multi.specs.Names.{IsName}
+
+-- each list of names and each count in the rule is in its limits
+abbrev mutual
+  pub InLimits : RawRule → Type 0
+  InLimits always = Unit {0}
+  InLimits never = Unit {0}
+  InLimits (has n k) = IsCount k
+  InLimits (has_all ns) = length ns ≤ 64
+  InLimits (has_any ns) = length ns ≤ 64
+  InLimits (has_count ns k) = (length ns ≤ 64) × IsCount k
+  InLimits (reach_region n) = Unit {0}
+  InLimits (reach_location n) = Unit {0}
+  InLimits (all_of rs) = AreInLimits rs
+  InLimits (some_of rs) = AreInLimits rs
+
+  pub AreInLimits : RawRules → Type 0
+  AreInLimits no_rules = Unit {0}
+  AreInLimits (a_rule r rs) = InLimits r × AreInLimits rs
+
+pub record RawRuleKept (r : RawRule) : Type 0 where
+  pub small : nodes r ≤ 64
+  pub shallow : depth r ≤ 16
+  pub limits : InLimits r
+
+-- the same of a rule that was found, if one was
+abbrev LeafKept : Option RawRule → Type 0
+LeafKept (Some r) = InLimits r
+LeafKept None = Unit {0}
+
+abbrev FoundKept : Option (List RawRule) → Type 0
+FoundKept (Some rs) = AreInLimits (rules_of rs)
+FoundKept None = Unit {0}
+
+abbrev ListKept : List RawRule → Type 0
+ListKept rs = AreInLimits (rules_of rs)
+
+abbrev IsShort : List (List ℕ) → Type 0
+IsShort ns = length ns ≤ 64
+
+module _ {A : Type 0} (P : A → Type 0) where
+  pub first_kept : (found : Option Json) (read : Json → Result A Breach) (next : Result A Breach) → ((j : Json) → IfOk (read j) P) → IfOk next P → IfOk (first_at found read next) P
+  first_kept (Some j) read next h k = h j
+  first_kept None read next h k = k
+
+  pub field_or_kept : (name : List ℕ) (absent : A) (read : Json → Result A Breach) (ms : Members) → P absent → ((j : Json) → IfOk (read j) P) → IfOk (field_or name absent read ms) P
+  field_or_kept name absent read ms here h = first_kept (find_member name ms) (λ j. under (Name name) (read j)) (Ok absent) (λ j. within P (Name name) (read j) (h j)) here
+
+names_short : (j : Json) → IfOk (names_at j) IsShort
+names_short j = IfOk-weaker (names_at j) (λ ns. (length ns ≤ 64) × All (IsName 128) ns) IsShort (λ ns h. h.0) (list_kept (IsName 128) (name_at 128) (name_kept 128) 64 j)
+
+count_kept : (j : Json) → IfOk (number_at 1 10000 j) IsCount
+count_kept j = IfOk-weaker (number_at 1 10000 j) (λ n. (1 ≤ n) × (n ≤ 10000)) IsCount (λ n h. record { low = h.0; high = h.1 }) (number_kept 1 10000 j)
+
+has_kept : (ms : Members) (j : Json) → IfOk (has_at ms j) LeafKept
+unfolding has_at
+has_kept ms j =
+    past LeafKept (under (Name (codes "has")) (name_at 128 j)) _ (λ name.
+    after IsCount LeafKept (field_or (codes "count") 1 (number_at 1 10000) ms) _ (field_or_kept IsCount (codes "count") 1 (number_at 1 10000) ms (record { low = omega arith; high = omega arith }) count_kept) (λ count h. h))
+
+has_all_kept : (j : Json) → IfOk (has_all_at j) LeafKept
+unfolding has_all_at
+has_all_kept j = after IsShort LeafKept (under (Name (codes "has_all")) (names_at j)) _ (within IsShort (Name (codes "has_all")) (names_at j) (names_short j)) (λ names h. h)
+
+has_any_kept : (j : Json) → IfOk (has_any_at j) LeafKept
+unfolding has_any_at
+has_any_kept j = after IsShort LeafKept (under (Name (codes "has_any")) (names_at j)) _ (within IsShort (Name (codes "has_any")) (names_at j) (names_short j)) (λ names h. h)
+
+has_count_kept : (j k : Json) → IfOk (has_count_at j k) LeafKept
+unfolding has_count_at
+has_count_kept j k =
+    after IsShort LeafKept (under (Name (codes "count")) (names_at j)) _ (within IsShort (Name (codes "count")) (names_at j) (names_short j)) (λ names h.
+    after IsCount LeafKept (under (Name (codes "at_least")) (number_at 1 10000 k)) _ (within IsCount (Name (codes "at_least")) (number_at 1 10000 k) (count_kept k)) (λ least l. (h, l)))
+
+place_kept : (j : Json) → IfOk (place_at j) InLimits
+unfolding place_at region_at location_at
+place_kept j = past InLimits (object_at j) _ (λ ms.
+    first_kept InLimits (find_member (codes "region") ms) region_at _ (λ r. past InLimits (under (Name (codes "region")) (name_at 128 r)) _ (λ n. tt))
+    (first_kept InLimits (find_member (codes "location") ms) location_at (refused WrongKind) (λ l. past InLimits (under (Name (codes "location")) (name_at 128 l)) _ (λ n. tt)) tt))
+
+can_reach_kept : (j : Json) → IfOk (can_reach_at j) LeafKept
+unfolding can_reach_at
+can_reach_kept j = after InLimits LeafKept (under (Name (codes "can_reach")) (place_at j)) _ (within InLimits (Name (codes "can_reach")) (place_at j) (place_kept j)) (λ place h. h)
+
+reach_kept : (ms : Members) → IfOk (reach_in ms) LeafKept
+reach_kept ms = first_kept LeafKept (find_member (codes "can_reach") ms) can_reach_at (Ok None) can_reach_kept tt
+
+count_in_kept : (ms : Members) → IfOk (count_in ms) LeafKept
+count_in_kept ms =
+    first_kept LeafKept (find_member (codes "count") ms) (λ j. first_at (find_member (codes "at_least") ms) (has_count_at j) (reach_in ms)) (reach_in ms)
+    (λ j. first_kept LeafKept (find_member (codes "at_least") ms) (has_count_at j) (reach_in ms) (has_count_kept j) (reach_kept ms)) (reach_kept ms)
+
+leaf_kept : (ms : Members) → IfOk (leaf_in ms) LeafKept
+leaf_kept ms =
+    first_kept LeafKept (find_member (codes "has") ms) (has_at ms) _ (has_kept ms)
+    (first_kept LeafKept (find_member (codes "has_all") ms) has_all_at _ has_all_kept
+    (first_kept LeafKept (find_member (codes "has_any") ms) has_any_at (count_in ms) has_any_kept (count_in_kept ms)))
+
+leaf_or_kept : (leaf : Option RawRule) (next : Result RawRule Breach) → LeafKept leaf → IfOk next InLimits → IfOk (leaf_or leaf next) InLimits
+leaf_or_kept (Some r) next h k = h
+leaf_or_kept None next h k = k
+
+all_or_kept : (found : Option (List RawRule)) (next : Result RawRule Breach) → FoundKept found → IfOk next InLimits → IfOk (all_or found next) InLimits
+all_or_kept (Some rs) next h k = h
+all_or_kept None next h k = k
+
+some_or_kept : (found : Option (List RawRule)) (next : Result RawRule Breach) → FoundKept found → IfOk next InLimits → IfOk (some_or found next) InLimits
+some_or_kept (Some rs) next h k = h
+some_or_kept None next h k = k
+
+there_kept : (read : Result (List RawRule) Breach) → IfOk read ListKept → IfOk (there read) FoundKept
+there_kept (Ok rs) h = h
+there_kept (Err e) h = tt
+
+either : (b : Bool) (x y : Result (Option (List RawRule)) Breach) → IfOk x FoundKept → IfOk y FoundKept → IfOk (if b then x else y) FoundKept
+either true x y h k = h
+either false x y h k = k
+
+mutual
+  form_kept : (j : Json) → IfOk (form_at j) InLimits
+  form_kept (flag true) = tt
+  form_kept (flag false) = tt
+  form_kept (members ms) =
+      after LeafKept InLimits (leaf_in ms) _ (leaf_kept ms) (λ leaf h. leaf_or_kept leaf _ h (
+      after FoundKept InLimits (rules_under (codes "and") ms) _ (under_kept (codes "and") ms) (λ all k. all_or_kept all _ k (
+      after FoundKept InLimits (rules_under (codes "or") ms) _ (under_kept (codes "or") ms) (λ some l. some_or_kept some (refused WrongKind) l tt)))))
+  form_kept not_whole = tt
+  form_kept null = tt
+  form_kept (whole z) = tt
+  form_kept (words s) = tt
+  form_kept (many js) = tt
+
+  under_kept : (name : List ℕ) (ms : Members) → IfOk (rules_under name ms) FoundKept
+  under_kept name no_members = tt
+  under_kept name (member k j ms) =
+      either (bytes_eq k name) (there (under (Name name) (rules_at j))) (rules_under name ms) (there_kept (under (Name name) (rules_at j)) (within ListKept (Name name) (rules_at j) (rules_kept j))) (under_kept name ms)
+
+  rules_kept : (j : Json) → IfOk (rules_at j) ListKept
+  rules_kept (many js) = from_kept 0 js
+  rules_kept not_whole = tt
+  rules_kept null = tt
+  rules_kept (flag b) = tt
+  rules_kept (whole z) = tt
+  rules_kept (words s) = tt
+  rules_kept (members ms) = tt
+
+  from_kept : (i : ℕ) (js : Items) → IfOk (rules_from i js) ListKept
+  from_kept i no_items = tt
+  from_kept i (item j js) =
+      after InLimits ListKept (under (Index i) (form_at j)) _ (within InLimits (Index i) (form_at j) (form_kept j)) (λ first h.
+      after ListKept ListKept (rules_from (i + 1) js) _ (from_kept (i + 1) js) (λ others k. (h, k)))
+
+size_known : (n m : ℕ) → (nat_le n 64 && nat_le m 16) ≡ true → (n ≤ 64) × (m ≤ 16)
+size_known n m h = (grind (arith, common_steps), grind (arith, common_steps))
+
+pub rule_kept : (j : Json) → IfOk (rule_at j) RawRuleKept
+unfolding rule_at
+rule_kept j =
+    after InLimits RawRuleKept (form_at j) _ (form_kept j) (λ r h.
+    where_true RawRuleKept (nat_le (nodes r) 64 && nat_le (depth r) 16) r RuleTooLarge (λ e. let known = size_known (nodes r) (depth r) e in record { small = known.0; shallow = known.1; limits = h }))

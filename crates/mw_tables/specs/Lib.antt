@@ -1,0 +1,16 @@
+pub mod Lists
+pub mod Names
+pub mod Noting
+pub mod PlayersOf
+pub mod PlayersShape
+pub mod Raw
+pub mod RawCode
+pub mod RawView
+pub mod RawViews
+pub mod RuleNames
+pub mod RuleShape
+pub mod Sizes
+pub mod Small
+pub mod WorldNames
+pub mod WorldOf
+pub mod WorldShape

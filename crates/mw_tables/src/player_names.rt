@@ -1,0 +1,73 @@
+ghost use Rattle.std.specs.Prelude.{◌≡◌, ◌++◌, ◌∷◌, [], IfOk, IsTrue, OnOk, not, codes};
+ghost use Rattle.mw_json.specs.Grammar.{Gives, under};
+ghost use Rattle.mw_json.specs.declared.refusal.Step.TheVariants.{Name, Index};
+ghost use Rattle.mw_tables.specs.PlayersOf.{has_name, names_differ, players_named};
+
+use indexmap::IndexSet;
+use mw_base::{Memory, Text};
+use mw_json::{Kind, Refusal, at_index, at_name, refuse};
+use mw_multi::Player;
+use std::alloc::Global;
+use std::marker::Model;
+
+/// The names met so far, in their order.
+#[derive(Drop)]
+struct Seen<'a> {
+    names: IndexSet<&'a str>,
+}
+
+impl<'a> Model for Seen<'a> {
+    ghost use Rattle.std.specs.Prelude.{ℕ, List, map};
+
+    ghost Value = { List (List ℕ) };
+
+    ghost view = { λ s. map (λ k. k.now) s.names.keys };
+}
+
+impl<'a> Seen<'a> {
+    fn new(alloc: Global) -> Seen<'a>
+        ensures { result ≡ [] }
+    {
+        Seen {
+            names: IndexSet::new(alloc),
+        }
+    }
+
+    /// Whether a name is new, which is then met.
+    fn note(&mut self, name: &'a str) -> Result<bool, Memory>
+        ensures added { IfOk result (λ added. added ≡ not (has_name self.old name.now)) }
+        ensures grown { IfOk result (λ added. IsTrue added → self.new ≡ self.old ++ name.now ∷ []) }
+    {
+        Ok(self.names.insert(name)?)
+    }
+}
+
+/// The names of the player at an index, none of whom was met before.
+fn judge_team_names<'a>(
+    alloc: Global,
+    seen: &mut Seen<'a>,
+    names: &'a [Text],
+    at: u64,
+) -> Result<(), Refusal>
+    ensures answer { Gives result (under (Index at) (under (Name (codes "names")) (names_differ seen.old 0 names.now))) }
+    ensures grown { OnOk result (seen.new ≡ seen.old ++ names.now) }
+{
+    for (i, name) in names.iter().enumerate() {
+        if !seen.note(name.as_str())? {
+            let refused = at_index(refuse(alloc, Kind::DuplicateName), i as u64);
+            return at_index(at_name(alloc, refused, "names"), at);
+        }
+    }
+    Ok(())
+}
+
+/// No name stands twice over all teams and slots.
+pub(crate) fn judge_players(alloc: Global, players: &[Player]) -> Result<(), Refusal>
+    ensures { Gives result (players_named [] 0 players.now) }
+{
+    let mut seen = Seen::new(alloc);
+    for (i, player) in players.iter().enumerate() {
+        judge_team_names(alloc, &mut seen, player.names.as_slice(), i as u64)?;
+    }
+    Ok(())
+}
