@@ -1,0 +1,12 @@
+pub mod Among
+pub mod Building
+pub mod Counting
+pub mod Found
+pub mod Items
+pub mod Noting
+pub mod Parts
+pub mod Slots
+pub mod Waking
+pub mod Walks
+pub mod Watching
+pub mod Working

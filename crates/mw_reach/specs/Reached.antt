@@ -1,0 +1,46 @@
+-- What was made for a joint.
+use Rattle.std.specs.Prelude.{ℕ, ◌≡◌, ◌<◌, ◌^◌, List, Bool, Some, length, sum_by}
+use Rattle.mw_rules.specs.Holds.{Places, places_of}
+use Rattle.mw_multi.specs.Joint.{Joint, place_total, item_total}
+use Rattle.mw_multi.specs.Steps.{rule_list, steps_of}
+use Rattle.mw_reach.specs.Reach.{Placed}
+use Rattle.mw_reach.specs.Counts.{LiesWithin}
+use Rattle.mw_reach.specs.Rows.{steps_in}
+use Rattle.mw_reach.specs.Building.{AreJointRows}
+use Rattle.mw_reach.specs.declared.work.Work.{Work}
+use Rattle.mw_reach.specs.declared.reached.Reached.{Reached}
+
+-- a count for each item of the joint
+abbrev pub IsBagFor : Joint → List ℕ → Type 0
+IsBagFor joint bag = length bag ≡ item_total joint.slots
+
+-- an entry for each place of the joint, of the joint's items, and fewer than 2^31 together
+pub record IsPlacedFor (joint : Joint) (placed : Placed) : Type 0 where
+  pub size : length placed ≡ place_total joint.slots
+  pub items : LiesWithin (item_total joint.slots) placed
+  pub few : sum_by length placed < 2 ^ 31
+
+-- the rows are the joint's steps, and there is room for each place and each item
+pub record IsWorkFor (joint : Joint) (work : Work) : Type 0 where
+  pub rows : AreJointRows joint work.rows
+  pub steps : steps_in joint work.rows ≡ steps_of joint
+  pub done : length work.done.items ≡ place_total joint.slots
+  pub listed : length work.listed.items ≡ place_total joint.slots
+  pub queue : length work.queue.items ≡ place_total joint.slots
+  pub counts : length work.counts.items ≡ item_total joint.slots
+
+-- it was made for the joint
+abbrev pub IsMadeFor : Joint → Reached → Type 0
+IsMadeFor joint reached = IsWorkFor joint reached.work
+
+-- it keeps the joint's rules
+abbrev pub KeepsRules : Joint → Reached → Type 0
+KeepsRules joint reached = reached.trees ≡ Some (rule_list joint)
+
+-- for each place, whether it was reached
+abbrev pub flags_in : Reached → List Bool
+flags_in reached = reached.work.done.items
+
+-- the places that were reached
+abbrev pub places_in : Reached → Places
+places_in reached = places_of (flags_in reached)

@@ -1,0 +1,126 @@
+ghost use Rattle.std.specs.Prelude.{◌≡◌, ◌+◌, ◌≤◌};
+ghost use Rattle.mw_rules.specs.Holds.{bag_of, places_of};
+ghost use Rattle.mw_multi.specs.Steps.{steps_of, rule_list};
+ghost use Rattle.mw_reach.specs.Reach.{IsLeast};
+ghost use Rattle.mw_reach.specs.Bound.{asks_allowed};
+ghost use Rattle.mw_reach.specs.Reached.{IsBagFor, IsPlacedFor, IsWorkFor, IsMadeFor, KeepsRules, flags_in, places_in};
+
+use crate::reached::Reached;
+use crate::work::Work;
+use crate::worklist::reach_rows;
+use mw_multi::{Bag, Joint, Placed};
+use mw_rules::{Ruling, Steps};
+use std::marker::Brand;
+use std::sync::ledger::{Blank, Ledger};
+
+/// Makes the work's list the least one.
+fn make_least<R: Ruling, L: Ledger>(
+    joint: &Joint,
+    rules: &R,
+    base: &Bag,
+    placed: &Placed,
+    into: &mut Work,
+    steps: &mut Steps<L>,
+)
+    requires rules { R.stands_for rules.now (rule_list joint.now) }
+    requires base { IsBagFor joint.now base.now }
+    requires placed { IsPlacedFor joint.now placed.now }
+    requires into { IsWorkFor joint.now into.old }
+    ensures kept { IsWorkFor joint.now into.new }
+    ensures least { IsLeast (steps_of joint.now) (bag_of base.now) placed.now (places_of into.new.done.items) }
+    ensures steps { steps.new ≤ steps.old + asks_allowed (steps_of joint.now) placed.now into.new.done.items }
+{
+    reach_rows(
+        joint,
+        rules,
+        &into.rows,
+        base.as_slice(),
+        placed,
+        into.done.as_mut_slice(),
+        into.counts.as_mut_slice(),
+        into.listed.as_mut_slice(),
+        into.queue.as_mut_slice(),
+        steps,
+    );
+}
+
+/// Makes `into` the least list of places of the joint that is closed for the base and the placement, and asks these
+/// rules. The asks are counted in `steps`. It takes no memory.
+pub fn reach_by<R: Ruling, L: Ledger>(
+    joint: &Joint,
+    rules: &R,
+    base: &Bag,
+    placed: &Placed,
+    into: &mut Reached,
+    steps: &mut Steps<L>,
+)
+    requires rules { R.stands_for rules.now (rule_list joint.now) }
+    requires base { IsBagFor joint.now base.now }
+    requires placed { IsPlacedFor joint.now placed.now }
+    requires into { IsMadeFor joint.now into.old }
+    ensures kept { IsMadeFor joint.now into.new }
+    ensures rules { KeepsRules joint.now into.old → KeepsRules joint.now into.new }
+    ensures least { IsLeast (steps_of joint.now) (bag_of base.now) placed.now (places_in into.new) }
+    ensures steps { steps.new ≤ steps.old + asks_allowed (steps_of joint.now) placed.now (flags_in into.new) }
+{
+    make_least(joint, rules, base, placed, &mut into.work, steps);
+}
+
+/// Makes `into` the least list of places of the joint that is closed for the base and the placement. The rules that are
+/// asked are counted in `steps`. It takes no memory.
+pub fn reach_counted<L: Ledger>(
+    joint: &Joint,
+    base: &Bag,
+    placed: &Placed,
+    into: &mut Reached,
+    steps: &mut Steps<L>,
+)
+    requires base { IsBagFor joint.now base.now }
+    requires placed { IsPlacedFor joint.now placed.now }
+    requires into { IsMadeFor joint.now into.old }
+    requires rules { KeepsRules joint.now into.old }
+    ensures kept { IsMadeFor joint.now into.new }
+    ensures rules { KeepsRules joint.now into.new }
+    ensures least { IsLeast (steps_of joint.now) (bag_of base.now) placed.now (places_in into.new) }
+    ensures steps { steps.new ≤ steps.old + asks_allowed (steps_of joint.now) placed.now (flags_in into.new) }
+{
+    match &into.trees {
+        Some(trees) => make_least(joint, trees, base, placed, &mut into.work, steps),
+        None => unreachable!(),
+    }
+}
+
+/// `reach_counted` with a counter of its own.
+fn count_and_reach<L: Ledger>(
+    blank: Blank,
+    joint: &Joint,
+    base: &Bag,
+    placed: &Placed,
+    into: &mut Reached,
+)
+    requires name { blank.name ≡ L.name }
+    requires parts { (blank.parts ≡ L.parts) × (blank.parts ≡ 1) }
+    requires base { IsBagFor joint.now base.now }
+    requires placed { IsPlacedFor joint.now placed.now }
+    requires into { IsMadeFor joint.now into.old }
+    requires rules { KeepsRules joint.now into.old }
+    ensures kept { IsMadeFor joint.now into.new }
+    ensures rules { KeepsRules joint.now into.new }
+    ensures least { IsLeast (steps_of joint.now) (bag_of base.now) placed.now (places_in into.new) }
+{
+    let mut steps = Steps::<L>::new(blank);
+    reach_counted(joint, base, placed, into, &mut steps);
+}
+
+/// Makes `into` the least list of places of the joint that is closed for the base and the placement. It takes no memory.
+pub fn reach(joint: &Joint, base: &Bag, placed: &Placed, into: &mut Reached)
+    requires base { IsBagFor joint.now base.now }
+    requires placed { IsPlacedFor joint.now placed.now }
+    requires into { IsMadeFor joint.now into.old }
+    requires rules { KeepsRules joint.now into.old }
+    ensures kept { IsMadeFor joint.now into.new }
+    ensures rules { KeepsRules joint.now into.new }
+    ensures least { IsLeast (steps_of joint.now) (bag_of base.now) placed.now (places_in into.new) }
+{
+    count_and_reach::<Brand>(Blank::new(1), joint, base, placed, into);
+}

@@ -1,0 +1,15 @@
+//! The least list of places that the rules of joined worlds allow.
+#![tactic(auto)]
+
+mod build;
+mod least;
+mod prepare;
+mod reached;
+mod row;
+mod table;
+mod watch;
+mod work;
+mod worklist;
+
+pub use least::{reach, reach_by, reach_counted};
+pub use reached::Reached;
