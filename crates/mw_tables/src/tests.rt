@@ -1,8 +1,6 @@
 use super::*;
-use mw_base::Permission;
 use mw_json::{kind_word, path_words};
-use mw_multi::{Class, LocKind};
-use mw_rules::Rule;
+use mw_multi::{Players, World};
 use std::alloc::Global;
 use std::test::Fail;
 
@@ -11,6 +9,15 @@ const WORLD: &str =
 
 const PLAYERS: &str =
     r#"{"format":"mw-players-1","teams":2,"room":{"password":"pw","hint_cost":5,"location_check_points":2,"release":"goal","collect":"enabled","remaining":"disabled"},"players":[{"names":["Ann","Ada"],"world":"w.json","options":{"local_items":["Sword","Sword"],"start_inventory":{"Coin":2,"Sword":1}}},{"names":["Bob","Bea"],"world":"v.json"}]}"#;
+
+const TABLES_SHOWN: &str =
+    r#"List { items: [Entrance { name: Text { inner: "Down" }, from: 0, to: 1, rule: Has { item: 0, count: 2 } }] } List { items: [PoolEntry { item: 0, count: 3 }] } HasAny(List { items: [2] })"#;
+
+const LOCATIONS_SHOWN: &str =
+    r#"List { items: [Location { name: Text { inner: "First" }, id: Some(LocId { value: 1 }), region: 0, kind: Default, rule: Always, event: None }, Location { name: Text { inner: "Second" }, id: Some(LocId { value: 2 }), region: 1, kind: Priority, rule: Has { item: 0, count: 1 }, event: None }, Location { name: Text { inner: "End" }, id: None, region: 1, kind: Default, rule: And(List { items: [CanReach { place: 2 }, Count { items: List { items: [0, 2] }, at_least: 2 }] }), event: Some(2) }] }"#;
+
+const PLAYERS_SHOWN: &str =
+    r#"2 RoomOptions { password: Text { inner: "pw" }, hint_cost: 5, location_check_points: 2, release: Goal, collect: Enabled, remaining: Disabled } List { items: [Player { names: List { items: [Text { inner: "Ann" }, Text { inner: "Ada" }] }, world: Text { inner: "w.json" }, options: Options { local_items: List { items: [Text { inner: "Sword" }, Text { inner: "Sword" }] }, non_local_items: List { items: [] }, exclude_locations: List { items: [] }, priority_locations: List { items: [] }, start_inventory: List { items: [StartEntry { name: Text { inner: "Coin" }, count: 2 }, StartEntry { name: Text { inner: "Sword" }, count: 1 }] } } }, Player { names: List { items: [Text { inner: "Bob" }, Text { inner: "Bea" }] }, world: Text { inner: "v.json" }, options: Options { local_items: List { items: [] }, non_local_items: List { items: [] }, exclude_locations: List { items: [] }, priority_locations: List { items: [] }, start_inventory: List { items: [] } } }] }"#;
 
 /// The kind and the path of a refusal.
 fn refusal(alloc: Global, error: TableRefusal) -> Result<String, Fail> {
@@ -39,47 +46,26 @@ fn players_answer(alloc: Global, text: &str) -> Result<String, Fail> {
     }
 }
 
+/// The tables of a world in which names are resolved, as they are debugged.
+fn shown(alloc: Global, world: &World) -> Result<String, Fail> {
+    Ok(format!(in alloc; "{:?} {:?} {:?}", world.entrances, world.pool, world.goal)?)
+}
+
+/// The locations of a world, as they are debugged.
+fn locations_shown(alloc: Global, world: &World) -> Result<String, Fail> {
+    Ok(format!(in alloc; "{:?}", world.locations)?)
+}
+
 #[test]
 fn a_world_is_read(rt: HostRuntime) -> Result<(), Fail> {
     let Ok(world) = read_world(rt.alloc(), WORLD.as_bytes()) else {
         return Err(Fail::from("refused"));
     };
-    assert_eq!(rt; world.game.as_str(), "G");
-    assert_eq!(rt; world.origin, 0);
-    assert_eq!(rt; world.regions.len(), 2);
-    assert_eq!(rt; world.items.len(), 3);
+    let tables = shown(rt.alloc(), &world)?;
+    assert_eq!(rt; tables.as_str(), TABLES_SHOWN);
+    let locations = locations_shown(rt.alloc(), &world)?;
+    assert_eq!(rt; locations.as_str(), LOCATIONS_SHOWN);
     assert_eq!(rt; world.filler, 1);
-    let [down] = world.entrances.as_slice() else {
-        return Err(Fail::from("entrances"));
-    };
-    assert_eq!(rt; (down.from, down.to), (0, 1));
-    assert!(rt; matches!(&down.rule, Rule::Has { item: 0, count: 2 }));
-    let [first, second, end] = world.locations.as_slice() else {
-        return Err(Fail::from("locations"));
-    };
-    assert!(rt; matches!(&first.rule, Rule::Always));
-    assert_eq!(rt; first.kind, LocKind::Default);
-    assert_eq!(rt; second.kind, LocKind::Priority);
-    assert_eq!(rt; (second.region, second.event), (1, None));
-    assert!(rt; end.id.is_none());
-    assert_eq!(rt; end.event, Some(2));
-    let Rule::And(parts) = &end.rule else {
-        return Err(Fail::from("rule"));
-    };
-    let [reach, count] = parts.as_slice() else {
-        return Err(Fail::from("parts"));
-    };
-    assert!(rt; matches!(reach, Rule::CanReach { place: 2 }));
-    let Rule::Count { items, at_least } = count else {
-        return Err(Fail::from("count"));
-    };
-    assert_eq!(rt; items.as_slice(), [0, 2].as_slice());
-    assert_eq!(rt; *at_least, 2);
-    let [entry] = world.pool.as_slice() else {
-        return Err(Fail::from("pool"));
-    };
-    assert_eq!(rt; (entry.item, entry.count), (0, 3));
-    assert!(rt; matches!(&world.goal, Rule::HasAny(_)));
     Ok(())
 }
 
@@ -153,6 +139,18 @@ fn each_refusal_of_a_world_has_its_place(rt: HostRuntime) -> Result<(), Fail> {
             r#""count":0}}]"#,
             "WrongKind /entrances/0/rule/count",
         ),
+    ];
+    for (old, new, want) in cases {
+        let text = WORLD.replace(rt.alloc(), old, new)?;
+        let found = world_answer(rt.alloc(), text.as_str())?;
+        assert_eq!(rt; found.as_str(), want, "at {new}");
+    }
+    Ok(())
+}
+
+#[test]
+fn each_refusal_of_locations_and_rules_has_its_place(rt: HostRuntime) -> Result<(), Fail> {
+    let cases = [
         (
             r#""name":"Second","id":2"#,
             r#""name":"First","id":2"#,
@@ -379,31 +377,18 @@ fn limits_of_a_world_hold_at_their_edge(rt: HostRuntime) -> Result<(), Fail> {
     Ok(())
 }
 
+/// The players of a file, as they are debugged.
+fn players_shown(alloc: Global, file: &Players) -> Result<String, Fail> {
+    Ok(format!(in alloc; "{} {:?} {:?}", file.teams, file.room, file.players)?)
+}
+
 #[test]
 fn players_are_read(rt: HostRuntime) -> Result<(), Fail> {
     let Ok(file) = read_players(rt.alloc(), PLAYERS.as_bytes()) else {
         return Err(Fail::from("refused"));
     };
-    assert_eq!(rt; file.teams, 2);
-    assert_eq!(rt; file.room.password.as_str(), "pw");
-    assert_eq!(rt;
-        (file.room.hint_cost, file.room.location_check_points),
-        (5, 2)
-    );
-    assert_eq!(rt; file.room.release, Permission::Goal);
-    assert_eq!(rt; file.room.collect, Permission::Enabled);
-    assert_eq!(rt; file.room.remaining, Permission::Disabled);
-    let [ann, bob] = file.players.as_slice() else {
-        return Err(Fail::from("players"));
-    };
-    assert_eq!(rt; ann.world.as_str(), "w.json");
-    assert_eq!(rt; ann.options.local_items.len(), 2);
-    let [coin, sword] = ann.options.start_inventory.as_slice() else {
-        return Err(Fail::from("start"));
-    };
-    assert_eq!(rt; (coin.name.as_str(), coin.count), ("Coin", 2));
-    assert_eq!(rt; sword.count, 1);
-    assert_eq!(rt; bob.options.start_inventory.len(), 0);
+    let players = players_shown(rt.alloc(), &file)?;
+    assert_eq!(rt; players.as_str(), PLAYERS_SHOWN);
     Ok(())
 }
 
