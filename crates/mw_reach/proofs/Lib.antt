@@ -3,6 +3,7 @@ pub mod Building
 pub mod Counting
 pub mod Found
 pub mod Items
+pub mod Samples
 pub mod SameLeast
 pub mod Noting
 pub mod Parts
