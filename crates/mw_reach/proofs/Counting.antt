@@ -18,36 +18,36 @@ use Rattle.mw_reach.proofs.Among.{place_numbers, item_numbers}
 -- ---- sums
 
 -- the sum of what a function gives below a number
-abbrev sum_below : ℕ → (ℕ → ℕ) → ℕ
+abbrev pub sum_below : ℕ → (ℕ → ℕ) → ℕ
 sum_below zero f = 0
 sum_below (suc n) f = sum_below n f + f n
 
-sum_below-add : (n : ℕ) (f g : ℕ → ℕ) → sum_below n (λ k. f k + g k) ≡ sum_below n f + sum_below n g
+pub sum_below-add : (n : ℕ) (f g : ℕ → ℕ) → sum_below n (λ k. f k + g k) ≡ sum_below n f + sum_below n g
 sum_below-add zero f g = omega arith
 sum_below-add (suc n) f g = omega (arith, sum_below-add n f g)
 
-sum_below-le : (n : ℕ) (f g : ℕ → ℕ) → ((k : ℕ) → f k ≤ g k) → sum_below n f ≤ sum_below n g
+pub sum_below-le : (n : ℕ) (f g : ℕ → ℕ) → ((k : ℕ) → f k ≤ g k) → sum_below n f ≤ sum_below n g
 sum_below-le zero f g h = omega arith
 sum_below-le (suc n) f g h = omega (arith, sum_below-le n f g h, h n)
 
-sum_below-zero : (n : ℕ) → sum_below n (λ k. 0) ≡ 0
+pub sum_below-zero : (n : ℕ) → sum_below n (λ k. 0) ≡ 0
 sum_below-zero zero = refl
 sum_below-zero (suc n) = omega (arith, sum_below-zero n)
 
-sum_below-past : (n m : ℕ) → n ≤ m → sum_below n (λ k. one_if (eqb m k)) ≡ 0
+pub sum_below-past : (n m : ℕ) → n ≤ m → sum_below n (λ k. one_if (eqb m k)) ≡ 0
 sum_below-past zero m h = refl
 sum_below-past (suc n) m h =
     let apart : one_if (eqb m n) ≡ 0 = ap one_if (ne_eqb m n (λ e. absurd (omega arith))) in
     omega (arith, sum_below-past n m (omega arith), apart)
 
-sum_below-one : (n m : ℕ) → m < n → sum_below n (λ k. one_if (eqb m k)) ≡ 1
+pub sum_below-one : (n m : ℕ) → m < n → sum_below n (λ k. one_if (eqb m k)) ≡ 1
 sum_below-one zero m h = absurd (omega arith)
 sum_below-one (suc n) m h = elim (cases_eq m n) [
   | inl same ↦ let here : one_if (eqb m n) ≡ 1 = ap one_if (eq-eqb m n same) in omega (arith, sum_below-past n m (omega arith), here)
   | inr other ↦ let apart : one_if (eqb m n) ≡ 0 = ap one_if (ne_eqb m n other) in omega (arith, sum_below-one n m (omega arith), apart)
 ]
 
-sum_below-first : (n : ℕ) (f : ℕ → ℕ) → sum_below (suc n) f ≡ f 0 + sum_below n (λ k. f (suc k))
+pub sum_below-first : (n : ℕ) (f : ℕ → ℕ) → sum_below (suc n) f ≡ f 0 + sum_below n (λ k. f (suc k))
 sum_below-first zero f = omega arith
 sum_below-first (suc n) f = omega (arith, sum_below-first n f)
 

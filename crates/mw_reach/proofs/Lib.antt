@@ -3,9 +3,12 @@ pub mod Building
 pub mod Counting
 pub mod Found
 pub mod Items
+pub mod Samples
+pub mod SameLeast
 pub mod Noting
 pub mod Parts
 pub mod Slots
+pub mod Placing
 pub mod Waking
 pub mod Walks
 pub mod Watching

@@ -103,7 +103,7 @@ places_before place item [] i d a h = absurd (omega arith)
 places_before place item (s ∷ slots) zero d a h = omega (arith, a.0, sum_by-cons slot_places s slots)
 places_before place item (s ∷ slots) (suc i) d a h = omega (arith, sum_by-cons slot_places s slots, places_before (place + slot_places s) (item + slot_items s) slots i d a.2 (omega arith))
 
-items_before : (place item : ℕ) (slots : List Slot) (i : ℕ) (d : Slot) → AreNumbered place item slots → i < length slots → (get_or slots i d).first_item + slot_items (get_or slots i d) ≤ item + item_total slots
+pub items_before : (place item : ℕ) (slots : List Slot) (i : ℕ) (d : Slot) → AreNumbered place item slots → i < length slots → (get_or slots i d).first_item + slot_items (get_or slots i d) ≤ item + item_total slots
 items_before place item [] i d a h = absurd (omega arith)
 items_before place item (s ∷ slots) zero d a h = omega (arith, a.1, sum_by-cons slot_items s slots)
 items_before place item (s ∷ slots) (suc i) d a h = omega (arith, sum_by-cons slot_items s slots, items_before (place + slot_places s) (item + slot_items s) slots i d a.2 (omega arith))

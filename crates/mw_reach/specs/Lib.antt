@@ -6,3 +6,4 @@ pub mod Tables
 pub mod Worklist
 pub mod Building
 pub mod Reached
+pub mod Samples

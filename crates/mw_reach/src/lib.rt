@@ -13,3 +13,6 @@ mod worklist;
 
 pub use least::{reach, reach_by, reach_counted};
 pub use reached::Reached;
+
+#[cfg(test)]
+mod tests;
