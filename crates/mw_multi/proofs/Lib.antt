@@ -7,4 +7,5 @@ pub mod Lengths
 pub mod Marks
 pub mod Numbering
 pub mod Samples
+pub mod Sites
 pub mod Standing

@@ -1,4 +1,5 @@
 pub mod Bags
+pub mod Events
 pub mod Files
 pub mod Joint
 pub mod JointOf

@@ -6,4 +6,5 @@ pub mod Tables
 pub mod Worklist
 pub mod Building
 pub mod Reached
+pub mod Goals
 pub mod Samples
