@@ -5,11 +5,11 @@ ghost use Rattle.mw_model.specs.Room.{plays};
 ghost use Rattle.mw_json.specs.View.{view};
 ghost use Rattle.mw_datapack.specs.Played.{data_json, game_played};
 
-use crate::names::{checksum_of_game, ids_tree};
+use crate::names::checksum_of_game;
 use crate::played::played;
 use mw_base::{List, Memory, Text};
 use mw_json::{Tree, object_tree, put, put_words};
-use mw_multidata::{Game, RoomTables};
+use mw_multidata::{Game, RoomTables, ids_tree};
 use std::alloc::Global;
 
 /// A game's entry in the data package, as an object.

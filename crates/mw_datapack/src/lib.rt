@@ -6,7 +6,7 @@ mod names;
 mod played;
 
 pub use game::{checksum, game_data};
-pub use names::{checksum_of_game, game_tree};
+pub use names::checksum_of_game;
 
 #[cfg(test)]
 mod tests;

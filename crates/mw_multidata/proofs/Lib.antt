@@ -1,7 +1,13 @@
 pub mod Accepted
+pub mod Again
+pub mod Entries
 pub mod Fronts
+pub mod GamesAgain
 pub mod Ids
 pub mod Names
+pub mod Orders
+pub mod PartsAgain
 pub mod Passing
 pub mod Placed
 pub mod Shapes
+pub mod Written

@@ -16,21 +16,21 @@ use Rattle.mw_multidata.proofs.Passing.{past, after, within, where_true, in_fiel
 
 -- ---- lists of a stated length
 
-abbrev HasLength : ℕ → Items → Type 0
+abbrev pub HasLength : ℕ → Items → Type 0
 HasLength count js = items_length js ≡ count
 
-abbrev IsUpTo : ℕ → Items → Type 0
+abbrev pub IsUpTo : ℕ → Items → Type 0
 IsUpTo most js = items_length js ≤ most
 
-counted : (count : ℕ) (j : Json) → IfOk (list_of_length count j) (HasLength count)
+pub counted : (count : ℕ) (j : Json) → IfOk (list_of_length count j) (HasLength count)
 unfolding list_of_length
 counted count j = past (HasLength count) (list_at j) _ (λ js. where_true (HasLength count) _ js WrongKind (λ e. grind (arith, common_steps)))
 
-bounded : (most : ℕ) (j : Json) → IfOk (list_up_to most j) (IsUpTo most)
+pub bounded : (most : ℕ) (j : Json) → IfOk (list_up_to most j) (IsUpTo most)
 unfolding list_up_to
 bounded most j = past (IsUpTo most) (list_at j) _ (λ js. where_true (IsUpTo most) _ js TooMany (λ e. grind (arith, common_steps)))
 
-there : (js : Items) → IfOk (not_empty js) (λ some. (some ≡ js) × (1 ≤ items_length js))
+pub there : (js : Items) → IfOk (not_empty js) (λ some. (some ≡ js) × (1 ≤ items_length js))
 there no_items = tt
 there (item j js) = (refl, omega arith)
 

@@ -2,8 +2,8 @@ use Rattle.std.proofs.Common.{ap, ◌∙◌, map, arith}
 use Rattle.std.proofs.lemmas.List.{take_all}
 use Rattle.mw_model.specs.Json.{members}
 use Rattle.mw_json.specs.View.{members_of}
-use Rattle.mw_datapack.proofs.Ids.{id_member, same_ids}
-use Rattle.mw_datapack.proofs.names.ids_tree.Goals as goal
+use Rattle.mw_multidata.proofs.Entries.{id_member, same_ids}
+use Rattle.mw_multidata.proofs.game_trees.ids_tree.Goals as goal
 
 pub returns-clause-value : goal.returns-clause-value
 returns-clause-value c =
