@@ -7,7 +7,8 @@ use Rattle.mw_model.specs.Seed.{Seed}
 use Rattle.mw_model.specs.Room.{empty_room}
 use Rattle.mw_offline.specs.Commands.{Command}
 use Rattle.mw_offline.specs.Drive.{drive_text}
-use Rattle.mw_offline.specs.Endings.{IsFile, IsRead, IsSeedFile, IsSeedRefused, IsScriptRefused, IsReady, HasCauseIn, HasPut, stop_of, DriveText, Drives, PutsSome, Told, Ended, Stops}
+use Rattle.mw_offline.specs.Endings.{IsFile, IsRead, IsSeedFile, IsSeedRefused, IsScriptRefused, IsReady, HasCauseIn, HasPut, stop_of, DriveText, Drives, PutsSome, DriveEnded, Stops}
+use Rattle.mw_offline.specs.Told.{Told}
 use Rattle.mw_offline.specs.declared.drive.Halt.{Halt}
 use Rattle.mw_offline.specs.declared.drive.Halt.TheVariants as Halted
 use Rattle.mw_offline.specs.declared.stop.Stop.{Stop}
@@ -94,7 +95,7 @@ named_put stop named file before after old new (inr e) put = subst (λ s. HasPut
 
 -- a cause told by its own line, or want of memory in its place, is a cause
 pub ended_for : (stop : Stop) (status : ℕ) (file : Option (Option (List ℕ))) (before after old new : Option (List ℕ)) (told : Told)
-    → Ended stop status told → HasCauseIn stop file before after → HasPut stop file before after old new
+    → DriveEnded stop status told → HasCauseIn stop file before after → HasPut stop file before after old new
     → (s : Stop) × Stops s status file before after old new told
 ended_for stop status file before after old new told h cause put = (
   h.named,

@@ -9,3 +9,6 @@ pub mod Puts
 pub mod Steps
 pub mod Texts
 pub mod Walks
+pub mod Reading
+pub mod TableCauses
+pub mod Counted

@@ -9,6 +9,7 @@ use Rattle.mw_model.specs.Room.{empty_room}
 use Rattle.mw_multidata.specs.SeedOf.{SeedOf}
 use Rattle.mw_offline.specs.Commands.{Command}
 use Rattle.mw_offline.specs.Drive.{drive_text}
+use Rattle.mw_offline.specs.Told.{Told, Ended}
 use Rattle.mw_offline.specs.Script.{ScriptRefusal, script_of, max_script, refused, not_built}
 use Rattle.mw_offline.specs.declared.drive.Halt.{Halt}
 use Rattle.mw_offline.specs.declared.drive.Halt.TheVariants as Halted
@@ -164,20 +165,9 @@ abbrev pub stop_of : Halt → Stop
 stop_of Halted.Fault = Fault
 stop_of Halted.Memory = Memory
 
--- what an error sink held before and after, and how often it had refused a put
-pub record Told : Type 0 where
-  pub old : Option (List ℕ)
-  pub new : Option (List ℕ)
-  pub before : ℕ
-  pub now : ℕ
-
--- it ended for this cause, or without memory for its line: a status, and that cause's line on the error sink, or a
--- front of the line where that sink refused
-pub record Ended (stop : Stop) (status : ℕ) (told : Told) : Type 0 where
-  pub named : Stop
-  pub is : (named ≡ stop) ⊎ (named ≡ Memory)
-  pub is_status : status ≡ status_of named
-  pub line : Tells told.old told.new told.before told.now (stop_line named)
+-- it ended for this cause, or for want of memory for its line
+abbrev pub DriveEnded : Stop → ℕ → Told → Type 0
+DriveEnded stop status told = Ended Memory status_of stop_line stop status told
 
 -- it stopped for this cause: its status, what was read and put, and its line on the error sink, or a front of the
 -- line where that sink refused

@@ -1,6 +1,9 @@
+pub mod Told
 pub mod Commands
 pub mod Drive
 pub mod Endings
 pub mod Gives
 pub mod Lines
 pub mod Script
+pub mod Tables
+pub mod Reaching

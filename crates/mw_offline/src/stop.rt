@@ -1,8 +1,8 @@
 ghost use Rattle.std.specs.Prelude.{◌≡◌, ◌++◌, IfOk, string_bytes};
-ghost use Rattle.mw_edges.specs.Causes.{Tells};
-ghost use Rattle.mw_offline.specs.Endings.{status_of, stop_line, Ended};
+ghost use Rattle.mw_offline.specs.Endings.{stop_line, DriveEnded};
 ghost use Rattle.mw_offline.specs.declared.stop.Stop.TheVariants.{SeedFile};
 
+use crate::telling::{end_without_memory, tell};
 use mw_base::Memory;
 use mw_edges::Sink;
 use mw_json::{Kind, Path, kind_word, path_words};
@@ -62,25 +62,9 @@ fn line(alloc: Global, stop: &Stop) -> Result<String, Memory>
     }
 }
 
-/// Puts a line, or a front of it where the sink refuses.
-fn tell<E: Sink>(err: &mut E, line: &str)
-    ensures { Tells (E.held err.old) (E.held err.new) (E.refusals err.old) (E.refusals err.new) line.now }
-{
-    let _ = err.put(line.as_bytes());
-}
-
-/// Tells that memory ran out, and answers its status. It takes none.
-fn end_without_memory<E: Sink>(err: &mut E) -> u8
-    ensures status { result ≡ status_of Stop.Memory }
-    ensures line { Tells (E.held err.old) (E.held err.new) (E.refusals err.old) (E.refusals err.new) (stop_line Stop.Memory) }
-{
-    tell(err, "no memory\n");
-    6
-}
-
 /// Tells a cause, and answers its status. Where memory for its line is wanting, that is the cause.
 pub(crate) fn end<E: Sink>(alloc: Global, err: &mut E, stop: Stop) -> u8
-    ensures ended { Ended stop result record { old = E.held err.old; new = E.held err.new; before = E.refusals err.old; now = E.refusals err.new } }
+    ensures ended { DriveEnded stop result record { old = E.held err.old; new = E.held err.new; before = E.refusals err.old; now = E.refusals err.new } }
     ensures fault { result ≡ 5 → stop ≡ Stop.Fault }
 {
     match stop {

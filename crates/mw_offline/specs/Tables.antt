@@ -1,0 +1,157 @@
+-- The tables of a players file and of the world files that it names, or why there are none.
+use Rattle.std.specs.Prelude.{◌≡◌, ◌⊎◌, ◌++◌, ℕ, ◌-◌, min, List, [], ◌∷◌, length, Option, Ok, Err, codes, decimal, ⊤}
+use Rattle.mw_edges.specs.Folders.{GivesFile}
+use Rattle.mw_edges.specs.declared.folder.FileRead.TheVariants.{Whole, Longer}
+use Rattle.mw_json.specs.Paths.{kind_text, path_text}
+use Rattle.mw_multi.specs.World.{World}
+use Rattle.mw_multi.specs.Players.{Players}
+use Rattle.mw_multi.specs.Files.{world_files}
+use Rattle.mw_multi.specs.Joint.{Joint}
+use Rattle.mw_multi.specs.JointOf.{joint_of}
+use Rattle.mw_multi.specs.OptionNames.{option_text}
+use Rattle.mw_multi.specs.declared.refusal.OptionName.{OptionName}
+use Rattle.mw_multi.specs.declared.refusal.JointRefusal.{JointRefusal}
+use Rattle.mw_multi.specs.declared.refusal.JointRefusal.TheVariants as Refused
+use Rattle.mw_tables.specs.WorldOf.{WorldOf}
+use Rattle.mw_tables.specs.PlayersOf.{PlayersOf}
+use Rattle.mw_offline.specs.Told.{Told, Ended}
+use Rattle.mw_offline.specs.declared.table_stop.TableStop.{TableStop}
+use Rattle.mw_offline.specs.declared.table_stop.TableStop.TheVariants.{Fault, Memory, TooLong, File, Joined}
+
+-- what a folder tells of each name
+abbrev pub Files : Type 0
+Files = List ℕ → Option (Option (List ℕ))
+
+-- the greatest length of a players file or of a world file
+abbrev pub max_table_file : ℕ
+max_table_file = 16777216
+
+-- the greatest length of all world files together
+abbrev pub max_world_files : ℕ
+max_world_files = 268435456
+
+-- the greatest length of a world file, where this much is left for world files
+abbrev pub world_limit : ℕ → ℕ
+world_limit left = min max_table_file left
+
+-- ---- what is read
+
+-- the worlds of these files, where this much is left for them
+abbrev pub WorldsOf : Files → ℕ → List (List ℕ) → List World → Type 0
+WorldsOf files left [] worlds = worlds ≡ []
+WorldsOf files left (name ∷ names) worlds =
+    (bytes : List ℕ) × (w : World) × (ws : List World) × (worlds ≡ w ∷ ws)
+    × GivesFile (files name) (world_limit left) (Whole bytes) × WorldOf bytes (Ok w) × WorldsOf files (left - length bytes) names ws
+
+-- the players of a file, and the worlds of the files that they name
+pub record TablesOf (files : Files) (name : List ℕ) (players : Players) (worlds : List World) : Type 0 where
+  pub bytes : List ℕ
+  pub is_file : GivesFile (files name) max_table_file (Whole bytes)
+  pub are_players : PlayersOf bytes (Ok players)
+  pub are_worlds : WorldsOf files max_world_files (world_files players) worlds
+
+-- ---- why there are none
+
+-- no file of this name could be read, or it is longer than this
+abbrev pub IsUnread : Option (Option (List ℕ)) → ℕ → List ℕ → TableStop → Type 0
+IsUnread told limit name Fault = ⊤
+IsUnread told limit name Memory = ⊤
+IsUnread told limit name (TooLong file) = (file ≡ name) × GivesFile told limit Longer
+IsUnread told limit name (File file kind path) = ⊥
+IsUnread told limit name (Joined refusal) = ⊥
+
+-- a world file that was read is refused
+abbrev pub IsRefusedWorld : List ℕ → List ℕ → TableStop → Type 0
+IsRefusedWorld name bytes Fault = ⊥
+IsRefusedWorld name bytes Memory = ⊤
+IsRefusedWorld name bytes (TooLong file) = ⊥
+IsRefusedWorld name bytes (File file kind path) = (file ≡ name) × WorldOf bytes (Err record { kind = kind; path = path })
+IsRefusedWorld name bytes (Joined refusal) = ⊥
+
+-- the same of a players file
+abbrev pub ArePlayersRefused : List ℕ → List ℕ → TableStop → Type 0
+ArePlayersRefused name bytes Fault = ⊥
+ArePlayersRefused name bytes Memory = ⊤
+ArePlayersRefused name bytes (TooLong file) = ⊥
+ArePlayersRefused name bytes (File file kind path) = (file ≡ name) × PlayersOf bytes (Err record { kind = kind; path = path })
+ArePlayersRefused name bytes (Joined refusal) = ⊥
+
+-- a world file gives no world
+abbrev pub IsWorldStopped : Option (Option (List ℕ)) → ℕ → List ℕ → TableStop → Type 0
+IsWorldStopped told limit name stop = IsUnread told limit name stop ⊎ ((bytes : List ℕ) × GivesFile told limit (Whole bytes) × IsRefusedWorld name bytes stop)
+
+-- a players file gives no players
+abbrev pub ArePlayersStopped : Option (Option (List ℕ)) → ℕ → List ℕ → TableStop → Type 0
+ArePlayersStopped told limit name stop = IsUnread told limit name stop ⊎ ((bytes : List ℕ) × GivesFile told limit (Whole bytes) × ArePlayersRefused name bytes stop)
+
+-- the first of these world files that gives no world
+abbrev pub AreWorldsStopped : Files → ℕ → List (List ℕ) → TableStop → Type 0
+AreWorldsStopped files left [] stop = ⊥
+AreWorldsStopped files left (name ∷ names) stop =
+    IsWorldStopped (files name) (world_limit left) name stop
+    ⊎ ((bytes : List ℕ) × (w : World) × GivesFile (files name) (world_limit left) (Whole bytes) × WorldOf bytes (Ok w) × AreWorldsStopped files (left - length bytes) names stop)
+
+-- the players file gives no players, or a world file that they name gives no world
+abbrev pub AreTablesStopped : Files → List ℕ → TableStop → Type 0
+AreTablesStopped files name stop =
+    ArePlayersStopped (files name) max_table_file name stop
+    ⊎ ((bytes : List ℕ) × (players : Players) × GivesFile (files name) max_table_file (Whole bytes) × PlayersOf bytes (Ok players)
+    × AreWorldsStopped files max_world_files (world_files players) stop)
+
+-- the tables are joined, or the joint is refused
+pub record JointIn (files : Files) (name : List ℕ) (joint : Joint) : Type 0 where
+  pub players : Players
+  pub worlds : List World
+  pub tables : TablesOf files name players worlds
+  pub joined : joint_of worlds players ≡ Ok joint
+
+abbrev pub IsJointRefused : Files → List ℕ → JointRefusal → Type 0
+IsJointRefused files name refusal = (players : Players) × (worlds : List World) × TablesOf files name players worlds × (joint_of worlds players ≡ Err refusal)
+
+-- why tables give no joint
+abbrev pub AreUnjoined : List World → Players → TableStop → Type 0
+AreUnjoined worlds players Fault = ⊥
+AreUnjoined worlds players Memory = ⊤
+AreUnjoined worlds players (TooLong file) = ⊥
+AreUnjoined worlds players (File file kind path) = ⊥
+AreUnjoined worlds players (Joined refusal) = joint_of worlds players ≡ Err refusal
+
+-- why there is no joint, as far as what was read says
+abbrev pub HasTableCause : TableStop → Files → List ℕ → Type 0
+HasTableCause Fault files name = ⊤
+HasTableCause Memory files name = ⊤
+HasTableCause (TooLong file) files name = AreTablesStopped files name (TooLong file)
+HasTableCause (File file kind path) files name = AreTablesStopped files name (File file kind path)
+HasTableCause (Joined refusal) files name = IsJointRefused files name refusal
+
+-- ---- statuses and lines
+
+abbrev pub table_status : TableStop → ℕ
+table_status Fault = 5
+table_status Memory = 6
+table_status (TooLong file) = 3
+table_status (File file kind path) = 3
+table_status (Joined refusal) = 3
+
+-- a name that an option of a slot gives, and that nothing has
+abbrev pub unknown_text : ℕ → OptionName → List ℕ
+unknown_text slot option = codes "UnknownName " ++ (decimal slot ++ (codes " " ++ option_text option))
+
+-- a refusal's name, and its fields in order
+abbrev pub joint_text : JointRefusal → List ℕ
+joint_text (Refused.GameTwice world) = codes "GameTwice " ++ decimal world
+joint_text (Refused.UnknownName slot option place) = unknown_text slot option ++ (codes " " ++ decimal place)
+joint_text (Refused.TooManyPlaces have) = codes "TooManyPlaces " ++ decimal have
+joint_text (Refused.TooMuchText have) = codes "TooMuchText " ++ decimal have
+joint_text Refused.Memory = codes "no memory"
+
+abbrev pub table_line : TableStop → List ℕ
+table_line Fault = codes "device failed\n"
+table_line Memory = codes "no memory\n"
+table_line (TooLong file) = codes "refused: " ++ file ++ codes " TooLong /\n"
+table_line (File file kind path) = codes "refused: " ++ file ++ codes " " ++ kind_text kind ++ codes " " ++ path_text path ++ codes "\n"
+table_line (Joined refusal) = codes "refused: " ++ joint_text refusal ++ codes "\n"
+
+-- it ended for this cause, or for want of memory for its line
+abbrev pub TablesEnded : TableStop → ℕ → Told → Type 0
+TablesEnded stop status told = Ended Memory table_status table_line stop status told

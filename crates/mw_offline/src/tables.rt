@@ -1,0 +1,200 @@
+ghost use Rattle.std.specs.Prelude.{◌≡◌, ◌⊎◌, ◌≤◌, ℕ, List, Ok, IfOk, IfErr, length};
+ghost use Rattle.mw_edges.specs.Causes.{Rose};
+ghost use Rattle.mw_edges.specs.Folders.{GivesFile};
+ghost use Rattle.mw_edges.specs.declared.folder.FileRead.TheVariants.{Whole};
+ghost use Rattle.mw_multi.specs.Files.{world_files};
+ghost use Rattle.mw_tables.specs.WorldOf.{WorldOf};
+ghost use Rattle.mw_tables.specs.PlayersOf.{PlayersOf};
+ghost use Rattle.mw_offline.specs.Tables.{max_table_file, max_world_files, world_limit, WorldsOf, TablesOf, IsUnread, IsRefusedWorld, ArePlayersRefused, IsWorldStopped, ArePlayersStopped, AreWorldsStopped, AreTablesStopped};
+
+use crate::table_stop::TableStop;
+use mw_base::{Bytes, List, Memory, Text};
+use mw_edges::{FileRead, Folder, FolderError};
+use mw_json::{Kind, Path};
+use mw_multi::{Players, World};
+use mw_tables::{TableRefusal, read_players, read_world};
+use std::alloc::Global;
+
+/// The greatest length of a players file or of a world file, in bytes.
+const MAX_TABLE_FILE: u64 = 16_777_216;
+
+/// The greatest length of all world files together, in bytes.
+const MAX_WORLD_FILES: u64 = 268_435_456;
+
+/// The tables of a players file and of the world files that it names, in first-named order.
+#[derive(Drop)]
+pub(crate) struct Tables {
+    pub(crate) players: Players,
+    pub(crate) worlds: List<World>,
+}
+
+/// A copy of a file's name, for a cause.
+fn name_of(alloc: Global, name: &Text) -> Result<Text, Memory>
+    ensures { IfOk result (λ t. t ≡ name.now) }
+{
+    Text::of(alloc, name.as_str())
+}
+
+fn too_long(alloc: Global, name: &Text) -> TableStop
+    ensures { (result ≡ TableStop.TooLong name.now) ⊎ (result ≡ TableStop.Memory) }
+{
+    match name_of(alloc, name) {
+        Ok(file) => TableStop::TooLong { file },
+        Err(_) => TableStop::Memory,
+    }
+}
+
+/// Reads a file that has at most this length.
+fn read_table<F: Folder>(
+    alloc: Global,
+    folder: &mut F,
+    name: &Text,
+    limit: u64,
+) -> Result<Bytes, TableStop>
+    ensures ok { IfOk result (λ b. GivesFile (F.holds folder.old name.now) limit (Whole b)) }
+    ensures err { IfErr result (IsUnread (F.holds folder.old name.now) limit name.now) }
+    ensures fault { result ≡ Err TableStop.Fault → Rose (F.faults folder.old) (F.faults folder.new) }
+    ensures later { F.faults folder.old ≤ F.faults folder.new }
+    ensures same { (n : List ℕ) → F.holds folder.new n ≡ F.holds folder.old n }
+{
+    match folder.read_file(alloc, name, limit) {
+        Ok(FileRead::Whole(bytes)) => Ok(bytes),
+        Ok(FileRead::Longer) => Err(too_long(alloc, name)),
+        Err(FolderError::Failed) => Err(TableStop::Fault),
+        Err(FolderError::Memory) => Err(TableStop::Memory),
+    }
+}
+
+/// A file that is refused for this cause, at this value or absent member.
+fn refused_file(alloc: Global, name: &Text, kind: Kind, path: Path) -> TableStop
+    ensures { (result ≡ TableStop.File name.now kind path) ⊎ (result ≡ TableStop.Memory) }
+{
+    match name_of(alloc, name) {
+        Ok(file) => TableStop::File { file, kind, path },
+        Err(_) => TableStop::Memory,
+    }
+}
+
+/// The players of a file's bytes.
+fn players_of(alloc: Global, name: &Text, bytes: &[u8]) -> Result<Players, TableStop>
+    ensures ok { IfOk result (λ p. PlayersOf bytes.now (Ok p)) }
+    ensures err { IfErr result (ArePlayersRefused name.now bytes.now) }
+{
+    match read_players(alloc, bytes) {
+        Ok(players) => Ok(players),
+        Err(TableRefusal::Memory) => Err(TableStop::Memory),
+        Err(TableRefusal::Named { kind, path }) => Err(refused_file(alloc, name, kind, path)),
+    }
+}
+
+/// The world of a file's bytes.
+fn world_of(alloc: Global, name: &Text, bytes: &[u8]) -> Result<World, TableStop>
+    ensures ok { IfOk result (λ w. WorldOf bytes.now (Ok w)) }
+    ensures err { IfErr result (IsRefusedWorld name.now bytes.now) }
+{
+    match read_world(alloc, bytes) {
+        Ok(world) => Ok(world),
+        Err(TableRefusal::Memory) => Err(TableStop::Memory),
+        Err(TableRefusal::Named { kind, path }) => Err(refused_file(alloc, name, kind, path)),
+    }
+}
+
+/// Reads a players file.
+fn players_in<F: Folder>(alloc: Global, folder: &mut F, name: &Text) -> Result<Players, TableStop>
+    ensures ok { IfOk result (λ p. (bytes : List ℕ) × GivesFile (F.holds folder.old name.now) max_table_file (Whole bytes) × PlayersOf bytes (Ok p)) }
+    ensures err { IfErr result (ArePlayersStopped (F.holds folder.old name.now) max_table_file name.now) }
+    ensures fault { result ≡ Err TableStop.Fault → Rose (F.faults folder.old) (F.faults folder.new) }
+    ensures later { F.faults folder.old ≤ F.faults folder.new }
+    ensures same { (n : List ℕ) → F.holds folder.new n ≡ F.holds folder.old n }
+{
+    match read_table(alloc, folder, name, MAX_TABLE_FILE) {
+        Ok(bytes) => players_of(alloc, name, bytes.as_slice()),
+        Err(stop) => Err(stop),
+    }
+}
+
+/// A world, and the length of its file.
+struct WorldFile {
+    world: World,
+    length: u64,
+}
+
+/// Reads a world file, where this much is left for world files.
+fn world_in<F: Folder>(
+    alloc: Global,
+    folder: &mut F,
+    name: &Text,
+    left: u64,
+) -> Result<WorldFile, TableStop>
+    ensures ok { IfOk result (λ f. (bytes : List ℕ) × (f.length ≡ length bytes) × GivesFile (F.holds folder.old name.now) (world_limit left) (Whole bytes) × WorldOf bytes (Ok f.world)) }
+    ensures short { IfOk result (λ f. f.length ≤ left) }
+    ensures err { IfErr result (IsWorldStopped (F.holds folder.old name.now) (world_limit left) name.now) }
+    ensures fault { result ≡ Err TableStop.Fault → Rose (F.faults folder.old) (F.faults folder.new) }
+    ensures later { F.faults folder.old ≤ F.faults folder.new }
+    ensures same { (n : List ℕ) → F.holds folder.new n ≡ F.holds folder.old n }
+{
+    let bytes = match read_table(alloc, folder, name, left.min(MAX_TABLE_FILE)) {
+        Ok(bytes) => bytes,
+        Err(stop) => return Err(stop),
+    };
+    match world_of(alloc, name, bytes.as_slice()) {
+        Ok(world) => Ok(WorldFile {
+            world,
+            length: bytes.len() as u64,
+        }),
+        Err(stop) => Err(stop),
+    }
+}
+
+/// Reads world files in order.
+fn worlds_in<F: Folder>(
+    alloc: Global,
+    folder: &mut F,
+    files: &[Text],
+) -> Result<List<World>, TableStop>
+    ensures ok { IfOk result (WorldsOf (F.holds folder.old) max_world_files files.now) }
+    ensures err { IfErr result (λ stop. (stop ≡ TableStop.Memory) ⊎ AreWorldsStopped (F.holds folder.old) max_world_files files.now stop) }
+    ensures fault { result ≡ Err TableStop.Fault → Rose (F.faults folder.old) (F.faults folder.new) }
+    ensures later { F.faults folder.old ≤ F.faults folder.new }
+    ensures same { (n : List ℕ) → F.holds folder.new n ≡ F.holds folder.old n }
+{
+    let mut worlds = List::new(alloc);
+    let mut left = MAX_WORLD_FILES;
+    for file in files {
+        let WorldFile { world, length } = match world_in(alloc, folder, file, left) {
+            Ok(read) => read,
+            Err(stop) => return Err(stop),
+        };
+        if worlds.push(world).is_err() {
+            return Err(TableStop::Memory);
+        }
+        left -= length;
+    }
+    Ok(worlds)
+}
+
+/// Reads a players file and the world files that it names.
+pub(crate) fn read_tables<F: Folder>(
+    alloc: Global,
+    folder: &mut F,
+    name: &Text,
+) -> Result<Tables, TableStop>
+    ensures ok { IfOk result (λ t. TablesOf (F.holds folder.old) name.now t.players t.worlds) }
+    ensures number { IfOk result (λ t. length t.worlds ≡ length (world_files t.players)) }
+    ensures err { IfErr result (λ stop. (stop ≡ TableStop.Memory) ⊎ AreTablesStopped (F.holds folder.old) name.now stop) }
+    ensures fault { result ≡ Err TableStop.Fault → Rose (F.faults folder.old) (F.faults folder.new) }
+    ensures later { F.faults folder.old ≤ F.faults folder.new }
+    ensures same { (n : List ℕ) → F.holds folder.new n ≡ F.holds folder.old n }
+{
+    let players = match players_in(alloc, folder, name) {
+        Ok(players) => players,
+        Err(stop) => return Err(stop),
+    };
+    let Ok(files) = players.world_files(alloc) else {
+        return Err(TableStop::Memory);
+    };
+    match worlds_in(alloc, folder, files.as_slice()) {
+        Ok(worlds) => Ok(Tables { players, worlds }),
+        Err(stop) => Err(stop),
+    }
+}
