@@ -1,2 +1,3 @@
-pub mod Told
 pub mod Fronts
+pub mod Replaced
+pub mod Told

@@ -1,11 +1,11 @@
-ghost use Rattle.std.specs.Prelude.{◌≡◌, ◌≢◌, ◌++◌, ℕ, List, [], min, length, take, drop, Some, Ok, Err, OnOk, OnErr, IfOk, unwrap_or};
+ghost use Rattle.std.specs.Prelude.{◌≡◌, ◌≢◌, ◌++◌, ℕ, List, [], min, length, take, drop, Some, None, Ok, Err, OnOk, OnErr, IfOk, unwrap_or};
 ghost use Rattle.std.specs.Io.{ReadsAtMost};
 ghost use Rattle.std.specs.Io.KnownBytes.{Appends, ReadConsumes};
 ghost use Rattle.mw_edges.specs.Causes.{CountsErr, HasCause, HasFault, PutsFront};
-ghost use Rattle.mw_edges.specs.Files.{steady_file};
-ghost use Rattle.mw_edges.specs.Folders.{GivesFile};
+ghost use Rattle.mw_edges.specs.Files.{steady_file, with_file};
+ghost use Rattle.mw_edges.specs.Folders.{GivesFile, IsWritten};
 
-use crate::files::{find_file, read_bytes};
+use crate::files::{find_file, read_bytes, write_bytes};
 use crate::folder::{FileRead, Folder, FolderError};
 use crate::sink::{Sink, SinkError};
 use crate::source::{Failed, Source};
@@ -146,7 +146,7 @@ impl Sink for SteadySink {
 /// Contracts see the files, each a name and its bytes; of two with one name the first counts.
 #[derive(Drop)]
 pub struct SteadyFolder {
-    files: List<(Text, Bytes)>,
+    files: Vec<(Text, Bytes)>,
 }
 
 impl Model for SteadyFolder {
@@ -154,7 +154,7 @@ impl Model for SteadyFolder {
 
     ghost Value = { List (List ℕ × List ℕ) };
 
-    ghost view = { λ s. s.files };
+    ghost view = { λ s. s.files.items };
 }
 
 impl SteadyFolder {
@@ -162,7 +162,9 @@ impl SteadyFolder {
     pub fn new(files: List<(Text, Bytes)>) -> SteadyFolder
         ensures { result ≡ files }
     {
-        SteadyFolder { files }
+        SteadyFolder {
+            files: files.into_vec(),
+        }
     }
 }
 
@@ -183,6 +185,22 @@ impl Folder for SteadyFolder {
         };
         match read_bytes(alloc, bytes.as_slice(), limit) {
             Ok(read) => Ok(read),
+            Err(_) => Err(FolderError::Memory),
+        }
+    }
+
+    #[tactic(auto, using(crate::proofs::Replaced::file_there, crate::proofs::Replaced::others_there))]
+    fn write_file(&mut self, alloc: Global, name: &Text, bytes: &[u8]) -> Result<(), FolderError>
+        ensures written { OnOk result (IsWritten (steady_file self.old name.now) (steady_file self.new name.now) bytes.now) }
+        ensures untold { steady_file self.old name.now ≡ None → steady_file self.new name.now ≡ None }
+        ensures others { (n : List ℕ) → n ≢ name.now → steady_file self.new n ≡ steady_file self.old n }
+        ensures files { OnOk result (self.new ≡ with_file self.old name.now bytes.now) }
+        ensures same { OnErr result (self.new ≡ self.old) }
+        ensures steady { result ≢ Err FolderError.Failed }
+        ensures cause { HasCause 0 0 FolderError.Failed result }
+    {
+        match write_bytes(alloc, &mut self.files, name.as_str(), bytes) {
+            Ok(()) => Ok(()),
             Err(_) => Err(FolderError::Memory),
         }
     }

@@ -84,6 +84,31 @@ fn planned_reads_fail(rt: HostRuntime) -> Result<(), Fail> {
 }
 
 #[test]
+fn planned_writes_fail(rt: HostRuntime) -> Result<(), Fail> {
+    let name = Text::of(rt.alloc(), "new")?;
+    let faults = failing_at(rt.alloc(), 1)?;
+    let mut folder = MemoryFolder::new(one_file(rt.alloc())?, faults);
+    let first = folder.write_file(rt.alloc(), &name, b"first");
+    let second = folder.write_file(rt.alloc(), &name, b"second");
+    assert_eq!(rt; (first, second), (Ok(()), Err(FolderError::Failed)));
+    folder.write_file(rt.alloc(), &name, b"third one")?;
+    let read = length_of(folder.read_file(rt.alloc(), &name, 9));
+    assert_eq!(rt; read, Ok(Some(9)));
+    Ok(())
+}
+
+#[test]
+fn steady_folders_are_written(rt: HostRuntime) -> Result<(), Fail> {
+    let name = Text::of(rt.alloc(), "five")?;
+    let mut folder = SteadyFolder::new(one_file(rt.alloc())?);
+    folder.write_file(rt.alloc(), &name, b"three")?;
+    folder.write_file(rt.alloc(), &name, b"to")?;
+    let read = length_of(folder.read_file(rt.alloc(), &name, 9));
+    assert_eq!(rt; read, Ok(Some(2)));
+    Ok(())
+}
+
+#[test]
 fn steady_objects_work(rt: HostRuntime) -> Result<(), Fail> {
     let mut source = SteadySource::new(bytes_of(rt.alloc(), b"abc")?);
     let mut into = [0u8; 2];
@@ -185,5 +210,21 @@ fn system_files_are_read(rt: HostRuntime) -> Result<(), Fail> {
         assert_eq!(rt; length_of(read), want, "{name} within {limit}");
     }
     fs::remove_file(&rt, "five_bytes")?;
+    Ok(())
+}
+
+#[test]
+fn system_files_are_written(rt: HostRuntime) -> Result<(), Fail> {
+    let mut folder = SystemFolder::new(&rt);
+    let name = Text::of(rt.alloc(), "written_bytes")?;
+    for bytes in [b"longer".as_slice(), b"short"] {
+        folder.write_file(rt.alloc(), &name, bytes)?;
+        let text = fs::read_to_string(&rt, "written_bytes")?;
+        assert!(rt; text.as_bytes() == bytes);
+    }
+    fs::remove_file(&rt, "written_bytes")?;
+    let nowhere = Text::of(rt.alloc(), "no_such_folder/file")?;
+    let refused = folder.write_file(rt.alloc(), &nowhere, b"");
+    assert_eq!(rt; refused, Err(FolderError::Failed));
     Ok(())
 }

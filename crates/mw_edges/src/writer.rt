@@ -88,7 +88,8 @@ fn flush_whole<W: Write>(writer: &mut W) -> Result<(), Failed>
     Err(Failed)
 }
 
-fn put_whole<W: Write>(writer: &mut W, bytes: &[u8]) -> Result<(), Failed>
+/// Writes all the bytes, and flushes.
+pub(crate) fn put_whole<W: Write>(writer: &mut W, bytes: &[u8]) -> Result<(), Failed>
     ensures ok { OnOk result (Appends (W.contents writer.old) (W.contents writer.new) bytes.now) }
     ensures err { OnErr result (PutsFront (W.contents writer.old) (W.contents writer.new) bytes.now) }
 {
