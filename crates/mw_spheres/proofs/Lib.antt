@@ -1,0 +1,4 @@
+pub mod Comparing
+pub mod Hand
+pub mod Locations
+pub mod Taking

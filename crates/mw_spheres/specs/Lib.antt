@@ -1,0 +1,5 @@
+pub mod Spots
+pub mod Spheres
+pub mod Gathering
+pub mod Unmet
+pub mod Check

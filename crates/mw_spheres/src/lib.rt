@@ -1,0 +1,14 @@
+//! Spheres of a placement, the playthrough, and the check of claimed spheres.
+#![tactic(auto)]
+
+mod check;
+mod gather;
+mod place;
+mod refusal;
+mod sphere;
+mod table;
+mod unmet;
+
+pub use check::check_spheres;
+pub use refusal::CheckRefusal;
+pub use sphere::spheres;
