@@ -1,14 +1,16 @@
 -- Where a spot's location stands over all slots.
-use Rattle.std.proofs.Common.{◌≡◌, ℕ, zero, suc, ◌+◌, ◌-◌, ◌<◌, ◌≤◌, List, [], ◌∷◌, ◌++◌, Some, length, get_or, take, sym, ap, ap₂, subst, ◌∙◌, arith}
+use Rattle.std.proofs.Common.{All, ◌≡◌, ℕ, zero, suc, ◌+◌, ◌-◌, ◌<◌, ◌≤◌, List, [], ◌∷◌, ◌++◌, Some, length, get_or, take, refl, sym, ap, ap₂, subst, ◌∙◌, arith}
 use Rattle.std.specs.Prelude.{slice_get}
 use Rattle.std.proofs.lemmas.List.{append_assoc, append-nil}
+use Rattle.std.proofs.lemmas.List.Elements.{All-nil, All-append}
+use Rattle.std.proofs.lemmas.List.FromFn.{get_or-map-range_with_len, length-map-range_with_len}
 use Rattle.mw_model.specs.Seed.{Spot}
 use Rattle.mw_multi.specs.Joint.{Slot, Joint, IsJoint, place_total, slot_places}
 use Rattle.mw_multi.specs.Steps.{location_place}
 use Rattle.mw_multi.specs.Placement.{slot_at}
 use Rattle.mw_multi.proofs.Sites.{get_some}
 use Rattle.mw_multi.proofs.Standing.{numbered_slot}
-use Rattle.mw_spheres.specs.Spots.{IsSpot, place_in, spot_place, slot_spots, spots_from}
+use Rattle.mw_spheres.specs.Spots.{IsSpot, place_in, spot_place, spot_at, slot_spots, spots_from, spots_of}
 
 read : {A : Type 0} (xs : List A) (k : ℕ) (x : A) → slice_get xs k ≡ Some x → k < length xs
 read [] k x e = cc
@@ -70,3 +72,31 @@ pub slot_read : (slots : List Slot) (k : ℕ) (s t : Slot) (listed : List Slot) 
 slot_read slots k s t listed same is found =
     let here : slice_get slots k ≡ Some t = get_some slots k t (read slots k s found) ∙ ap Some (sym (is ∙ ap (λ ss. get_or ss k t) same)) in
     cc
+
+-- an element that is read
+pub all_at : {A : Type 0} (P : A → Type 0) (xs : List A) (i : ℕ) (x : A) → All P xs → i < length xs → x ≡ get_or xs i x → P x
+all_at P xs i x all h is = subst P (sym is) (all i x h)
+
+-- ---- all locations
+
+pub spot_within : (joint : Joint) (spot : Spot) → IsJoint joint → IsSpot joint.slots spot → spot_place joint.slots spot < place_total joint.slots
+spot_within joint spot kept there =
+    let place : spot_place joint.slots spot ≡ location_place there.0 spot.index = ap (λ o. place_in o spot.index) there.1 in
+    omega (arith, there.2, (numbered_slot joint.slots spot.slot there.0 kept.numbered there.1).places_fit)
+
+slot_spots_are : (slots : List Slot) (n : ℕ) (s : Slot) → slice_get slots n ≡ Some s → All (IsSpot slots) (slot_spots (suc n) s)
+slot_spots_are slots n s found i d h =
+    let within : i < length s.world.locations = omega (arith, length-map-range_with_len (spot_at (suc n)) 0 (length s.world.locations)) in
+    subst (IsSpot slots) (sym (get_or-map-range_with_len (spot_at (suc n)) 0 (length s.world.locations) i i d within (omega arith))) (s, found, within)
+
+spots_are_from : (slots : List Slot) (n : ℕ) (rest : List Slot) → ((j : ℕ) (s : Slot) → slice_get rest j ≡ Some s → slice_get slots (n + j) ≡ Some s) → All (IsSpot slots) (spots_from (suc n) rest)
+spots_are_from slots n [] there = All-nil (IsSpot slots)
+spots_are_from slots n (s ∷ rest) there =
+    let here : n + 0 ≡ n = omega arith in
+    All-append (IsSpot slots) (slot_spots (suc n) s) (spots_from (suc (suc n)) rest)
+    (slot_spots_are slots n s (ap (slice_get slots) (sym here) ∙ there 0 s refl))
+    (spots_are_from slots (suc n) rest (λ j t e. let at : suc n + j ≡ n + suc j = omega arith in ap (slice_get slots) at ∙ there (suc j) t e))
+
+-- each of all locations is one that the tables have
+pub spots_are : (joint : Joint) → All (IsSpot joint.slots) (spots_of joint)
+spots_are joint = spots_are_from joint.slots 0 joint.slots (λ j s e. let at : 0 + j ≡ j = omega arith in ap (slice_get joint.slots) at ∙ e)

@@ -3,3 +3,4 @@ pub mod Spheres
 pub mod Gathering
 pub mod Unmet
 pub mod Check
+pub mod Playthrough
