@@ -71,7 +71,7 @@ both_ok : (now later : Check) → or_later now later ≡ Ok tt → (now ≡ Ok t
 both_ok (Ok done) later e = (refl, e)
 both_ok (Err r) later e = cc
 
-nothing_claimed : (sphere : List Spot) → 1 ≤ length sphere → [] ≡ sphere → ⊥
+pub nothing_claimed : (sphere : List Spot) → 1 ≤ length sphere → [] ≡ sphere → ⊥
 nothing_claimed sphere some e = let none = ap length e in omega arith
 
 pub spheres_same : (sphere : ℕ) (claimed due : List (List Spot)) → All (λ s. 1 ≤ length s) claimed → All (λ s. 1 ≤ length s) due → compare_spheres sphere claimed due ≡ Ok tt → claimed ≡ due

@@ -77,7 +77,7 @@ end_is slots k s n e =
 
 -- ---- one sphere more
 
-filter-same : {A : Type 0} (f g : A → Bool) → ((x : A) → f x ≡ g x) → (xs : List A) → filter f xs ≡ filter g xs
+pub filter-same : {A : Type 0} (f g : A → Bool) → ((x : A) → f x ≡ g x) → (xs : List A) → filter f xs ≡ filter g xs
 filter-same f g h [] = refl
 filter-same f g h (x ∷ xs) = elim (cases_Bool (g x)) [
   | inl yes_ ↦ rw (h x, yes_) (ap (λ ys. x ∷ ys) (filter-same f g h xs))

@@ -25,7 +25,7 @@ spheres_are_spots joint table earlier (s ∷ spheres) is =
     (subst (All (IsSpot joint.slots)) (sym is.0.due) (All-filter (is_due joint.slots table is.0.reached (is_listed joint.slots earlier)) (IsSpot joint.slots) (spots_of joint) (spots_are joint)))
     (spheres_are_spots joint table (earlier ++ s) spheres is.2)
 
-all_listed : (P : Spot → Type 0) (spheres : List (List Spot)) → All (All P) spheres → All P (listed spheres)
+pub all_listed : (P : Spot → Type 0) (spheres : List (List Spot)) → All (All P) spheres → All P (listed spheres)
 all_listed P [] all = All-nil P
 all_listed P (s ∷ spheres) all =
     rw (flat_map-cons (λ (t : List Spot). t) s spheres) (All-append P s (listed spheres) (all 0 s (omega arith)) (all_listed P spheres (λ i d h. all (suc i) d (omega arith))))

@@ -4,3 +4,4 @@ pub mod Gathering
 pub mod Unmet
 pub mod Check
 pub mod Playthrough
+pub mod Laws

@@ -3,6 +3,7 @@
 
 mod check;
 mod gather;
+mod laws;
 mod place;
 mod played;
 mod refusal;
@@ -12,6 +13,7 @@ mod thin;
 mod unmet;
 
 pub use check::check_spheres;
+pub use laws::{none_to_spare, spheres_are_one};
 pub use played::playthrough;
 pub use refusal::CheckRefusal;
 pub use sphere::spheres;

@@ -20,7 +20,7 @@ pub(crate) fn table_for(
     ensures fits { IfOk result (IsPlacedFor joint.now) }
     ensures few { IfOk result (λ table. sum_by length table ≤ 400000) }
 {
-    let _slots = joint.slots.len();
+    let _ = &joint.slots;
     let table = Placed::with_events(alloc, joint, placement)?;
     Ok(table)
 }
