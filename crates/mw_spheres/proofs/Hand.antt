@@ -1,9 +1,9 @@
 -- What is in hand from sphere to sphere.
-use Rattle.std.proofs.Common.{◌≡◌, ℕ, zero, suc, ◌+◌, ◌≤◌, Bool, false, ◌&&◌, ◌||◌, not, eqb, List, [], ◌∷◌, ◌++◌, length, map, take, replicate, Some, refl, sym, ap, subst, ◌∙◌, inl, inr, arith}
+use Rattle.std.proofs.Common.{◌<◌, ◌≡◌, ℕ, zero, suc, ◌+◌, ◌≤◌, Bool, false, ◌&&◌, ◌||◌, not, eqb, List, [], ◌∷◌, ◌++◌, length, map, take, replicate, Some, refl, sym, ap, subst, ◌∙◌, inl, inr, arith}
 use Rattle.std.specs.Prelude.{filter, slice_get, sum_by}
 use Rattle.std.specs.List.{list_any}
-use Rattle.std.proofs.lemmas.Bool.{cases_Bool}
-use Rattle.std.proofs.lemmas.List.{append-nil, append_assoc, get_or_default, length-replicate, map-append, nil_from_length, same_lists}
+use Rattle.std.proofs.lemmas.Bool.{cases_Bool, cases_lt}
+use Rattle.std.proofs.lemmas.List.{append-nil, append_assoc, get_or_default, get_or_past, length-replicate, map-append, nil_from_length, same_lists}
 use Rattle.std.proofs.lemmas.List.Concat.{flat_map-append}
 use Rattle.std.proofs.lemmas.List.Folds.{list_any-append}
 use Rattle.std.proofs.lemmas.List.FromFn.{get_or-map-range_with_len, length-map-range_with_len}
@@ -38,6 +38,13 @@ table_is slots puts table placed =
     (λ k d h.
     get_or_default table k d [] h ∙ placed.entries k
     ∙ sym (get_or-map-range_with_len (standing slots puts) 0 (place_total slots) k k d (omega (arith, placed.size)) (omega arith)))
+
+-- a number of the table stands at its place
+pub table_entry : (slots : List Slot) (puts : List Put) (p : ℕ) → 0 < length (numbers_at (table_of slots puts) p) → 0 < length (standing slots puts p)
+table_entry slots puts p some = elim (cases_lt p (place_total slots)) [
+  | inl within ↦ omega (arith, ap length (get_or-map-range_with_len (standing slots puts) 0 (place_total slots) p p [] within (omega arith)))
+  | inr past ↦ absurd (omega (arith, ap length (get_or_past (table_of slots puts) p [] (omega (arith, length-map-range_with_len (standing slots puts) 0 (place_total slots))))))
+]
 
 -- where nothing stands nothing is found
 nothing_found : (slots : List Slot) (nothing : Placed) (w : Places) (i : ℕ) → IsPlaced slots [] nothing → found nothing w i ≡ 0
