@@ -8,6 +8,7 @@ use crate::slot::Slot;
 use mw_base::{List, Memory};
 use std::alloc::Global;
 use std::marker::Model;
+use std::mem;
 
 /// A placement as a table with an entry for each place: the numbers over all slots of the progression item that stands
 /// there, one for each owner of its receiver.
@@ -116,6 +117,15 @@ impl Placed {
             placed.put(joint, *put)?;
         }
         Ok(placed)
+    }
+
+    /// Puts these numbers at a place, and gives what stood there in exchange. It takes no memory.
+    pub fn swap(&mut self, place: u32, numbers: &mut List<u32>)
+        requires { place < length self.old }
+        ensures table { self.new ≡ slice_set self.old place numbers.old }
+        ensures numbers { numbers.new ≡ numbers_at self.old place }
+    {
+        mem::swap(&mut self.table[place as usize], numbers);
     }
 
     /// The numbers over all slots of what stands at a place.

@@ -1,0 +1,11 @@
+pub mod Comparing
+pub mod Hand
+pub mod Locations
+pub mod OneList
+pub mod Only
+pub mod Playing
+pub mod Reaching
+pub mod Showing
+pub mod Single
+pub mod Sparing
+pub mod Taking

@@ -1,0 +1,22 @@
+use Rattle.std.proofs.Common.{◌+◌, ◌++◌, length}
+use Rattle.mw_reach.specs.Counts.{missing}
+use Rattle.mw_reach.specs.Reached.{IsBagFor, IsMadeFor, KeepsRules}
+use Rattle.mw_spheres.specs.Spheres.{IsSphere, listed}
+use Rattle.mw_spheres.specs.Gathering.{HasRoom, IsInHand}
+use Rattle.mw_spheres.proofs.Hand.{LeadsOn}
+use Rattle.mw_spheres.proofs.sphere.spheres_of.Given as goal
+
+-- the spheres so far, and the next one
+abbrev pub invariant-loop-taken : goal.invariant-loop-taken
+invariant-loop-taken l = record {
+  reached : IsMadeFor l.joint l.reached;
+  rules : KeepsRules l.joint l.reached;
+  bag : IsBagFor l.joint l.bag;
+  room : HasRoom l.table l.taken l.bag;
+  hand : IsInHand l.joint l.table (listed l.spheres ++ l.sphere) l.taken l.bag;
+  next : IsSphere l.joint l.table (listed l.spheres) l.sphere;
+  before : LeadsOn l.joint l.table l.spheres;
+}
+
+abbrev pub decreases-loop-taken : goal.decreases-loop-taken
+decreases-loop-taken l = missing l.taken + length l.sphere

@@ -1,0 +1,22 @@
+//! Spheres of a placement, the playthrough, and the check of claimed spheres.
+#![tactic(auto)]
+
+mod check;
+mod gather;
+mod laws;
+mod place;
+mod played;
+mod refusal;
+mod sphere;
+mod table;
+mod thin;
+mod unmet;
+
+pub use check::check_spheres;
+pub use laws::{none_to_spare, spheres_are_one, spheres_show};
+pub use played::playthrough;
+pub use refusal::CheckRefusal;
+pub use sphere::spheres;
+
+#[cfg(test)]
+mod tests;

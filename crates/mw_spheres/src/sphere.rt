@@ -1,0 +1,87 @@
+ghost use Rattle.std.specs.Prelude.{◌≡◌, ◌≤◌, ◌+◌, ◌++◌, ℕ, [], List, IfOk, length, sum_by};
+ghost use Rattle.mw_model.specs.Seed.{Spot as PlainSpot};
+ghost use Rattle.mw_multi.specs.Joint.{IsJoint};
+ghost use Rattle.mw_multi.specs.Placement.{IsPlacement, IsPlaced};
+ghost use Rattle.mw_reach.specs.Reached.{IsBagFor, IsPlacedFor, IsMadeFor, KeepsRules};
+ghost use Rattle.mw_reach.specs.Counts.{missing};
+ghost use Rattle.mw_spheres.specs.Spheres.{IsSphere, AreSpheres, IsSpheres};
+ghost use Rattle.mw_spheres.specs.Gathering.{HasRoom, IsInHand};
+
+use crate::gather::visit_slot;
+use crate::table::table_for;
+use mw_base::{List, Memory, SphereList, Spot};
+use mw_multi::{Bag, Joint, Placed, Placement};
+use mw_reach::{Reached, reach};
+use std::alloc::Global;
+
+/// The sphere after those that are taken, which takes it with what it holds. `nothing` is the table of no placement.
+fn next_sphere(
+    alloc: Global,
+    joint: &Joint,
+    table: &Placed,
+    nothing: &Placed,
+    reached: &mut Reached,
+    taken: &mut [bool],
+    bag: &mut Bag,
+) -> Result<List<Spot>, Memory>
+    requires table { IsPlacedFor joint.now table.now }
+    requires nothing { IsPlaced joint.now.slots [] nothing.now }
+    requires reached { IsMadeFor joint.now reached.old }
+    requires rules { KeepsRules joint.now reached.old }
+    requires bag { IsBagFor joint.now bag.old }
+    requires room { HasRoom table.now taken.old bag.old }
+    ensures reached { IsMadeFor joint.now reached.new }
+    ensures rules { KeepsRules joint.now reached.new }
+    ensures bag { IsBagFor joint.now bag.new }
+    ensures room { HasRoom table.now taken.new bag.new }
+    ensures sphere { IfOk result (λ sphere. (earlier : List PlainSpot) → IsInHand joint.now table.now earlier taken.old bag.old → IsSphere joint.now table.now earlier sphere) }
+    ensures hand { IfOk result (λ sphere. (earlier : List PlainSpot) → IsInHand joint.now table.now earlier taken.old bag.old → IsInHand joint.now table.now (earlier ++ sphere) taken.new bag.new) }
+    ensures fewer { IfOk result (λ sphere. missing taken.new + length sphere ≡ missing taken.old) }
+{
+    let slots = joint.slots.len();
+    reach(joint, bag, nothing, reached);
+    let mut sphere = List::new(alloc);
+    for before in 0..slots {
+        visit_slot(joint, table, reached, before, taken, bag, &mut sphere)?;
+    }
+    Ok(sphere)
+}
+
+/// The spheres of a table.
+pub(crate) fn spheres_of(
+    alloc: Global,
+    joint: &Joint,
+    table: &Placed,
+    reached: &mut Reached,
+) -> Result<SphereList, Memory>
+    requires joint { IsJoint joint.now }
+    requires table { IsPlacedFor joint.now table.now }
+    requires few { sum_by length table.now ≤ 400000 }
+    requires reached { IsMadeFor joint.now reached.old }
+    requires rules { KeepsRules joint.now reached.old }
+    ensures { IfOk result (AreSpheres joint.now table.now []) }
+{
+    let nothing = Placed::none(alloc, joint)?;
+    let mut bag = Bag::starting(alloc, joint)?;
+    let mut taken = vec![in alloc; false; joint.place_count() as usize]?;
+    let taken = taken.as_mut_slice();
+    let mut spheres = List::new(alloc);
+    let mut sphere = next_sphere(alloc, joint, table, &nothing, reached, taken, &mut bag)?;
+    while sphere.len() > 0 {
+        spheres.push(sphere)?;
+        sphere = next_sphere(alloc, joint, table, &nothing, reached, taken, &mut bag)?;
+    }
+    Ok(spheres)
+}
+
+/// The spheres of a placement with the joint's events, the first one first, each by slot and then in table order. A sphere
+/// is the locations that hold a progression item and are reached with the starting items and what the earlier spheres hold,
+/// with nothing found on the way, less the earlier spheres; no sphere is empty. `Memory` where memory ran out.
+pub fn spheres(alloc: Global, joint: &Joint, placement: &Placement) -> Result<SphereList, Memory>
+    requires { IsPlacement joint.now placement.now }
+    ensures { IfOk result (IsSpheres joint.now placement.now) }
+{
+    let table = table_for(alloc, joint, placement)?;
+    let mut reached = Reached::new(alloc, joint)?;
+    spheres_of(alloc, joint, &table, &mut reached)
+}
