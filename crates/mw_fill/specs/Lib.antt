@@ -1,1 +1,6 @@
 pub mod Draws
+pub mod Numbered
+pub mod Copies
+pub mod Spots
+pub mod Fill
+pub mod Try

@@ -2,5 +2,9 @@
 #![tactic(auto)]
 
 mod draws;
+mod group;
+mod item_copy;
+mod locality;
+mod spot;
 
 pub use draws::{Words, draw, shuffle};
