@@ -1,5 +1,7 @@
 pub mod Counts
+pub mod Few
 pub mod FileNames
+pub mod Flags
 pub mod Fronts
 pub mod Indexes
 pub mod LabelNames

@@ -1,14 +1,13 @@
 -- Where locations stand over all slots, and that their events may stand there.
 use Rattle.std.proofs.Common.{◌≡◌, ℕ, zero, suc, ◌+◌, ◌-◌, ◌<◌, ◌≤◌, Bool, true, false, cond, List, [], ◌∷◌, ◌++◌, length, get_or, take, Option, Some, None, refl, sym, ap, ap₂, ◌∙◌, subst, arith, append_assoc, append-nil}
 use Rattle.std.specs.Prelude.{slice_get, is_some, option_map, option_and_then, All, nat_lt, ◌==◌, ◌&&◌}
-use Rattle.std.proofs.lemmas.Grind.{common_steps}
 use Rattle.std.proofs.lemmas.Bool.Decides.{Decides-eqb}
 use Rattle.std.proofs.lemmas.List.Elements.{All-nil, All-cons}
 use Rattle.mw_multi.specs.World.{World, Location, Item, place_count}
 use Rattle.mw_multi.specs.WorldKept.{LocationKept, is_event, event_fits}
 use Rattle.mw_multi.specs.Joint.{Slot, IsJoint, Joint, SlotKept, AreNumbered, slot_places, slot_items}
 use Rattle.mw_multi.specs.Steps.{location_place}
-use Rattle.mw_multi.specs.Placement.{Put, Site, site_of, site_in, site_from, site_at, slot_at, item_in, item_at, fits_event, fits_site, PutKept}
+use Rattle.mw_multi.specs.Placement.{Site, site_of, site_in, site_from, site_at, slot_at, item_in, fits_event, fits_site, PutKept}
 use Rattle.mw_multi.proofs.Standing.{numbered_slot}
 use Rattle.mw_multi.specs.Events.{event_at, events_among, slot_events, events_from}
 

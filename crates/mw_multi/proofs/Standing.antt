@@ -12,10 +12,10 @@ use Rattle.mw_multi.specs.Joint.{Slot, AreNumbered, place_total, item_total, slo
 use Rattle.mw_multi.proofs.Numbering.{SlotFits, slot_fits}
 use Rattle.mw_multi.specs.Placement.{Put, Site, slot_at, site_in, site_from, stands_at, put_numbers, standing, numbers_at, IsPlaced}
 
-nat_lt_true : (a b : ℕ) → nat_lt a b ≡ true → a < b
+pub nat_lt_true : (a b : ℕ) → nat_lt a b ≡ true → a < b
 nat_lt_true a b e = grind arith
 
-nat_lt_false : (a b : ℕ) → nat_lt a b ≡ false → b ≤ a
+pub nat_lt_false : (a b : ℕ) → nat_lt a b ≡ false → b ≤ a
 nat_lt_false a b e = grind arith
 
 apart : (a b : ℕ) → (a == b) ≡ false → a ≡ b → ⊥

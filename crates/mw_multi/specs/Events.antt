@@ -1,5 +1,5 @@
 -- The events of a joint: each stands at its event location.
-use Rattle.std.specs.Prelude.{ℕ, suc, ◌+◌, ◌++◌, List, [], ◌∷◌, Option, Some, None, Bool, true, not, filter, is_some}
+use Rattle.std.specs.Prelude.{ℕ, suc, ◌++◌, List, [], ◌∷◌, Option, Some, None, Bool, true, not, filter, flat_map, is_some, length, map, replicate, if◌then◌else◌}
 use Rattle.mw_multi.specs.World.{Location}
 use Rattle.mw_multi.specs.Joint.{Slot, Joint}
 use Rattle.mw_multi.specs.Steps.{location_place}
@@ -41,3 +41,19 @@ is_at_no_event slots put = has_no_event (site_at slots put.place)
 -- the events of all slots, and what a placement puts at locations that have none
 abbrev pub with_events : Joint → List Put → List Put
 with_events joint puts = events_of joint ++ filter (is_at_no_event joint.slots) puts
+
+-- the location has no event, or it has one
+abbrev pub lacks_event : Location → Bool
+lacks_event l = not (is_some l.event)
+
+-- for each place of a slot, whether no event stands there
+abbrev pub slot_flags : Slot → List Bool
+slot_flags s = replicate (length s.world.regions) true ++ map lacks_event s.world.locations
+
+-- for each place of these slots, whether no event stands there
+abbrev pub event_free : List Slot → List Bool
+event_free slots = flat_map slot_flags slots
+
+-- the put alone, or nothing
+abbrev pub put_where : Bool → Put → List Put
+put_where free put = if free then put ∷ [] else []

@@ -1,11 +1,13 @@
-ghost use Rattle.std.specs.Prelude.{◌≡◌, ◌<◌, ◌+◌, ◌++◌, List, Some, IfOk, OnOk, All, length, slice_get};
+ghost use Rattle.std.specs.Prelude.{◌≡◌, ◌<◌, ◌+◌, ◌++◌, List, Some, true, IfOk, OnOk, All, length, map, replicate, slice_get};
 ghost use Rattle.mw_multi.specs.Joint.{Slot as PlainSlot};
-ghost use Rattle.mw_multi.specs.Placement.{Put as PlainPut, PutKept, IsPlaced};
-ghost use Rattle.mw_multi.specs.Events.{event_at, slot_events, events_of};
+ghost use Rattle.mw_multi.specs.Placement.{Put as PlainPut, PutKept, IsPlacement, IsPlaced};
+ghost use Rattle.mw_multi.specs.Events.{event_at, slot_events, events_of, with_events, lacks_event, slot_flags, event_free, put_where};
 
 use crate::joint::Joint;
+use crate::location::Location;
 use crate::placed::Placed;
-use crate::placement::Put;
+use crate::placement::{Placement, Put};
+use crate::slot::Slot;
 use mw_base::Memory;
 use std::alloc::Global;
 
@@ -52,7 +54,76 @@ fn put_events(placed: &mut Placed, joint: &Joint, before: usize) -> Result<(), M
     Ok(())
 }
 
+/// Adds a flag for each of so many regions: no event stands there.
+fn push_regions(flags: &mut Vec<bool>, regions: usize) -> Result<(), Memory>
+    ensures { OnOk result (flags.new.items ≡ flags.old.items ++ replicate regions true) }
+{
+    for _ in 0..regions {
+        flags.push(true)?;
+    }
+    Ok(())
+}
+
+/// Adds a flag for each location: whether it has no event.
+fn push_locations(flags: &mut Vec<bool>, locations: &[Location]) -> Result<(), Memory>
+    ensures { OnOk result (flags.new.items ≡ flags.old.items ++ map lacks_event locations.now) }
+{
+    for location in locations {
+        flags.push(location.event.is_none())?;
+    }
+    Ok(())
+}
+
+/// Adds a flag for each place of the slot: whether no event stands there.
+fn push_slot(flags: &mut Vec<bool>, slot: &Slot) -> Result<(), Memory>
+    ensures { OnOk result (flags.new.items ≡ flags.old.items ++ slot_flags slot.now) }
+{
+    let world = slot.world;
+    push_regions(flags, world.regions.len())?;
+    push_locations(flags, world.locations.as_slice())?;
+    Ok(())
+}
+
+/// For each place of the joint, whether no event stands there.
+fn flags_of(alloc: Global, joint: &Joint) -> Result<Vec<bool>, Memory>
+    ensures { IfOk result (λ flags. flags.items ≡ event_free joint.now.slots) }
+{
+    let mut flags = Vec::new(alloc);
+    for slot in joint.slots.as_slice() {
+        push_slot(&mut flags, slot)?;
+    }
+    Ok(flags)
+}
+
+/// Puts an item into a table of the joint, where it is to stand there.
+fn put_if(placed: &mut Placed, joint: &Joint, put: Put, free: bool) -> Result<(), Memory>
+    requires placed { (puts : List PlainPut) × IsPlaced joint.now.slots puts placed.old }
+    requires kept { PutKept joint.now.slots put }
+    ensures { OnOk result ((puts : List PlainPut) → IsPlaced joint.now.slots puts placed.old
+        → IsPlaced joint.now.slots (puts ++ put_where free put) placed.new) }
+{
+    if free { placed.put(joint, put) } else { Ok(()) }
+}
+
 impl Placed {
+    /// The table of the joint's events, and of what the placement puts at locations that have none; `Memory` where memory
+    /// ran out.
+    pub fn with_events(
+        alloc: Global,
+        joint: &Joint,
+        placement: &Placement,
+    ) -> Result<Placed, Memory>
+        requires { IsPlacement joint.now placement.now }
+        ensures { IfOk result (IsPlaced joint.now.slots (with_events joint.now placement.now)) }
+    {
+        let mut placed = Placed::events(alloc, joint)?;
+        let flags = flags_of(alloc, joint)?;
+        for put in placement.as_slice() {
+            put_if(&mut placed, joint, *put, flags[put.place as usize])?;
+        }
+        Ok(placed)
+    }
+
     /// The table of the joint's events alone, each at its event location; `Memory` where memory ran out.
     pub fn events(alloc: Global, joint: &Joint) -> Result<Placed, Memory>
         ensures { IfOk result (IsPlaced joint.now.slots (events_of joint.now)) }

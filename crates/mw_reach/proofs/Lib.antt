@@ -1,4 +1,5 @@
 pub mod Among
+pub mod Beating
 pub mod Building
 pub mod Counting
 pub mod Found

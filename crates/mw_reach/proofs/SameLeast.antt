@@ -17,3 +17,10 @@ IsLeast-same steps a b placed w h l = record {
   closed = Closed-less steps b a placed placed w (λ i. omega (arith, h i)) l.closed;
   least = λ v k. l.least v (Closed-less steps a b placed placed v (λ i. omega (arith, h i)) k);
 }
+
+-- the same of two tables, where bags and tables together have as many of each item
+pub IsLeast-alike : (steps : List Step) (a b : Bag) (placed other : Placed) (w : Places) → ((v : Places) (i : ℕ) → bag_with a placed v i ≡ bag_with b other v i) → IsLeast steps a placed w → IsLeast steps b other w
+IsLeast-alike steps a b placed other w h l = record {
+  closed = Closed-less steps b a other placed w (λ i. omega (arith, h w i)) l.closed;
+  least = λ v k. l.least v (Closed-less steps a b placed other v (λ i. omega (arith, h v i)) k);
+}

@@ -41,6 +41,10 @@ KeepsRules joint reached = reached.trees ≡ Some (rule_list joint)
 abbrev pub flags_in : Reached → List Bool
 flags_in reached = reached.work.done.items
 
+-- for each item, how many there are in the base and at the places that were reached
+abbrev pub counts_in : Reached → List ℕ
+counts_in reached = reached.work.counts.items
+
 -- the places that were reached
 abbrev pub places_in : Reached → Places
 places_in reached = places_of (flags_in reached)

@@ -146,7 +146,7 @@ fn add_slot<R: Ruling>(
 }
 
 /// How many rules a slot has: its entrances', its locations' and its goal.
-fn rule_count(slot: &Slot) -> u32
+pub(crate) fn rule_count(slot: &Slot) -> u32
     ensures value { result ≡ length (slot_rules slot.now) }
     ensures few { result ≤ 20001 }
 {

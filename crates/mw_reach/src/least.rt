@@ -1,9 +1,9 @@
-ghost use Rattle.std.specs.Prelude.{◌≡◌, ◌+◌, ◌≤◌};
+ghost use Rattle.std.specs.Prelude.{◌≡◌, ◌+◌, ◌≤◌, ℕ};
 ghost use Rattle.mw_rules.specs.Holds.{bag_of, places_of};
 ghost use Rattle.mw_multi.specs.Steps.{steps_of, rule_list};
-ghost use Rattle.mw_reach.specs.Reach.{IsLeast};
+ghost use Rattle.mw_reach.specs.Reach.{bag_with, IsLeast};
 ghost use Rattle.mw_reach.specs.Bound.{asks_allowed};
-ghost use Rattle.mw_reach.specs.Reached.{IsBagFor, IsPlacedFor, IsWorkFor, IsMadeFor, KeepsRules, flags_in, places_in};
+ghost use Rattle.mw_reach.specs.Reached.{IsBagFor, IsPlacedFor, IsWorkFor, IsMadeFor, KeepsRules, counts_in, flags_in, places_in};
 
 use crate::reached::Reached;
 use crate::work::Work;
@@ -28,6 +28,7 @@ fn make_least<R: Ruling, L: Ledger>(
     requires into { IsWorkFor joint.now into.old }
     ensures kept { IsWorkFor joint.now into.new }
     ensures least { IsLeast (steps_of joint.now) (bag_of base.now) placed.now (places_of into.new.done.items) }
+    ensures counts { (i : ℕ) → bag_of into.new.counts.items i ≡ bag_with (bag_of base.now) placed.now (places_of into.new.done.items) i }
     ensures steps { steps.new ≤ steps.old + asks_allowed (steps_of joint.now) placed.now into.new.done.items }
 {
     reach_rows(
@@ -61,6 +62,7 @@ pub fn reach_by<R: Ruling, L: Ledger>(
     ensures kept { IsMadeFor joint.now into.new }
     ensures rules { KeepsRules joint.now into.old → KeepsRules joint.now into.new }
     ensures least { IsLeast (steps_of joint.now) (bag_of base.now) placed.now (places_in into.new) }
+    ensures counts { (i : ℕ) → bag_of (counts_in into.new) i ≡ bag_with (bag_of base.now) placed.now (places_in into.new) i }
     ensures steps { steps.new ≤ steps.old + asks_allowed (steps_of joint.now) placed.now (flags_in into.new) }
 {
     make_least(joint, rules, base, placed, &mut into.work, steps);
@@ -82,6 +84,7 @@ pub fn reach_counted<L: Ledger>(
     ensures kept { IsMadeFor joint.now into.new }
     ensures rules { KeepsRules joint.now into.new }
     ensures least { IsLeast (steps_of joint.now) (bag_of base.now) placed.now (places_in into.new) }
+    ensures counts { (i : ℕ) → bag_of (counts_in into.new) i ≡ bag_with (bag_of base.now) placed.now (places_in into.new) i }
     ensures steps { steps.new ≤ steps.old + asks_allowed (steps_of joint.now) placed.now (flags_in into.new) }
 {
     match &into.trees {
@@ -107,6 +110,7 @@ fn count_and_reach<L: Ledger>(
     ensures kept { IsMadeFor joint.now into.new }
     ensures rules { KeepsRules joint.now into.new }
     ensures least { IsLeast (steps_of joint.now) (bag_of base.now) placed.now (places_in into.new) }
+    ensures counts { (i : ℕ) → bag_of (counts_in into.new) i ≡ bag_with (bag_of base.now) placed.now (places_in into.new) i }
 {
     let mut steps = Steps::<L>::new(blank);
     reach_counted(joint, base, placed, into, &mut steps);
@@ -121,6 +125,7 @@ pub fn reach(joint: &Joint, base: &Bag, placed: &Placed, into: &mut Reached)
     ensures kept { IsMadeFor joint.now into.new }
     ensures rules { KeepsRules joint.now into.new }
     ensures least { IsLeast (steps_of joint.now) (bag_of base.now) placed.now (places_in into.new) }
+    ensures counts { (i : ℕ) → bag_of (counts_in into.new) i ≡ bag_with (bag_of base.now) placed.now (places_in into.new) i }
 {
     count_and_reach::<Brand>(Blank::new(1), joint, base, placed, into);
 }

@@ -2,6 +2,7 @@
 #![tactic(auto)]
 
 mod build;
+mod goals;
 mod least;
 mod prepare;
 mod reached;
@@ -11,6 +12,7 @@ mod watch;
 mod work;
 mod worklist;
 
+pub use goals::{unmet_goal, unmet_goal_by};
 pub use least::{reach, reach_by, reach_counted};
 pub use reached::Reached;
 

@@ -5,7 +5,7 @@ ghost use Rattle.mw_rules.specs.Ruling.{rule_at};
 ghost use Rattle.mw_multi.specs.Joint.{Joint, slot_items, slot_places};
 ghost use Rattle.mw_multi.specs.Placement.{numbers_at};
 ghost use Rattle.mw_multi.specs.Steps.{Step, rule_list};
-ghost use Rattle.mw_reach.specs.Reach.{times_in, is_open as step_is_open, IsLeast};
+ghost use Rattle.mw_reach.specs.Reach.{times_in, bag_with, is_open as step_is_open, IsLeast};
 ghost use Rattle.mw_reach.specs.Bound.{asks_allowed};
 ghost use Rattle.mw_reach.specs.Counts.{HasRoom, LiesWithin, missing};
 ghost use Rattle.mw_reach.specs.Rows.{StartFits, RowFits, slot_at, step_of, steps_in};
@@ -42,7 +42,7 @@ fn add(place: u32, placed: &Placed, done: &mut [bool], counts: &mut [u32])
 }
 
 /// Whether a rule of a slot holds for the slot's places that are done and for the counts of its items.
-fn holds<R: Ruling, L: Ledger>(
+pub(crate) fn holds<R: Ruling, L: Ledger>(
     joint: &Joint,
     rules: &R,
     slot: u32,
@@ -321,6 +321,7 @@ pub(crate) fn reach_rows<R: Ruling, L: Ledger>(
     requires small { All (λ n. n < 2 ^ 31) base.now }
     ensures steps { steps.new ≤ steps.old + asks_allowed (steps_in joint.now rows.now) placed.now done.new }
     ensures least { IsLeast (steps_in joint.now rows.now) (bag_of base.now) placed.now (places_of done.new) }
+    ensures counts { (i : ℕ) → bag_of counts.new i ≡ bag_with (bag_of base.now) placed.now (places_of done.new) i }
 {
     done.fill(false);
     listed.fill(false);

@@ -1,4 +1,4 @@
-use Rattle.std.proofs.Common.{◌≡◌, ℕ, List, Option, ◌++◌, sym, subst, arith}
+use Rattle.std.proofs.Common.{ℕ, List, Option, ◌++◌, sym, subst, arith}
 use Rattle.std.specs.Prelude.{OnOk, All}
 use Rattle.mw_multi.specs.Placement.{Put as PlainPut}
 use Rattle.mw_multi.specs.Placement.{PutKept, IsPlaced}

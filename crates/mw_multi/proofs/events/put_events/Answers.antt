@@ -1,11 +1,11 @@
-use Rattle.std.proofs.Common.{◌≡◌, ℕ, suc, ◌+◌, ◌<◌, List, Option, Some, [], ◌++◌, length, take, take_all, refl, sym, ap, ap₂, ◌∙◌, subst, arith, append_assoc, append-nil}
-use Rattle.std.specs.Prelude.{All, slice_get}
+use Rattle.std.proofs.Common.{◌≡◌, ℕ, suc, ◌+◌, Option, ◌++◌, length, take, take_all, refl, sym, ap, ap₂, ◌∙◌, subst, arith, append_assoc, append-nil}
+use Rattle.std.specs.Prelude.{All}
 use Rattle.mw_multi.specs.World.{World, Location}
 use Rattle.mw_multi.specs.Joint.{Slot, Joint, IsJoint}
 use Rattle.mw_multi.specs.Steps.{location_place}
-use Rattle.mw_multi.specs.Placement.{Put, PutKept, IsPlaced}
+use Rattle.mw_multi.specs.Placement.{PutKept, IsPlaced}
 use Rattle.mw_multi.specs.Events.{event_at, events_among, slot_events}
-use Rattle.mw_multi.proofs.Sites.{KnownSlot, known_slot, known_element, events_kept, events_next, same_slot}
+use Rattle.mw_multi.proofs.Sites.{known_slot, known_element, events_kept, events_next, same_slot}
 use Rattle.mw_multi.proofs.events.put_events.Goals as goal
 
 pub overflow_add-first : goal.overflow_add-first

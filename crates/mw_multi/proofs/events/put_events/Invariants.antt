@@ -1,4 +1,4 @@
-use Rattle.std.proofs.Common.{◌≡◌, ℕ, List, ◌++◌, take}
+use Rattle.std.proofs.Common.{List, ◌++◌, take}
 use Rattle.mw_multi.specs.Placement.{Put as PlainPut}
 use Rattle.mw_multi.specs.Placement.{IsPlaced}
 use Rattle.mw_multi.specs.Events.{events_among}

@@ -1,4 +1,4 @@
-use Rattle.std.proofs.Common.{◌≡◌, ℕ, ◌<◌, List, length, take, sym, ap, subst, arith}
+use Rattle.std.proofs.Common.{◌<◌, List, length, take, sym, ap, subst, arith}
 use Rattle.mw_multi.specs.Joint.{Joint}
 use Rattle.mw_multi.specs.Placement.{Put, IsPlaced}
 use Rattle.mw_multi.specs.Events.{events_from}

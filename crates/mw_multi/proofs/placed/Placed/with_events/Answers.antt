@@ -1,0 +1,31 @@
+use Rattle.std.proofs.Common.{◌++◌, length, take, sym, ap, subst, arith}
+use Rattle.std.specs.Prelude.{filter}
+use Rattle.mw_multi.specs.Placement.{Put as PlainPut}
+use Rattle.mw_multi.specs.Placement.{IsPlaced}
+use Rattle.mw_multi.specs.Events.{events_of, is_at_no_event, put_where}
+use Rattle.mw_multi.proofs.Flags.{put_within, put_flag, next_free_put}
+use Rattle.mw_multi.proofs.placed.Placed.with_events.Goals as goal
+
+pub index-requires : goal.index-requires
+index-requires c =
+    let joint = c.args.joint.now in
+    let within = put_within joint c.args.placement.now c.as_slice-put-items.result.now c.loop-put.put-index c.put-item.result c.requires c.as_slice-put-items.ensures c.loop-put-test.true c.put-item.is in
+    let place = ap (λ (p : PlainPut). p.place) c.put.view_is in
+    let flags = ap length c.in_ok-flags.ensures in
+    omega arith
+
+pub loop-put-preserved : goal.loop-put-preserved
+loop-put-preserved c =
+    let joint = c.args.joint.now in
+    let placement = c.args.placement.now in
+    let items = c.as_slice-put-items.result.now in
+    let i = c.loop-put.put-index in
+    let put = c.put-item.result in
+    let free = c.index.result.now in
+    let front = events_of joint ++ filter (is_at_no_event joint.slots) (take i placement) in
+    let flag = put_flag joint placement items i put c.requires c.as_slice-put-items.ensures c.loop-put-test.true c.put-item.is
+    c.in_ok-flags.flags.items c.put.inside.place free c.in_ok-flags.ensures (ap (λ (p : PlainPut). p.place) c.put.view_is) c.index.ensures in
+    let next = next_free_put joint placement items i put c.requires c.as_slice-put-items.ensures c.loop-put-test.true c.put-item.is (events_of joint) free flag in
+    let placed : IsPlaced joint.slots (front ++ put_where free put) c.put_if.new.placed =
+    subst (λ p. IsPlaced joint.slots (front ++ put_where free p) c.put_if.new.placed) c.put.view_is (c.in_ok-put_if.ensures front c.loop-put.invariant) in
+    subst (λ ps. IsPlaced joint.slots ps c.put_if.new.placed) (sym next) placed
