@@ -1,5 +1,9 @@
 -- Lists that are made element by element.
-use Rattle.std.proofs.Common.{◌≡◌, ℕ, zero, suc, ◌+◌, ◌<◌, List, [], ◌∷◌, ◌++◌, length, get_or, take, refl, sym, ap, ap₂, ◌∙◌, arith, append_assoc, append-nil}
+use Rattle.std.proofs.Common.{◌≡◌, ℕ, zero, suc, ◌+◌, ◌<◌, ◌≤◌, List, [], ◌∷◌, ◌++◌, length, get_or, take, All, refl, sym, ap, ap₂, subst, ◌∙◌, arith, append_assoc, append-nil}
+use Rattle.std.specs.Prelude.{sum_by}
+use Rattle.std.proofs.lemmas.List.{length-append}
+use Rattle.std.proofs.lemmas.List.Elements.{All-nil, All-append}
+use Rattle.std.proofs.lemmas.List.Sums.{sum_by-cons}
 use Rattle.mw_fill.specs.Numbered.{each_numbered}
 
 later : {A B : Type 0} (f : ℕ → A → List B) (number : ℕ) (xs : List A) (k : ℕ) (x : A) → k < length xs → x ≡ get_or xs k x
@@ -20,3 +24,17 @@ pub numbered_more : {A B : Type 0} (f : ℕ → A → List B) (number : ℕ) (xs
 numbered_more f number xs k x h e =
     let one_more : k + 1 ≡ suc k = omega arith in
     ap (λ n. each_numbered f number (take n xs)) one_more ∙ later f number xs k x h e
+
+-- no more than the sum of what each element gives at most
+pub numbered_le : {A B : Type 0} (f : ℕ → A → List B) (size : A → ℕ) (number : ℕ) (xs : List A) → ((n : ℕ) → All (λ x. length (f n x) ≤ size x) xs) → length (each_numbered f number xs) ≤ sum_by size xs
+numbered_le f size number [] h = omega arith
+numbered_le f size number (x ∷ xs) h =
+    let here : length (f number x) ≤ size x = h number 0 x (omega arith) in
+    omega (arith, length-append (f number x) (each_numbered f (suc number) xs), sum_by-cons size x xs, numbered_le f size (suc number) xs (λ n i d l. h n (suc i) d (omega arith)))
+
+-- what holds of what each element gives
+pub numbered_all : {A B : Type 0} (P : B → Type 0) (f : ℕ → A → List B) (number : ℕ) (xs : List A) → ((k : ℕ) (x : A) → k < length xs → x ≡ get_or xs k x → All P (f (number + k) x)) → All P (each_numbered f number xs)
+numbered_all P f number [] h = All-nil P
+numbered_all P f number (x ∷ xs) h =
+    All-append P (f number x) (each_numbered f (suc number) xs) (let at : number + 0 ≡ number = omega arith in subst (λ n. All P (f n x)) at (h 0 x (omega arith) refl))
+    (numbered_all P f (suc number) xs (λ k y l e. let at : number + suc k ≡ suc number + k = omega arith in subst (λ n. All P (f n y)) at (h (suc k) y (omega arith) e)))

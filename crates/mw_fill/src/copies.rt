@@ -80,7 +80,8 @@ pub(crate) fn copies_of(
     joint: &Joint,
     group: Group,
 ) -> Result<List<ItemCopy>, Memory>
-    ensures { IfOk result (λ copies. copies ≡ plain_copies group joint.now) }
+    ensures copies { IfOk result (λ copies. copies ≡ plain_copies group joint.now) }
+    ensures few { IfOk result (λ copies. length copies ≤ 10240000) }
 {
     let slots = joint.slots.as_slice();
     let many = slots.len() > 1;

@@ -52,19 +52,30 @@ pub fn draw(word: u32, k: u32) -> u32
     ((u64::from(word) * u64::from(k)) >> 32) as u32
 }
 
-/// Puts fewer than 2^32 numbers into the order that the next words give. From the last entry down to the second, each
+/// Puts fewer than 2^32 entries into the order that the next words give. From the last entry down to the second, each
 /// changes places with the one at a number drawn at or below its own. It takes no memory.
+pub(crate) fn shuffle_entries<T>(words: &mut Words, entries: &mut [T])
+    requires few { length entries.old < 2 ^ 32 }
+    requires place { words.old.word_pos + length entries.old < 2 ^ 68 }
+    ensures entries { entries.new ≡ shuffled (words_of words.old) words.old.word_pos entries.old }
+    ensures words { words.new ≡ record words.old { word_pos = place_after words.old.word_pos entries.old } }
+{
+    let mut i = entries.len();
+    while 1 < i {
+        i -= 1;
+        let word = words.next();
+        let j = draw(word, (i + 1) as u32);
+        entries.swap(i, j as usize);
+    }
+}
+
+/// Puts fewer than 2^32 numbers into the order that the next words give. From the last one down to the second, each changes
+/// places with the one at a number drawn at or below its own. It takes no memory.
 pub fn shuffle(words: &mut Words, numbers: &mut [u32])
     requires few { length numbers.old < 2 ^ 32 }
     requires place { words.old.word_pos + length numbers.old < 2 ^ 68 }
     ensures numbers { numbers.new ≡ shuffled (words_of words.old) words.old.word_pos numbers.old }
     ensures words { words.new ≡ record words.old { word_pos = place_after words.old.word_pos numbers.old } }
 {
-    let mut i = numbers.len();
-    while 1 < i {
-        i -= 1;
-        let word = words.next();
-        let j = draw(word, (i + 1) as u32);
-        numbers.swap(i, j as usize);
-    }
+    shuffle_entries(words, numbers);
 }

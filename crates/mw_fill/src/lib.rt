@@ -5,6 +5,7 @@ mod copies;
 mod draws;
 mod group;
 mod item_copy;
+mod lists;
 mod locality;
 mod spot;
 mod spots;

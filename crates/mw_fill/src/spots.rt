@@ -70,7 +70,8 @@ fn push_slot(spots: &mut List<Spot>, number: u16, slot: &Slot) -> Result<(), Mem
 
 /// The locations with an id, by slot and table order; `Memory` where memory ran out.
 pub(crate) fn spots_of(alloc: Global, joint: &Joint) -> Result<List<Spot>, Memory>
-    ensures { IfOk result (λ spots. spots ≡ plain_spots joint.now) }
+    ensures spots { IfOk result (λ spots. spots ≡ plain_spots joint.now) }
+    ensures few { IfOk result (λ spots. length spots ≤ 200000) }
 {
     let mut spots = List::new(alloc);
     for (index, slot) in joint.slots.as_slice().iter().enumerate() {

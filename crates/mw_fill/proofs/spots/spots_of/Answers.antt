@@ -1,9 +1,10 @@
-use Rattle.std.proofs.Common.{◌≡◌, ◌++◌, ◌+◌, take, ap, sym, subst, ◌∙◌, arith}
-use Rattle.mw_multi.specs.Joint.{IsJoint}
+use Rattle.std.proofs.Common.{◌≡◌, ◌++◌, ◌+◌, length, take, take_all, ap, sym, subst, ◌∙◌, arith}
+use Rattle.mw_multi.specs.Joint.{Joint, IsJoint}
 use Rattle.mw_reach.proofs.Slots.{slot_fits}
 use Rattle.mw_fill.specs.Numbered.{each_numbered}
-use Rattle.mw_fill.specs.Spots.{slot_spots}
+use Rattle.mw_fill.specs.Spots.{slot_spots, spots_of as plain_spots}
 use Rattle.mw_fill.proofs.Numbered.{numbered_more}
+use Rattle.mw_fill.proofs.Locations.{spots_are_few}
 use Rattle.mw_fill.proofs.spots.spots_of.Goals as goal
 
 pub push_slot-requires : goal.push_slot-requires
@@ -22,3 +23,10 @@ loop-index-preserved c =
     let more = numbered_more slot_spots 1 items i c.slot-item.result c.loop-index-test.true c.slot-item.is in
     c.in_ok-push_slot.ensures ∙ ap (λ spots. spots ++ slot_spots (i + 1) c.slot-item.result) c.loop-index.invariant
     ∙ ap (λ n. each_numbered slot_spots 1 (take i items) ++ slot_spots n c.slot-item.result) (sym at) ∙ sym more
+
+pub returns-clause-few : goal.returns-clause-few
+returns-clause-few c =
+    let slots : c.as_slice-slot-items.result.now ≡ c.args.joint.now.slots = c.as_slice-slot-items.ensures ∙ ap (λ (j : Joint). j.slots) c.joint.view_is in
+    let whole : c.loop-index.spots ≡ plain_spots c.args.joint.now =
+    c.loop-index.invariant ∙ ap (each_numbered slot_spots 1) (take_all c.loop-index.index c.as_slice-slot-items.result.now c.loop-index-test.false ∙ slots) in
+    omega (arith, ap length whole, spots_are_few c.args.joint.now (subst IsJoint c.joint.view_is c.joint.invariant))
