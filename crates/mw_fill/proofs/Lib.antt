@@ -1,3 +1,4 @@
 pub mod Numbered
 pub mod Pools
 pub mod Locations
+pub mod Fitting

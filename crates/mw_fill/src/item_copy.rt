@@ -1,4 +1,7 @@
+use crate::error::FillError;
 use crate::locality::Locality;
+use crate::spot::Spot;
+use mw_multi::Put;
 use std::marker::Model;
 
 /// A copy of an item of a pool.
@@ -22,4 +25,31 @@ impl Model for ItemCopy {
     ghost view = { λ c. record { receiver = c.receiver; item = c.item; number = c.number; locality = c.locality } };
 
     ghost inverse = { λ c. record { receiver = c.receiver; item = c.item; number = c.number; locality = c.locality } };
+}
+
+impl ItemCopy {
+    ghost use Rattle.std.specs.Prelude.{◌≡◌};
+    ghost use Rattle.mw_fill.specs.Fill.{put_of};
+    ghost use Rattle.mw_fill.specs.declared.error.FillError.TheVariants.{Stuck};
+
+    /// The copy at a location.
+    pub fn put_at(&self, spot: &Spot) -> Put
+        ensures { result ≡ put_of self.now spot.now }
+    {
+        Put {
+            place: spot.place,
+            receiver: self.receiver,
+            item: self.item,
+        }
+    }
+
+    /// The error where it finds no location.
+    pub fn stuck(&self) -> FillError
+        ensures { result ≡ Stuck self.now.receiver self.now.item }
+    {
+        FillError::Stuck {
+            slot: self.receiver,
+            item: self.item,
+        }
+    }
 }
