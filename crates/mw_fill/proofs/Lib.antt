@@ -2,3 +2,6 @@ pub mod Numbered
 pub mod Pools
 pub mod Locations
 pub mod Fitting
+pub mod Stepping
+pub mod Runs
+pub mod Shuffling

@@ -6,6 +6,7 @@ use Rattle.mw_multi.specs.Events.{has_no_event}
 use Rattle.mw_fill.specs.Copies.{ItemCopy}
 use Rattle.mw_fill.specs.Spots.{Spot}
 use Rattle.mw_fill.specs.Fill.{what_stands}
+use Rattle.mw_fill.specs.Try.{or_filler}
 
 -- the item is one of its receiver's world, and its number one of the joint's
 pub record CopyKept (slots : List Slot) (copy : ItemCopy) : Type 0 where
@@ -32,3 +33,7 @@ pub record IsHeldFor (joint : Joint) (puts : List Put) (held : List (Option Put)
 -- nothing is held at the location, and it passes the test
 abbrev pub is_open_in : (Spot → Bool) → List (Option Put) → Spot → Bool
 is_open_in test held spot = is_none (slice_index_or held spot.place None) && test spot
+
+-- what is held at the location, or else the filler
+abbrev pub end_held : List (Option Put) → Spot → Put
+end_held held spot = or_filler (slice_index_or held spot.place None) spot

@@ -83,14 +83,18 @@ pub(crate) fn place_asked(
         (λ _. (puts : List PlainPut) × IsHeldFor joint.now puts held.new × FillRun is_reached joint.now spots.now copies.now [] (filled puts))
         (λ e. OnStuck e (λ slot item. FillRun is_reached joint.now spots.now copies.now [] (stuck slot item))) }
 {
+    // Reading the joint makes known what its type keeps.
+    let _ = &joint.slots;
     for copy in copies {
         hand.take_one(copy.number);
-        let Some(spot) = location_for(joint, copy, spots, hand, held, placed, reached) else {
-            return Err(copy.stuck());
-        };
-        let put = copy.put_at(&spot);
-        placed.put(joint, put)?;
-        held[spot.place as usize] = Some(put);
+        match location_for(joint, copy, spots, hand, held, placed, reached) {
+            None => return Err(copy.stuck()),
+            Some(spot) => {
+                let put = copy.put_at(&spot);
+                placed.put(joint, put)?;
+                held[spot.place as usize] = Some(put);
+            }
+        }
     }
     Ok(())
 }

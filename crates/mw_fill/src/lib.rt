@@ -7,9 +7,11 @@ mod copies;
 mod draws;
 mod error;
 mod group;
+mod hand;
 mod item_copy;
 mod lists;
 mod locality;
+mod placement;
 mod spot;
 mod spots;
 
