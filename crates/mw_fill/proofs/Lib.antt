@@ -5,3 +5,4 @@ pub mod Fitting
 pub mod Stepping
 pub mod Runs
 pub mod Shuffling
+pub mod Hands

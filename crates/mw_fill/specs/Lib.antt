@@ -4,5 +4,6 @@ pub mod Copies
 pub mod Spots
 pub mod Fill
 pub mod Kept
+pub mod ListsKept
 pub mod Answer
 pub mod Try

@@ -1,5 +1,6 @@
 ghost use Rattle.std.specs.Prelude.{◌≡◌, ◌<◌, ◌≤◌, ◌+◌, ◌*◌, ◌^◌, ◌++◌, All, IfOk, OnOk, length, replicate};
 ghost use Rattle.mw_multi.specs.Joint.{slot_items};
+ghost use Rattle.mw_fill.specs.Kept.{CopyKept};
 ghost use Rattle.mw_fill.specs.Copies.{copy_of as plain_copy, entry_copies, slot_copies, copies_of as plain_copies};
 
 use crate::group::Group;
@@ -82,6 +83,7 @@ pub(crate) fn copies_of(
 ) -> Result<List<ItemCopy>, Memory>
     ensures copies { IfOk result (λ copies. copies ≡ plain_copies group joint.now) }
     ensures few { IfOk result (λ copies. length copies ≤ 10240000) }
+    ensures kept { IfOk result (All (CopyKept joint.now.slots)) }
 {
     let slots = joint.slots.as_slice();
     let many = slots.len() > 1;

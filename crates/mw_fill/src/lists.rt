@@ -1,4 +1,5 @@
 ghost use Rattle.std.specs.Prelude.{◌≡◌, ◌<◌, ◌+◌, ◌^◌, IfOk, length};
+ghost use Rattle.mw_fill.specs.ListsKept.{AreKept};
 ghost use Rattle.mw_fill.specs.Draws.{words_of, shuffled, place_after};
 ghost use Rattle.mw_fill.specs.Try.{words as words_in, asked_in, spots_in, helping_in, filling_in};
 
@@ -48,6 +49,7 @@ pub(crate) fn lists_of(
     ensures spots { IfOk result (λ lists. lists.spots ≡ spots_in joint.now (words_in seed stream)) }
     ensures helping { IfOk result (λ lists. lists.helping ≡ helping_in joint.now (words_in seed stream)) }
     ensures filling { IfOk result (λ lists. lists.filling ≡ filling_in joint.now (words_in seed stream)) }
+    ensures kept { IfOk result (AreKept joint.now.slots) }
 {
     let mut words = Words::new(seed, stream);
     let asked = copies_of(alloc, joint, Group::Asked)?;

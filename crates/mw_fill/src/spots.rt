@@ -1,6 +1,7 @@
-ghost use Rattle.std.specs.Prelude.{◌≡◌, ◌<◌, ◌≤◌, ◌+◌, ◌^◌, ◌++◌, IfOk, OnOk, length, slice_get, Some};
+ghost use Rattle.std.specs.Prelude.{◌≡◌, ◌<◌, ◌≤◌, ◌+◌, ◌^◌, ◌++◌, All, IfOk, OnOk, length, slice_get, Some};
 ghost use Rattle.mw_multi.specs.Joint.{slot_places};
 ghost use Rattle.mw_multi.specs.declared.location.LocKind.{LocKind};
+ghost use Rattle.mw_fill.specs.Kept.{SpotKept};
 ghost use Rattle.mw_fill.specs.Spots.{kind_of as plain_kind, spot_of as plain_spot, spot_at, slot_spots, spots_of as plain_spots, of_kind, regular as plain_regular, all_kinds as plain_all};
 
 use crate::spot::Spot;
@@ -72,6 +73,7 @@ fn push_slot(spots: &mut List<Spot>, number: u16, slot: &Slot) -> Result<(), Mem
 pub(crate) fn spots_of(alloc: Global, joint: &Joint) -> Result<List<Spot>, Memory>
     ensures spots { IfOk result (λ spots. spots ≡ plain_spots joint.now) }
     ensures few { IfOk result (λ spots. length spots ≤ 200000) }
+    ensures kept { IfOk result (All (SpotKept joint.now.slots)) }
 {
     let mut spots = List::new(alloc);
     for (index, slot) in joint.slots.as_slice().iter().enumerate() {

@@ -41,8 +41,7 @@ loop-copy-preserved c =
           let before = c.loop-copy.invariant.so_far joint puts copies spots first in
           let found : first_fit (accepts copy) before.0 a.spots.now ≡ Some spot =
           sym (held_first (accepts copy) before.0 held a.spots.now before.1.entries) ∙ sym c.first_accepting.ensures ∙ c.in-Some.is in
-          let kept : CopyKept joint.slots copy = subst (CopyKept joint.slots) (sym c.copy-item.is) (copies c.loop-copy.copy-index copy c.loop-copy-test.true) in
-          (
+          let kept : CopyKept joint.slots copy = subst (CopyKept joint.slots) (sym c.copy-item.is) (copies c.loop-copy.copy-index copy c.loop-copy-test.true) in (
             before.0 ++ put_of copy spot ∷ [],
             subst (IsHeldFor joint (before.0 ++ put_of copy spot ∷ [])) (sym entry) (held_next joint copy (accepts copy) before.0 a.spots.now spot held kept spots before.1 found),
             before.2 ∙ anywhere_next a.copies.now c.loop-copy.copy-index copy c.loop-copy-test.true c.copy-item.is a.spots.now before.0 spot found,

@@ -1,11 +1,12 @@
-use Rattle.std.proofs.Common.{◌≡◌, ◌++◌, ◌+◌, length, take, take_all, ap, sym, subst, ◌∙◌, arith}
+use Rattle.std.proofs.Common.{◌≡◌, All, ◌++◌, ◌+◌, length, take, take_all, ap, sym, subst, ◌∙◌, arith}
 use Rattle.std.specs.Prelude.{nat_lt}
 use Rattle.mw_multi.specs.Joint.{Joint, IsJoint}
 use Rattle.mw_reach.proofs.Slots.{slot_fits}
+use Rattle.mw_fill.specs.Kept.{CopyKept}
 use Rattle.mw_fill.specs.Numbered.{each_numbered}
 use Rattle.mw_fill.specs.Copies.{slot_copies, copies_of as plain_copies}
 use Rattle.mw_fill.proofs.Numbered.{numbered_more}
-use Rattle.mw_fill.proofs.Pools.{copies_are_few}
+use Rattle.mw_fill.proofs.Pools.{copies_are_few, copies_kept}
 use Rattle.mw_fill.proofs.copies.copies_of.Goals as goal
 
 pub push_slot-requires : goal.push_slot-requires
@@ -33,3 +34,11 @@ returns-clause-few c =
     c.loop-index.invariant ∙ ap (each_numbered (slot_copies c.args.group (nat_lt 1 (length c.as_slice-slots.result.now))) 1) (take_all c.loop-index.index c.as_slice-slots.result.now c.loop-index-test.false)
     ∙ ap (λ ss. each_numbered (slot_copies c.args.group (nat_lt 1 (length ss))) 1 ss) slots in
     omega (arith, ap length whole, copies_are_few c.args.group c.args.joint.now (subst IsJoint c.joint.view_is c.joint.invariant))
+
+pub returns-clause-kept : goal.returns-clause-kept
+returns-clause-kept c =
+    let slots : c.as_slice-slots.result.now ≡ c.args.joint.now.slots = c.as_slice-slots.ensures ∙ ap (λ (j : Joint). j.slots) c.joint.view_is in
+    let whole : c.loop-index.copies ≡ plain_copies c.args.group c.args.joint.now =
+    c.loop-index.invariant ∙ ap (each_numbered (slot_copies c.args.group (nat_lt 1 (length c.as_slice-slots.result.now))) 1) (take_all c.loop-index.index c.as_slice-slots.result.now c.loop-index-test.false)
+    ∙ ap (λ ss. each_numbered (slot_copies c.args.group (nat_lt 1 (length ss))) 1 ss) slots in
+    subst (All (CopyKept c.args.joint.now.slots)) (sym whole) (copies_kept c.args.group c.args.joint.now (subst IsJoint c.joint.view_is c.joint.invariant))

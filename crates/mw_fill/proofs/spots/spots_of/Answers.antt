@@ -1,10 +1,11 @@
-use Rattle.std.proofs.Common.{◌≡◌, ◌++◌, ◌+◌, length, take, take_all, ap, sym, subst, ◌∙◌, arith}
+use Rattle.std.proofs.Common.{◌≡◌, All, ◌++◌, ◌+◌, length, take, take_all, ap, sym, subst, ◌∙◌, arith}
 use Rattle.mw_multi.specs.Joint.{Joint, IsJoint}
 use Rattle.mw_reach.proofs.Slots.{slot_fits}
+use Rattle.mw_fill.specs.Kept.{SpotKept}
 use Rattle.mw_fill.specs.Numbered.{each_numbered}
 use Rattle.mw_fill.specs.Spots.{slot_spots, spots_of as plain_spots}
 use Rattle.mw_fill.proofs.Numbered.{numbered_more}
-use Rattle.mw_fill.proofs.Locations.{spots_are_few}
+use Rattle.mw_fill.proofs.Locations.{spots_are_few, spots_kept}
 use Rattle.mw_fill.proofs.spots.spots_of.Goals as goal
 
 pub push_slot-requires : goal.push_slot-requires
@@ -30,3 +31,10 @@ returns-clause-few c =
     let whole : c.loop-index.spots ≡ plain_spots c.args.joint.now =
     c.loop-index.invariant ∙ ap (each_numbered slot_spots 1) (take_all c.loop-index.index c.as_slice-slot-items.result.now c.loop-index-test.false ∙ slots) in
     omega (arith, ap length whole, spots_are_few c.args.joint.now (subst IsJoint c.joint.view_is c.joint.invariant))
+
+pub returns-clause-kept : goal.returns-clause-kept
+returns-clause-kept c =
+    let slots : c.as_slice-slot-items.result.now ≡ c.args.joint.now.slots = c.as_slice-slot-items.ensures ∙ ap (λ (j : Joint). j.slots) c.joint.view_is in
+    let whole : c.loop-index.spots ≡ plain_spots c.args.joint.now =
+    c.loop-index.invariant ∙ ap (each_numbered slot_spots 1) (take_all c.loop-index.index c.as_slice-slot-items.result.now c.loop-index-test.false ∙ slots) in
+    subst (All (SpotKept c.args.joint.now.slots)) (sym whole) (spots_kept c.args.joint.now (subst IsJoint c.joint.view_is c.joint.invariant))
