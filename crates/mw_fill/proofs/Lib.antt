@@ -6,3 +6,5 @@ pub mod Stepping
 pub mod Runs
 pub mod Shuffling
 pub mod Hands
+pub mod Trying
+pub mod Ascending

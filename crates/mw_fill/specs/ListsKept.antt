@@ -2,7 +2,7 @@
 use Rattle.std.specs.Prelude.{◌≤◌, List, All, length}
 use Rattle.mw_multi.specs.Joint.{Slot}
 use Rattle.mw_fill.specs.Kept.{CopyKept, SpotKept}
-use Rattle.mw_fill.specs.declared.lists.Lists.{Lists}
+use Rattle.mw_fill.specs.Try.{Lists}
 
 -- the copies and the locations are the joint's
 pub record AreKept (slots : List Slot) (lists : Lists) : Type 0 where

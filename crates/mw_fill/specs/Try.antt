@@ -10,6 +10,13 @@ use Rattle.mw_fill.specs.Fill.{Outcome, filled, stuck, FillRun, is_reached, plac
 
 -- ---- shuffles
 
+-- the copies that rules ask for, the locations with an id, the useful copies, and the filler and trap copies
+pub record Lists : Type 0 where
+  pub asked : List ItemCopy
+  pub spots : List Spot
+  pub helping : List ItemCopy
+  pub filling : List ItemCopy
+
 -- where the words for the locations begin, after those for the copies that rules ask for
 abbrev pub spots_begin : Joint → ℕ
 spots_begin joint = place_after 0 (copies_of Asked joint)
@@ -22,22 +29,18 @@ helping_begin joint = place_after (spots_begin joint) (spots_of joint)
 abbrev pub filling_begin : Joint → ℕ
 filling_begin joint = place_after (helping_begin joint) (copies_of Helping joint)
 
--- the words of a stream of a seed
-abbrev pub words : ℕ → ℕ → ℕ → ℕ
-words seed stream = words_of (start_of seed stream)
+-- the four lists in the order of their shuffles, one after another
+abbrev pub lists_in : Joint → (ℕ → ℕ) → Lists
+lists_in joint words = record {
+  asked = shuffled words 0 (copies_of Asked joint);
+  spots = shuffled words (spots_begin joint) (spots_of joint);
+  helping = shuffled words (helping_begin joint) (copies_of Helping joint);
+  filling = shuffled words (filling_begin joint) (copies_of Filling joint);
+}
 
--- the four lists in the order of the shuffles
-abbrev pub asked_in : Joint → (ℕ → ℕ) → List ItemCopy
-asked_in joint words = shuffled words 0 (copies_of Asked joint)
-
-abbrev pub spots_in : Joint → (ℕ → ℕ) → List Spot
-spots_in joint words = shuffled words (spots_begin joint) (spots_of joint)
-
-abbrev pub helping_in : Joint → (ℕ → ℕ) → List ItemCopy
-helping_in joint words = shuffled words (helping_begin joint) (copies_of Helping joint)
-
-abbrev pub filling_in : Joint → (ℕ → ℕ) → List ItemCopy
-filling_in joint words = shuffled words (filling_begin joint) (copies_of Filling joint)
+-- those of a stream of a seed
+abbrev pub lists_of : Joint → ℕ → ℕ → Lists
+lists_of joint seed stream = lists_in joint (words_of (start_of seed stream))
 
 -- ---- the fill
 
@@ -46,13 +49,12 @@ and_then (filled puts) next = next puts
 and_then (stuck slot item) next = stuck slot item
 
 -- useful copies at priority and then default locations; filler and trap copies at excluded ones first
-abbrev pub the_rest : Joint → (ℕ → ℕ) → List Put → Outcome
-the_rest joint words puts =
-    and_then (placed_anywhere (regular (spots_in joint words)) (helping_in joint words) puts) (placed_anywhere (all_kinds (spots_in joint words)) (filling_in joint words))
+abbrev pub the_rest : Lists → List Put → Outcome
+the_rest lists puts = and_then (placed_anywhere (regular lists.spots) lists.helping puts) (placed_anywhere (all_kinds lists.spots) lists.filling)
 
 -- what a try comes to: first the copies that rules ask for, then the rest
-abbrev pub IsOutcome : Joint → (ℕ → ℕ) → Outcome → Type 0
-IsOutcome joint words out = (first : Outcome) × FillRun is_reached joint (regular (spots_in joint words)) (asked_in joint words) [] first × (out ≡ and_then first (the_rest joint words))
+abbrev pub IsOutcome : Joint → Lists → Outcome → Type 0
+IsOutcome joint lists out = (first : Outcome) × FillRun is_reached joint (regular lists.spots) lists.asked [] first × (out ≡ and_then first (the_rest lists))
 
 -- ---- the placement
 
@@ -74,8 +76,8 @@ placement_of joint puts = map (end_put puts) (spots_of joint)
 
 -- the try with this number gives the placement
 abbrev pub IsFilled : Joint → ℕ → ℕ → List Put → Type 0
-IsFilled joint seed stream placement = (puts : List Put) × IsOutcome joint (words seed stream) (filled puts) × (placement ≡ placement_of joint puts)
+IsFilled joint seed stream placement = (puts : List Put) × IsOutcome joint (lists_of joint seed stream) (filled puts) × (placement ≡ placement_of joint puts)
 
 -- the try with this number ends at a copy that finds no location: its slot and its item
 abbrev pub IsStuck : Joint → ℕ → ℕ → ℕ → ℕ → Type 0
-IsStuck joint seed stream slot item = IsOutcome joint (words seed stream) (stuck slot item)
+IsStuck joint seed stream slot item = IsOutcome joint (lists_of joint seed stream) (stuck slot item)

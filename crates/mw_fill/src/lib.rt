@@ -11,9 +11,11 @@ mod hand;
 mod item_copy;
 mod lists;
 mod locality;
+mod one_try;
 mod placement;
 mod spot;
 mod spots;
 
 pub use draws::{Words, draw, shuffle};
 pub use error::FillError;
+pub use one_try::fill_try;

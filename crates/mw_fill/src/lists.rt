@@ -1,7 +1,7 @@
 ghost use Rattle.std.specs.Prelude.{◌≡◌, ◌<◌, ◌+◌, ◌^◌, IfOk, length};
 ghost use Rattle.mw_fill.specs.ListsKept.{AreKept};
 ghost use Rattle.mw_fill.specs.Draws.{words_of, shuffled, place_after};
-ghost use Rattle.mw_fill.specs.Try.{words as words_in, asked_in, spots_in, helping_in, filling_in};
+ghost use Rattle.mw_fill.specs.Try.{lists_of as plain_lists};
 
 use crate::copies::copies_of;
 use crate::draws::{Words, shuffle_entries};
@@ -12,6 +12,7 @@ use crate::spots::spots_of;
 use mw_base::{List, Memory};
 use mw_multi::Joint;
 use std::alloc::Global;
+use std::marker::Model;
 
 /// The entries in the order that the next words give. It takes no memory.
 fn shuffled_list<T>(words: &mut Words, list: List<T>) -> List<T>
@@ -38,6 +39,14 @@ pub(crate) struct Lists {
     pub filling: List<ItemCopy>,
 }
 
+impl Model for Lists {
+    ghost use Rattle.mw_fill.specs.Try as plain;
+
+    ghost Value = { plain.Lists };
+
+    ghost view = { λ l. record { asked = l.asked; spots = l.spots; helping = l.helping; filling = l.filling } };
+}
+
 /// The lists of a try; `Memory` where memory ran out.
 pub(crate) fn lists_of(
     alloc: Global,
@@ -45,10 +54,7 @@ pub(crate) fn lists_of(
     seed: u64,
     stream: u64,
 ) -> Result<Lists, Memory>
-    ensures asked { IfOk result (λ lists. lists.asked ≡ asked_in joint.now (words_in seed stream)) }
-    ensures spots { IfOk result (λ lists. lists.spots ≡ spots_in joint.now (words_in seed stream)) }
-    ensures helping { IfOk result (λ lists. lists.helping ≡ helping_in joint.now (words_in seed stream)) }
-    ensures filling { IfOk result (λ lists. lists.filling ≡ filling_in joint.now (words_in seed stream)) }
+    ensures lists { IfOk result (λ lists. lists ≡ plain_lists joint.now seed stream) }
     ensures kept { IfOk result (AreKept joint.now.slots) }
 {
     let mut words = Words::new(seed, stream);
