@@ -6,4 +6,5 @@ pub mod Fill
 pub mod Kept
 pub mod ListsKept
 pub mod Answer
+pub mod Generated
 pub mod Try
