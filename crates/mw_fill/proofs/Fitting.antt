@@ -1,12 +1,12 @@
 -- The first location that fits, and what is held as one item more is put.
-use Rattle.std.proofs.Common.{◌≡◌, ◌≢◌, ℕ, zero, suc, ◌+◌, ◌<◌, ◌&&◌, Bool, true, false, cond, List, [], ◌∷◌, ◌++◌, Option, Some, None, All, length, get_or, set, length-set, drop, refl, sym, ap, ap₂, subst, ◌∙◌, inl, inr, arith}
-use Rattle.std.specs.Prelude.{find, is_none, is_some, ◌==◌}
+use Rattle.std.proofs.Common.{◌≡◌, ℕ, suc, ◌<◌, ◌&&◌, Bool, true, false, cond, List, [], ◌∷◌, ◌++◌, Option, Some, None, All, length, get_or, set, length-set, refl, sym, ap, ap₂, subst, ◌∙◌, inl, inr, arith}
+use Rattle.std.specs.Prelude.{find, is_none, ◌==◌}
 use Rattle.std.proofs.lemmas.Bool.{cases_Bool, cases_eq, and_parts, cond-true, cond-false}
 use Rattle.std.proofs.lemmas.Bool.Decides.{Decides-eqb}
 use Rattle.std.proofs.lemmas.List.{get_or-set_same, get_or-set_other}
 use Rattle.std.proofs.lemmas.List.Elements.{All-push}
-use Rattle.mw_multi.specs.Joint.{Joint, place_total}
-use Rattle.mw_multi.specs.Placement.{Put, PutKept, stands_at}
+use Rattle.mw_multi.specs.Joint.{Joint}
+use Rattle.mw_multi.specs.Placement.{Put, PutKept}
 use Rattle.mw_fill.specs.Spots.{Spot}
 use Rattle.mw_fill.specs.Fill.{what_stands, is_fit, first_fit}
 use Rattle.mw_fill.specs.Kept.{AreHeld, IsHeldFor, is_open_in}

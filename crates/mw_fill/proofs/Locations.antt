@@ -1,6 +1,6 @@
 -- The locations with an id.
-use Rattle.std.proofs.Common.{◌≡◌, ℕ, suc, ◌+◌, ◌<◌, ◌≤◌, Bool, true, false, List, [], ◌∷◌, ◌++◌, All, get_or, length, refl, sym, ap, subst, ◌∙◌, arith}
-use Rattle.std.specs.Prelude.{Option, Some, None, not, is_some, slice_get, sum_by, if◌then◌else◌}
+use Rattle.std.proofs.Common.{◌≡◌, ℕ, suc, ◌+◌, ◌<◌, ◌≤◌, Bool, true, false, List, [], ◌∷◌, All, get_or, length, refl, sym, ap, subst, ◌∙◌, arith}
+use Rattle.std.specs.Prelude.{Option, Some, None, not, is_some, slice_get, if◌then◌else◌}
 use Rattle.std.proofs.lemmas.List.{length-append}
 use Rattle.std.proofs.lemmas.List.Elements.{All-nil, All-cons}
 use Rattle.mw_multi.specs.World.{Location, Item}
@@ -9,7 +9,7 @@ use Rattle.mw_multi.specs.Placement.{Put, Site, PutKept, fits_event, fits_site, 
 use Rattle.mw_multi.specs.Events.{has_no_event}
 use Rattle.mw_multi.proofs.Sites.{get_some, location_site}
 use Rattle.mw_reach.proofs.Slots.{slot_fits}
-use Rattle.mw_multi.specs.Joint.{Slot, Joint, IsJoint, slot_places, place_total}
+use Rattle.mw_multi.specs.Joint.{Slot, Joint, IsJoint, slot_places}
 use Rattle.mw_fill.specs.Kept.{SpotKept}
 use Rattle.mw_fill.specs.Numbered.{each_numbered}
 use Rattle.mw_fill.specs.Spots.{Spot, spot_of, spot_at, slot_spots, spots_of}

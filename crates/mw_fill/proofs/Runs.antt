@@ -1,24 +1,24 @@
 -- The run over the copies that rules ask for, copy by copy.
-use Rattle.std.proofs.Common.{◌≡◌, ℕ, zero, suc, ◌+◌, ◌-◌, ◌<◌, ◌≤◌, ◌^◌, ◌&&◌, Bool, true, false, cond, List, [], ◌∷◌, ◌++◌, Option, Some, None, All, length, get_or, set, drop, length-set, refl, sym, ap, subst, ◌∙◌, inl, inr, arith, append_assoc, append-nil}
-use Rattle.std.specs.Prelude.{count_by, ◌==◌, MatchOption}
+use Rattle.std.proofs.Common.{◌≡◌, ℕ, ◌+◌, ◌-◌, ◌<◌, ◌≤◌, ◌&&◌, Bool, true, false, cond, List, [], ◌∷◌, ◌++◌, Option, Some, None, All, length, get_or, set, drop, length-set, refl, sym, ap, subst, ◌∙◌, inl, inr, arith, append_assoc, append-nil}
+use Rattle.std.specs.Prelude.{◌==◌}
 use Rattle.std.proofs.lemmas.Bool.{cases_Bool, cases_eq}
 use Rattle.std.proofs.lemmas.Bool.Decides.{Decides-eqb}
 use Rattle.std.proofs.lemmas.List.{drop_all, length-append, get_or-set_same, get_or-set_other}
 use Rattle.std.proofs.lemmas.List.Sums.{sum_by-cons}
-use Rattle.mw_rules.specs.Holds.{Bag, Places, bag_of}
-use Rattle.mw_multi.specs.Joint.{Joint, IsJoint, item_total}
-use Rattle.mw_multi.specs.Bags.{IsBagOf, start_count}
+use Rattle.mw_rules.specs.Holds.{Places, bag_of}
+use Rattle.mw_multi.specs.Joint.{Joint, IsJoint}
+use Rattle.mw_multi.specs.Bags.{IsBagOf}
 use Rattle.mw_multi.specs.Steps.{steps_of}
-use Rattle.mw_multi.specs.Placement.{Put, PutKept, IsPlaced}
+use Rattle.mw_multi.specs.Placement.{Put, IsPlaced}
 use Rattle.mw_multi.specs.Events.{events_of}
 use Rattle.mw_multi.proofs.Few.{events_are_few}
-use Rattle.mw_reach.specs.Reach.{bag_with, IsLeast}
+use Rattle.mw_reach.specs.Reach.{IsLeast}
 use Rattle.mw_reach.specs.Reached.{IsPlacedFor}
 use Rattle.mw_reach.proofs.Placing.{placed_for}
 use Rattle.mw_reach.proofs.SameLeast.{IsLeast-same}
 use Rattle.mw_fill.specs.Copies.{ItemCopy, has_number, copies_count}
 use Rattle.mw_fill.specs.Spots.{Spot, accepts}
-use Rattle.mw_fill.specs.Fill.{Outcome, filled, stuck, stuck_with, put_of, first_fit, in_hand, is_reached, FillRun}
+use Rattle.mw_fill.specs.Fill.{Outcome, filled, stuck_with, put_of, first_fit, in_hand, is_reached, FillRun}
 use Rattle.mw_fill.specs.Kept.{CopyKept, SpotKept, IsHeldFor}
 use Rattle.mw_fill.proofs.Stepping.{next_copy, held_next}
 

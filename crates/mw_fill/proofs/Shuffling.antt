@@ -1,10 +1,10 @@
 -- What a shuffle keeps.
-use Rattle.std.proofs.Common.{◌≡◌, ℕ, zero, suc, ◌+◌, ◌-◌, ◌<◌, ◌≤◌, List, [], ◌∷◌, All, length, get_or, set, refl, ◌∙◌, subst, sym, inl, inr, arith}
+use Rattle.std.proofs.Common.{◌≡◌, ℕ, zero, suc, ◌-◌, List, [], ◌∷◌, All, length, get_or, set, refl, ◌∙◌, subst, sym, inl, inr, arith}
 use Rattle.std.specs.List.{swap}
 use Rattle.std.proofs.lemmas.Bool.{cases_lt}
 use Rattle.std.proofs.lemmas.List.{get_or_past}
 use Rattle.std.proofs.lemmas.List.Edits.{length-swap}
-use Rattle.std.proofs.lemmas.List.Elements.{All-nil, All-set}
+use Rattle.std.proofs.lemmas.List.Elements.{All-set}
 use Rattle.mw_fill.specs.Draws.{drawn, shuffled, shuffled_down}
 
 -- an element, or the first one in place of one past the end

@@ -1,13 +1,12 @@
 -- A fill, copy by copy.
-use Rattle.std.proofs.Common.{◌≡◌, ℕ, zero, suc, ◌+◌, ◌-◌, ◌<◌, ◌≤◌, ◌^◌, ◌&&◌, Bool, true, false, cond, List, [], ◌∷◌, ◌++◌, Option, Some, None, All, length, get_or, set, drop, refl, sym, ap, subst, ◌∙◌, inl, inr, arith, append_assoc}
+use Rattle.std.proofs.Common.{◌≡◌, ℕ, ◌+◌, ◌<◌, ◌≤◌, Bool, List, [], ◌∷◌, ◌++◌, Option, Some, None, All, length, get_or, set, drop, sym, ap, ◌∙◌, arith}
 use Rattle.std.proofs.lemmas.List.{drop_all, drop_more}
-use Rattle.mw_rules.specs.Holds.{Bag, Places}
 use Rattle.mw_multi.specs.Joint.{Joint}
-use Rattle.mw_multi.specs.Placement.{Put, PutKept, IsPlaced}
+use Rattle.mw_multi.specs.Placement.{Put}
 use Rattle.mw_fill.specs.Copies.{ItemCopy}
 use Rattle.mw_fill.specs.Spots.{Spot, accepts}
-use Rattle.mw_fill.specs.Fill.{Outcome, filled, stuck, stuck_with, put_of, first_fit, or_stuck, placed_anywhere, what_stands}
-use Rattle.mw_fill.specs.Kept.{CopyKept, SpotKept, AreHeld, IsHeldFor}
+use Rattle.mw_fill.specs.Fill.{filled, stuck_with, put_of, first_fit, or_stuck, placed_anywhere}
+use Rattle.mw_fill.specs.Kept.{CopyKept, SpotKept, IsHeldFor}
 use Rattle.mw_fill.proofs.Fitting.{find_all, free_there, held_put}
 use Rattle.mw_fill.proofs.Locations.{put_kept}
 

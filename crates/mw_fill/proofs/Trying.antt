@@ -1,8 +1,8 @@
 -- What a try comes to.
-use Rattle.std.proofs.Common.{◌≡◌, ℕ, ◌<◌, List, [], ◌++◌, Option, All, length, sym, ap, subst, refl, ◌∙◌, arith}
+use Rattle.std.proofs.Common.{◌≡◌, ℕ, ◌<◌, List, [], Option, All, length, sym, ap, subst, refl, ◌∙◌, arith}
 use Rattle.std.specs.Prelude.{Result, Ok, Err, MatchResult}
 use Rattle.std.proofs.lemmas.List.Elements.{All-append, All-filter}
-use Rattle.mw_multi.specs.Joint.{Joint, Slot}
+use Rattle.mw_multi.specs.Joint.{Joint}
 use Rattle.mw_multi.specs.Placement.{Put}
 use Rattle.mw_multi.specs.declared.location.LocKind.TheVariants.{Default, Priority, Excluded}
 use Rattle.mw_fill.specs.declared.error.FillError.{FillError}
@@ -10,7 +10,7 @@ use Rattle.mw_fill.specs.declared.error.FillError.TheVariants.{Stuck, Memory}
 use Rattle.mw_fill.specs.Copies.{ItemCopy}
 use Rattle.mw_fill.specs.Spots.{Spot, has_kind, of_kind, regular, all_kinds}
 use Rattle.mw_fill.specs.Fill.{Outcome, filled, stuck, is_reached, FillRun, placed_anywhere}
-use Rattle.mw_fill.specs.Try.{Lists, and_then, the_rest, IsOutcome}
+use Rattle.mw_fill.specs.Try.{Lists, and_then, IsOutcome}
 use Rattle.mw_fill.specs.Kept.{SpotKept, IsHeldFor}
 use Rattle.mw_fill.specs.Answer.{OnStuck}
 

@@ -1,5 +1,5 @@
 -- The copies of the pools, and where each may stand.
-use Rattle.std.specs.Prelude.{ℕ, ◌+◌, ◌==◌, List, [], Option, Some, None, Bool, true, false, not, ◌&&◌, count_by, flat_map, length, nat_lt, replicate, slice_get, slice_index_or, if◌then◌else◌}
+use Rattle.std.specs.Prelude.{ℕ, ◌+◌, ◌==◌, List, [], Option, Some, None, Bool, true, false, ◌&&◌, count_by, flat_map, length, nat_lt, replicate, slice_get, slice_index_or, if◌then◌else◌}
 use Rattle.mw_multi.specs.World.{Item, PoolEntry}
 use Rattle.mw_multi.specs.RulesKept.{is_progression}
 use Rattle.mw_multi.specs.Joint.{Slot, Joint}

@@ -1,10 +1,7 @@
-use Rattle.std.proofs.Common.{◌≡◌, ◌<◌, ◌++◌, ◌∷◌, [], ℕ, List, Option, Some, None, All, set, get_or, length, length-set, sym, ap, ap₂, subst, ◌∙◌, refl, arith}
-use Rattle.mw_multi.specs.Joint.{Joint}
-use Rattle.mw_multi.specs.Placement.{Put}
-use Rattle.mw_fill.specs.Copies.{ItemCopy}
+use Rattle.std.proofs.Common.{◌≡◌, ◌<◌, ◌++◌, ◌∷◌, [], Some, None, set, length, length-set, sym, ap, ap₂, subst, ◌∙◌, refl, arith}
 use Rattle.mw_fill.specs.Spots.{Spot, accepts}
-use Rattle.mw_fill.specs.Fill.{stuck, filled, put_of, first_fit, placed_anywhere}
-use Rattle.mw_fill.specs.Kept.{CopyKept, SpotKept, IsHeldFor}
+use Rattle.mw_fill.specs.Fill.{stuck, put_of, first_fit, placed_anywhere}
+use Rattle.mw_fill.specs.Kept.{CopyKept, IsHeldFor}
 use Rattle.mw_fill.specs.Answer.{OnStuck}
 use Rattle.mw_fill.proofs.Fitting.{find_all, held_first}
 use Rattle.mw_fill.proofs.Stepping.{anywhere_stuck, anywhere_next, anywhere_end, held_next}

@@ -1,9 +1,9 @@
-use Rattle.std.proofs.Common.{◌≡◌, ◌+◌, ◌-◌, ◌<◌, ◌&&◌, ◌++◌, ◌∷◌, [], List, Some, None, All, set, get_or, length, sym, ap, ap₂, subst, ◌∙◌, arith}
+use Rattle.std.proofs.Common.{◌≡◌, ◌+◌, ◌-◌, ◌&&◌, ◌++◌, ◌∷◌, [], Some, None, set, get_or, sym, ap, ap₂, subst, ◌∙◌, arith}
 use Rattle.mw_rules.specs.Holds.{bag_of}
 use Rattle.mw_reach.specs.Reach.{IsLeast}
 use Rattle.mw_multi.specs.Steps.{steps_of}
-use Rattle.mw_multi.specs.Joint.{Joint, IsJoint}
-use Rattle.mw_multi.specs.Placement.{Put, PutKept, IsPlaced}
+use Rattle.mw_multi.specs.Joint.{IsJoint}
+use Rattle.mw_multi.specs.Placement.{PutKept, IsPlaced}
 use Rattle.mw_multi.specs.Events.{events_of}
 use Rattle.mw_fill.specs.Copies.{ItemCopy}
 use Rattle.mw_fill.specs.Spots.{Spot, accepts}
@@ -12,7 +12,7 @@ use Rattle.mw_fill.specs.Kept.{CopyKept, SpotKept}
 use Rattle.mw_fill.specs.Answer.{OnStuck}
 use Rattle.mw_fill.proofs.Fitting.{find_all, held_first}
 use Rattle.mw_fill.proofs.Locations.{put_kept}
-use Rattle.mw_fill.proofs.Runs.{IsPlacedSoFar, placed_here, stuck_here, one_placed, end_is}
+use Rattle.mw_fill.proofs.Runs.{IsPlacedSoFar, placed_here, stuck_here, one_placed}
 use Rattle.mw_fill.proofs.assumed.place_asked.Goals as goal
 
 pub location_for-requires-clause-placed : goal.location_for-requires-clause-placed

@@ -1,4 +1,4 @@
-use Rattle.std.proofs.Common.{◌≡◌, ◌++◌, ◌<◌, ℕ, List, length, get_or, sym, ap, ap₂, subst, ◌∙◌, append-nil, arith, Bool, false, true, replicate}
+use Rattle.std.proofs.Common.{◌≡◌, ◌++◌, List, length, get_or, sym, ap, ap₂, subst, ◌∙◌, append-nil, arith, false, true, replicate}
 use Rattle.std.specs.Prelude.{OnOk, []}
 use Rattle.mw_multi.specs.World.{World, Item, PoolEntry}
 use Rattle.mw_multi.specs.Joint.{Slot}

@@ -1,4 +1,4 @@
-use Rattle.std.proofs.Common.{◌≡◌, sym, subst, ◌∙◌, arith}
+use Rattle.std.proofs.Common.{subst, ◌∙◌, arith}
 use Rattle.mw_rules.specs.Holds.{bag_of}
 use Rattle.mw_multi.specs.Joint.{IsJoint}
 use Rattle.mw_multi.specs.Steps.{steps_of}

@@ -1,10 +1,9 @@
-use Rattle.std.proofs.Common.{◌≡◌, ◌+◌, ◌<◌, ◌≤◌, ◌*◌, List, get_or, length, set, take, length-set, length-take, sym, ap, subst, ◌∙◌, arith}
+use Rattle.std.proofs.Common.{◌≡◌, ◌+◌, ◌<◌, get_or, length, set, take, length-set, length-take, sym, ap, subst, ◌∙◌, arith}
 use Rattle.std.proofs.lemmas.List.Sums.{count_by-le-length}
-use Rattle.mw_rules.specs.Holds.{bag_of}
-use Rattle.mw_multi.specs.Joint.{Joint, IsJoint, item_total}
+use Rattle.mw_multi.specs.Joint.{IsJoint, item_total}
 use Rattle.mw_multi.specs.Bags.{start_count}
 use Rattle.mw_multi.proofs.Counts.{start_bound}
-use Rattle.mw_fill.specs.Copies.{ItemCopy, has_number, copies_count}
+use Rattle.mw_fill.specs.Copies.{ItemCopy, has_number}
 use Rattle.mw_fill.proofs.Hands.{hand_more}
 use Rattle.mw_fill.proofs.hand.hand_of.Goals as goal
 

@@ -1,4 +1,4 @@
-use Rattle.std.proofs.Common.{◌≡◌, ◌≤◌, List, All, length, sym, ap, ap₂, subst, ◌∙◌, arith}
+use Rattle.std.proofs.Common.{◌≡◌, List, All, length, sym, ap, ap₂, subst, ◌∙◌, arith}
 use Rattle.rand_chacha.specs.ChaCha.{ChaCha}
 use Rattle.mw_fill.specs.Draws.{start_of, words_of, shuffled, place_after}
 use Rattle.mw_fill.specs.Copies.{ItemCopy}

@@ -1,7 +1,6 @@
-use Rattle.std.proofs.Common.{◌≡◌, ◌<◌, ℕ, List, [], All, length, sym, ap, ap₂, subst, ◌∙◌}
+use Rattle.std.proofs.Common.{◌≡◌, List, [], All, sym, ap, ap₂, subst, ◌∙◌}
 use Rattle.mw_multi.specs.Placement.{Put}
-use Rattle.mw_fill.specs.Copies.{ItemCopy}
-use Rattle.mw_fill.specs.Spots.{Spot, regular, all_kinds}
+use Rattle.mw_fill.specs.Spots.{regular, all_kinds}
 use Rattle.mw_fill.specs.Fill.{filled, stuck, is_reached, FillRun, placed_anywhere}
 use Rattle.mw_fill.specs.Try.{Lists, IsOutcome}
 use Rattle.mw_fill.specs.Kept.{CopyKept, SpotKept, IsHeldFor}

@@ -1,10 +1,9 @@
-use Rattle.std.proofs.Common.{◌≡◌, ◌<◌, List, All, length, map, sym, ap, subst, ◌∙◌, arith}
+use Rattle.std.proofs.Common.{◌≡◌, map, sym, ap, subst, ◌∙◌}
 use Rattle.mw_multi.specs.Joint.{IsJoint}
 use Rattle.mw_multi.specs.Placement.{IsPlacement}
-use Rattle.mw_fill.specs.Try.{end_put, placement_of}
-use Rattle.mw_fill.specs.Kept.{SpotKept, end_held}
+use Rattle.mw_fill.specs.Try.{placement_of}
+use Rattle.mw_fill.specs.Kept.{end_held}
 use Rattle.mw_fill.proofs.Ascending.{held_placement, placement_kept}
-use Rattle.mw_fill.proofs.Trying.{places_within}
 use Rattle.mw_fill.proofs.one_try.place_lists.Goals as goal
 
 pub returns-clause-answer : goal.returns-clause-answer
