@@ -24,7 +24,7 @@ map_same f g (x ∷ xs) h = ap₂ (λ y ys. y ∷ ys) (h x) (map_same f g xs h)
 -- ---- numbers that ascend
 
 -- they ascend from this one on, each below that one
-abbrev Rises : ℕ → List ℕ → ℕ → Type 0
+abbrev pub Rises : ℕ → List ℕ → ℕ → Type 0
 Rises low [] high = low ≤ high
 Rises low (x ∷ xs) high = (low ≤ x) × (x < high) × Rises (suc x) xs high
 
@@ -51,7 +51,7 @@ increasing low xs high r = λ k h. let at : suc k ≡ k + 1 = omega arith in sub
 
 -- ---- places of locations
 
-abbrev place_of : Spot → ℕ
+abbrev pub place_of : Spot → ℕ
 place_of spot = spot.place
 
 map_map : {A B C : Type 0} (g : B → C) (f : A → B) (xs : List A) → map g (map f xs) ≡ map (λ x. g (f x)) xs
@@ -75,7 +75,7 @@ among_rise number s index (l ∷ ls) =
     (one_rises number s index l (is_some l.id))
     (subst (λ n. Rises (location_place s (suc index)) (map place_of (each_numbered (spot_at number s) (suc index) ls)) (location_place s n)) end (among_rise number s (suc index) ls)))
 
-slots_rise : (number place item : ℕ) (slots : List Slot) → AreNumbered place item slots → Rises place (map place_of (each_numbered slot_spots number slots)) (place + place_total slots)
+pub slots_rise : (number place item : ℕ) (slots : List Slot) → AreNumbered place item slots → Rises place (map place_of (each_numbered slot_spots number slots)) (place + place_total slots)
 slots_rise number place item [] n = omega arith
 slots_rise number place item (s ∷ slots) n =
     let total = sum_by-cons slot_places s slots in

@@ -47,14 +47,14 @@ free_there test puts spots s e =
     let parts = and_parts (is_none (what_stands puts s.place)) (test s) (find_passes (is_fit test puts) spots s e) in
     (none_there (what_stands puts s.place) parts.0, parts.1)
 
-stands_more : (puts : List Put) (put : Put) (place : ℕ) (b : Bool) → (put.place == place) ≡ b → what_stands puts place ≡ None → what_stands (puts ++ put ∷ []) place ≡ cond b (Some put) None
+pub stands_more : (puts : List Put) (put : Put) (place : ℕ) (b : Bool) → (put.place == place) ≡ b → what_stands puts place ≡ None → what_stands (puts ++ put ∷ []) place ≡ cond b (Some put) None
 stands_more [] put place b e h = ap (λ c. cond c (Some put) None) e
 stands_more (p ∷ puts) put place b e h = elim (cases_Bool (p.place == place)) [
   | inl here ↦ let s : Some p ≡ None = sym (cond-true (p.place == place) (Some p) (what_stands puts place) here) ∙ h in cc
   | inr past ↦ cond-false (p.place == place) (Some p) (what_stands (puts ++ put ∷ []) place) past ∙ stands_more puts put place b e (sym (cond-false (p.place == place) (Some p) (what_stands puts place) past) ∙ h)
 ]
 
-stands_still : (puts : List Put) (put : Put) (place : ℕ) → (put.place == place) ≡ false → what_stands (puts ++ put ∷ []) place ≡ what_stands puts place
+pub stands_still : (puts : List Put) (put : Put) (place : ℕ) → (put.place == place) ≡ false → what_stands (puts ++ put ∷ []) place ≡ what_stands puts place
 stands_still [] put place e = cond-false (put.place == place) (Some put) None e
 stands_still (p ∷ puts) put place e = ap (λ rest. cond (p.place == place) (Some p) rest) (stands_still puts put place e)
 

@@ -8,3 +8,8 @@ pub mod Shuffling
 pub mod Hands
 pub mod Trying
 pub mod Ascending
+pub mod Permuting
+pub mod Keeping
+pub mod Tidy
+pub mod Making
+pub mod Beaten

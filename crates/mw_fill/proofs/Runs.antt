@@ -42,7 +42,7 @@ begin joint spots copies hand held table bag nothing events = record {
   runs = λ out r. r;
 }
 
-count_more : (copy : ItemCopy) (later : List ItemCopy) (n : ℕ) (b : Bool) → (copy.number == n) ≡ b → copies_count (copy ∷ later) n ≡ cond b 1 0 + copies_count later n
+pub count_more : (copy : ItemCopy) (later : List ItemCopy) (n : ℕ) (b : Bool) → (copy.number == n) ≡ b → copies_count (copy ∷ later) n ≡ cond b 1 0 + copies_count later n
 count_more copy later n b e = sum_by-cons (λ c. cond (has_number n c) 1 0) copy later ∙ ap (λ t. cond t 1 0 + copies_count later n) e
 
 module _ (joint : Joint) (kept : IsJoint joint) (spots : List Spot) (copies : List ItemCopy) (few_copies : length copies ≤ 10240000) (k : ℕ) (hand : List ℕ) (held : List (Option Put)) (table : List (List ℕ))

@@ -3,21 +3,23 @@ use Rattle.std.specs.Prelude.{ℕ, ◌≡◌, ◌+◌, ◌<◌, ◌≤◌, List,
 use Rattle.mw_rules.specs.Holds.{Bag, Places}
 use Rattle.mw_multi.specs.WorldKept.{copies}
 use Rattle.mw_multi.specs.Joint.{Slot, Joint}
-use Rattle.mw_multi.specs.Bags.{start_count, pool_count}
 use Rattle.mw_multi.specs.Steps.{steps_of}
 use Rattle.mw_multi.specs.Placement.{Put, IsPlaced}
 use Rattle.mw_multi.specs.Events.{events_of}
 use Rattle.mw_reach.specs.Reach.{bag_with, IsLeast}
 use Rattle.mw_reach.specs.Goals.{unmet_goal}
+use Rattle.mw_fill.specs.declared.group.Group.TheVariants.{Asked}
+use Rattle.mw_fill.specs.Copies.{copies_of}
 use Rattle.mw_fill.specs.Spots.{spots_of}
+use Rattle.mw_fill.specs.Fill.{in_hand}
 use Rattle.mw_fill.specs.Try.{IsFilled, IsStuck}
 use Rattle.mw_fill.specs.declared.seed.Seed.{Seed}
 use Rattle.mw_fill.specs.declared.seed.GenerateError.{GenerateError}
 use Rattle.mw_fill.specs.declared.seed.GenerateError.TheVariants.{NotBeatable, TooManyItems, Exhausted, Memory}
 
--- the starting items and all that the pools have
+-- the starting items and all copies of the pools that rules may ask for
 abbrev pub everything : Joint → Bag
-everything joint n = start_count joint.slots n + pool_count joint.slots n
+everything joint = in_hand joint (copies_of Asked joint)
 
 -- this is the first slot whose goal doesn't hold with everything in hand, in the least list for it with the events alone
 abbrev pub IsUnmet : Joint → Option ℕ → Type 0

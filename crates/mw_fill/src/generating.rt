@@ -1,13 +1,19 @@
-ghost use Rattle.std.specs.Prelude.{◌≡◌, ◌<◌, ◌≤◌, ◌*◌, IfOk, length, sum_by};
+ghost use Rattle.std.specs.Prelude.{◌≡◌, ◌<◌, ◌≤◌, ◌*◌, ℕ, List, IfOk, length, sum_by};
+ghost use Rattle.mw_multi.specs.Placement.{IsPlacement, IsPlaced};
+ghost use Rattle.mw_multi.specs.Events.{with_events};
+ghost use Rattle.mw_reach.specs.Goals.{IsBeatable};
 ghost use Rattle.mw_multi.specs.WorldKept.{copies};
 ghost use Rattle.mw_fill.specs.Generated.{IsUnmet, slot_pool_size, pool_size, room_size, GeneratedSeed};
 
+use crate::copies::copies_of;
 use crate::error::FillError;
+use crate::group::Group;
+use crate::hand::hand_of;
 use crate::one_try::fill_try;
 use crate::seed::{GenerateError, Seed};
 use crate::spots::spots_of;
 use mw_base::Memory;
-use mw_multi::{Bag, Joint, Placed, World};
+use mw_multi::{Joint, Placed, World};
 use mw_reach::{Reached, reach, unmet_goal};
 use std::alloc::Global;
 
@@ -17,7 +23,8 @@ fn first_unmet(alloc: Global, joint: &Joint) -> Result<Option<u16>, Memory>
 {
     // Reading the joint makes known what its type keeps.
     let _ = &joint.slots;
-    let everything = Bag::everything(alloc, joint)?;
+    let copies = copies_of(alloc, joint, Group::Asked)?;
+    let everything = hand_of(alloc, joint, copies.as_slice())?;
     let placed = Placed::events(alloc, joint)?;
     let mut reached = Reached::new(alloc, joint)?;
     reach(joint, &everything, &placed, &mut reached);
@@ -62,10 +69,15 @@ fn room_for(alloc: Global, joint: &Joint) -> Result<u64, Memory>
 /// the pools have more copies than there are locations with an id; then where each try is Stuck. `Memory` is want of memory.
 pub fn generate(alloc: Global, joint: &Joint, seed: u64, tries: u32) -> Result<Seed, GenerateError>
     requires { (1 ≤ tries) × (tries ≤ 1000) }
-    ensures { GeneratedSeed joint.now seed tries result }
+    ensures seed { GeneratedSeed joint.now seed tries result }
+    ensures placement { IfOk result (λ found. IsPlacement joint.now found.placement) }
+    ensures beatable { IfOk result (λ found. (table : List (List ℕ)) → IsPlaced joint.now.slots (with_events joint.now found.placement) table → IsBeatable joint.now table) }
 {
-    if let Some(slot) = first_unmet(alloc, joint)? {
-        return Err(GenerateError::NotBeatable { slot });
+    // Reading the joint makes known what its type keeps.
+    let _ = &joint.slots;
+    match first_unmet(alloc, joint)? {
+        Some(slot) => return Err(GenerateError::NotBeatable { slot }),
+        None => {}
     }
     let have = pool_copies(joint);
     let room = room_for(alloc, joint)?;
