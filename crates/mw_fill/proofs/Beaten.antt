@@ -1,27 +1,25 @@
 -- A placement that is generated can be beaten.
-use Rattle.std.proofs.Common.{◌≡◌, ℕ, suc, ◌+◌, ◌<◌, ◌≤◌, Bool, true, false, cond, List, [], ◌∷◌, ◌++◌, Option, Some, None, All, map, length, get_or, refl, sym, ap, subst, ◌∙◌, inl, inr, arith, append-nil}
+use Rattle.std.proofs.Common.{◌≡◌, ℕ, suc, ◌+◌, ◌<◌, Bool, true, false, cond, List, [], ◌∷◌, ◌++◌, None, All, get_or, refl, sym, ap, subst, ◌∙◌, arith, append-nil}
 use Rattle.std.specs.Prelude.{filter, flat_map}
-use Rattle.std.proofs.lemmas.Bool.{cases_Bool, cond-true}
+use Rattle.std.proofs.lemmas.Bool.{cond-true}
 use Rattle.std.proofs.lemmas.Grind.{flat_map-append}
 use Rattle.std.proofs.lemmas.List.Elements.{All-map, filter-append}
-use Rattle.mw_rules.specs.Holds.{Bag, Places}
 use Rattle.mw_multi.specs.Joint.{Joint, IsJoint, Slot, place_total}
 use Rattle.mw_multi.specs.Bags.{start_count}
 use Rattle.mw_multi.specs.Steps.{steps_of}
-use Rattle.mw_multi.specs.Placement.{Put, IsPlaced, put_numbers, stands_at, standing, site_at, numbers_at}
+use Rattle.mw_multi.specs.Placement.{Put, IsPlaced, put_numbers, stands_at, standing, site_at}
 use Rattle.mw_multi.specs.Events.{events_of, has_no_event, is_at_no_event, with_events}
-use Rattle.mw_reach.specs.Reach.{Placed, found, bag_with, Closed, IsLeast}
-use Rattle.mw_reach.specs.Goals.{GoalsHold, IsBeatable}
+use Rattle.mw_reach.specs.Reach.{Placed, found, bag_with, Closed}
+use Rattle.mw_reach.specs.Goals.{IsBeatable}
 use Rattle.mw_reach.proofs.Beating.{goals_hold, goals_more}
 use Rattle.mw_reach.proofs.SameLeast.{Closed-less}
 use Rattle.mw_reach.proofs.Walks.{bag_more}
 use Rattle.mw_fill.specs.declared.group.Group.TheVariants.{Asked, Helping, Filling}
-use Rattle.mw_fill.specs.Draws.{start_of, words_of, shuffled}
-use Rattle.mw_fill.specs.Copies.{ItemCopy, copies_of}
+use Rattle.mw_fill.specs.Draws.{start_of, words_of}
+use Rattle.mw_fill.specs.Copies.{copies_of}
 use Rattle.mw_fill.specs.Spots.{Spot, spots_of, regular, all_kinds}
 use Rattle.mw_fill.specs.Fill.{Outcome, filled, stuck, what_stands, in_hand, is_reached, FillRun, placed_anywhere}
 use Rattle.mw_fill.specs.Try.{Lists, lists_of, spots_begin, helping_begin, filling_begin, and_then, the_rest, end_put, placement_of, IsFilled}
-use Rattle.mw_fill.specs.Kept.{SpotKept}
 use Rattle.mw_fill.specs.Generated.{everything, IsUnmet}
 use Rattle.mw_fill.proofs.Shuffling.{shuffled_all}
 use Rattle.mw_fill.proofs.Permuting.{words_small, shuffled_count}

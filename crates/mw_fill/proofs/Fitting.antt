@@ -58,7 +58,7 @@ pub stands_still : (puts : List Put) (put : Put) (place : ℕ) → (put.place ==
 stands_still [] put place e = cond-false (put.place == place) (Some put) None e
 stands_still (p ∷ puts) put place e = ap (λ rest. cond (p.place == place) (Some p) rest) (stands_still puts put place e)
 
-differ : (a b : ℕ) → (a ≡ b → ⊥) → (a == b) ≡ false
+pub differ : (a b : ℕ) → (a ≡ b → ⊥) → (a == b) ≡ false
 differ a b n = elim (cases_Bool (a == b)) [
   | inl same ↦ absurd (n ((Decides-eqb a b).0 same))
   | inr other ↦ other

@@ -1,14 +1,12 @@
 -- The items in hand as copies are added.
 use Rattle.std.proofs.Common.{◌≡◌, ℕ, ◌+◌, ◌<◌, true, false, List, length, get_or, set, take, refl, sym, subst, ◌∙◌, inl, inr, arith}
 use Rattle.std.specs.Prelude.{◌==◌}
-use Rattle.std.proofs.lemmas.Bool.{cases_eq, cases_Bool}
+use Rattle.std.proofs.lemmas.Bool.{cases_eq}
 use Rattle.std.proofs.lemmas.Bool.Decides.{Decides-eqb}
 use Rattle.std.proofs.lemmas.List.{get_or-set_same, get_or-set_other}
 use Rattle.std.proofs.lemmas.List.Sums.{count_by_more_yes, count_by_more_no}
 use Rattle.mw_fill.specs.Copies.{ItemCopy, has_number, copies_count}
-
-differ : (a b : ℕ) → (a ≡ b → ⊥) → (a == b) ≡ false
-differ a b n = elim (cases_Bool (a == b)) [ inl same ↦ absurd (n ((Decides-eqb a b).0 same)) | inr other ↦ other ]
+use Rattle.mw_fill.proofs.Fitting.{differ}
 
 -- one copy more
 pub hand_more : (hand : List ℕ) (start : ℕ → ℕ) (copies : List ItemCopy) (k : ℕ) (copy : ItemCopy) → k < length copies → copy ≡ get_or copies k copy → copy.number < length hand

@@ -1,18 +1,18 @@
 -- What is put where it can be reached counts as much as what is in hand.
-use Rattle.std.proofs.Common.{◌≡◌, ℕ, zero, suc, ◌+◌, ◌<◌, ◌≤◌, Bool, true, false, ◌&&◌, cond, eqb, List, [], ◌∷◌, ◌++◌, Option, Some, None, MatchOption, All, length, get_or, set, length-set, refl, sym, ap, subst, ◌∙◌, inl, inr, arith, zero-add, append_assoc}
-use Rattle.std.proofs.lemmas.Bool.{cases_Bool, and_parts}
+use Rattle.std.proofs.Common.{◌≡◌, ℕ, zero, suc, ◌+◌, ◌<◌, Bool, true, false, ◌&&◌, cond, eqb, List, [], ◌∷◌, ◌++◌, Option, Some, None, MatchOption, All, length, get_or, set, refl, sym, ap, subst, ◌∙◌, arith, zero-add, append_assoc}
+use Rattle.std.proofs.lemmas.Bool.{and_parts}
 use Rattle.mw_rules.specs.Holds.{Bag, Places}
 use Rattle.mw_multi.specs.Joint.{Joint, place_total}
 use Rattle.mw_multi.specs.Bags.{start_count}
-use Rattle.mw_multi.specs.Steps.{Step, steps_of}
+use Rattle.mw_multi.specs.Steps.{steps_of}
 use Rattle.mw_multi.specs.Placement.{Put, slot_at, numbers_of, put_numbers, numbers_at, IsPlaced}
 use Rattle.mw_multi.specs.Events.{events_of}
 use Rattle.mw_multi.proofs.Standing.{placed_put}
-use Rattle.mw_reach.specs.Reach.{Placed, one_if, times_in, found_from, found, bag_with, Closed, IsLeast}
+use Rattle.mw_reach.specs.Reach.{Placed, times_in, found_from, found, bag_with, Closed, IsLeast}
 use Rattle.mw_reach.proofs.SameLeast.{Closed-less}
 use Rattle.mw_fill.specs.Copies.{ItemCopy, copies_count}
 use Rattle.mw_fill.specs.Spots.{Spot, accepts}
-use Rattle.mw_fill.specs.Fill.{Outcome, filled, stuck, stuck_with, put_of, first_fit, in_hand, is_reached, FillRun}
+use Rattle.mw_fill.specs.Fill.{filled, stuck_with, put_of, first_fit, in_hand, is_reached, FillRun}
 use Rattle.mw_fill.proofs.Fitting.{find_all, free_there}
 use Rattle.mw_fill.proofs.Runs.{count_more}
 

@@ -10,7 +10,7 @@ use Rattle.mw_multi.specs.World.{Item, Location, PoolEntry}
 use Rattle.mw_multi.specs.WorldKept.{is_filler}
 use Rattle.mw_multi.specs.RulesKept.{is_progression_item}
 use Rattle.mw_multi.specs.Joint.{Slot, Joint, IsJoint}
-use Rattle.mw_multi.specs.Placement.{slot_at, numbers_in, numbers_of, put_numbers}
+use Rattle.mw_multi.specs.Placement.{slot_at, numbers_of, put_numbers}
 use Rattle.mw_multi.specs.declared.item.Class.TheVariants.{Progression, Useful, Filler, Trap}
 use Rattle.mw_multi.proofs.Sites.{get_some}
 use Rattle.mw_fill.specs.declared.group.Group.{Group}

@@ -1,12 +1,12 @@
 -- A shuffle only moves entries.
-use Rattle.std.proofs.Common.{◌≡◌, ℕ, zero, suc, ◌+◌, ◌-◌, ◌*◌, ◌/◌, ◌^◌, ◌<◌, ◌≤◌, List, [], ◌∷◌, length, refl, sym, ◌∙◌, subst, arith}
+use Rattle.std.proofs.Common.{◌≡◌, ℕ, zero, suc, ◌-◌, ◌/◌, ◌^◌, ◌<◌, ◌≤◌, List, length, refl, arith}
 use Rattle.std.specs.List.{swap}
 use Rattle.std.specs.List.Sorted.{IsPermutation}
 use Rattle.std.specs.Prelude.{cond}
 use Rattle.std.proofs.Math.Nat.{mod-lt}
 use Rattle.std.proofs.lemmas.List.Edits.{length-swap}
 use Rattle.std.proofs.lemmas.List.Sorted.{IsPermutation-refl, IsPermutation-trans, IsPermutation-swap, sum_by-IsPermutation}
-use Rattle.rand_chacha.specs.ChaCha.{ChaCha, word_at}
+use Rattle.rand_chacha.specs.ChaCha.{ChaCha}
 use Rattle.rand_chacha.specs.Block.{block_word}
 use Rattle.mw_fill.specs.Draws.{words_of, drawn, shuffled, shuffled_down}
 use Rattle.mw_fill.specs.Copies.{ItemCopy, has_number, copies_count}

@@ -1,7 +1,7 @@
 -- The run over the copies that rules ask for, copy by copy.
 use Rattle.std.proofs.Common.{◌≡◌, ℕ, ◌+◌, ◌-◌, ◌<◌, ◌≤◌, ◌&&◌, Bool, true, false, cond, List, [], ◌∷◌, ◌++◌, Option, Some, None, All, length, get_or, set, drop, length-set, refl, sym, ap, subst, ◌∙◌, inl, inr, arith, append_assoc, append-nil}
 use Rattle.std.specs.Prelude.{◌==◌}
-use Rattle.std.proofs.lemmas.Bool.{cases_Bool, cases_eq}
+use Rattle.std.proofs.lemmas.Bool.{cases_eq}
 use Rattle.std.proofs.lemmas.Bool.Decides.{Decides-eqb}
 use Rattle.std.proofs.lemmas.List.{drop_all, length-append, get_or-set_same, get_or-set_other}
 use Rattle.std.proofs.lemmas.List.Sums.{sum_by-cons}
@@ -20,6 +20,7 @@ use Rattle.mw_fill.specs.Copies.{ItemCopy, has_number, copies_count}
 use Rattle.mw_fill.specs.Spots.{Spot, accepts}
 use Rattle.mw_fill.specs.Fill.{Outcome, filled, stuck_with, put_of, first_fit, in_hand, is_reached, FillRun}
 use Rattle.mw_fill.specs.Kept.{CopyKept, SpotKept, IsHeldFor}
+use Rattle.mw_fill.proofs.Fitting.{differ}
 use Rattle.mw_fill.proofs.Stepping.{next_copy, held_next}
 
 -- after k copies: what the run over the rest gives, the whole run gives
@@ -64,9 +65,6 @@ module _ (joint : Joint) (kept : IsJoint joint) (spots : List Spot) (copies : Li
 
   pub some_in_hand : 1 ≤ get_or hand copy.number 0
   some_in_hand = omega (arith, before copy.number, count_more copy later copy.number true ((Decides-eqb copy.number copy.number).1 refl))
-
-  differ : (a b : ℕ) → (a ≡ b → ⊥) → (a == b) ≡ false
-  differ a b n = elim (cases_Bool (a == b)) [ inl same ↦ absurd (n ((Decides-eqb a b).0 same)) | inr other ↦ other ]
 
   pub hand_after : IsBagOf joint.slots (in_hand joint later) less
   hand_after = record {

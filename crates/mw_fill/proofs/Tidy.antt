@@ -1,16 +1,15 @@
 -- What stands at each place in the end.
-use Rattle.std.proofs.Common.{◌≡◌, ℕ, zero, suc, ◌+◌, ◌<◌, ◌≤◌, ◌&&◌, Bool, true, false, cond, List, [], ◌∷◌, ◌++◌, Option, Some, None, MatchOption, All, map, length, get_or, refl, sym, ap, ap₂, subst, ◌∙◌, inl, inr, arith, append_assoc, append-nil}
-use Rattle.std.specs.Prelude.{filter, flat_map, find, ◌==◌, ◌||◌, if◌then◌else◌}
+use Rattle.std.proofs.Common.{◌≡◌, ℕ, suc, ◌<◌, ◌&&◌, Bool, true, false, cond, List, [], ◌∷◌, ◌++◌, Option, Some, None, MatchOption, All, map, refl, sym, ap, subst, ◌∙◌, inl, inr, arith, append-nil}
+use Rattle.std.specs.Prelude.{filter, flat_map, ◌==◌, ◌||◌}
 use Rattle.std.specs.List.{list_any}
 use Rattle.std.proofs.lemmas.Bool.{cases_Bool, cond-true, cond-false}
 use Rattle.std.proofs.lemmas.Bool.Decides.{Decides-eqb}
-use Rattle.std.proofs.lemmas.List.Concat.{flat_map-cons}
 use Rattle.mw_multi.specs.Joint.{Slot, Joint}
 use Rattle.mw_multi.specs.Placement.{Put, slot_at, numbers_of, put_numbers, stands_at, standing}
 use Rattle.mw_multi.proofs.Standing.{standing_push}
 use Rattle.mw_fill.specs.Copies.{ItemCopy}
 use Rattle.mw_fill.specs.Spots.{Spot, accepts}
-use Rattle.mw_fill.specs.Fill.{Outcome, filled, stuck, stuck_with, put_of, first_fit, or_stuck, what_stands, is_reached, FillRun, placed_anywhere}
+use Rattle.mw_fill.specs.Fill.{filled, stuck_with, put_of, first_fit, or_stuck, what_stands, is_reached, FillRun, placed_anywhere}
 use Rattle.mw_fill.specs.Try.{filler_at, or_filler, end_put}
 use Rattle.mw_fill.proofs.Fitting.{find_all, free_there, stands_more, stands_still}
 use Rattle.mw_fill.proofs.Ascending.{Rises, place_of, end_place}

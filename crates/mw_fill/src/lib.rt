@@ -23,3 +23,6 @@ pub use error::FillError;
 pub use generating::generate;
 pub use one_try::fill_try;
 pub use seed::{GenerateError, Seed};
+
+#[cfg(test)]
+mod tests;
