@@ -78,6 +78,15 @@ site_of_location number w i l e =
 
 -- ---- events
 
+-- what stands at the place of a slot's location
+pub location_site : (j : Joint) (k : ℕ) (s : Slot) (i : ℕ) (l : Location) → IsJoint j → slice_get j.slots k ≡ Some s → slice_get s.world.locations i ≡ Some l
+    → site_at j.slots (location_place s i) ≡ Some (site_of (suc k) l)
+location_site j k s i l kept at there =
+    let one_more : 1 + k ≡ suc k = omega arith in
+    let inside : length s.world.regions + i < slot_places s = omega (arith, within s.world.locations i l there) in
+    site_of_slot 1 0 0 j.slots k s (length s.world.regions + i) (location_place s i) kept.numbered at inside (omega arith)
+    ∙ ap (λ m. site_in m s.world (length s.world.regions + i)) one_more ∙ site_of_location (suc k) s.world i l there
+
 some_event : (o : Option Item) → is_event o ≡ true → is_some o ≡ true
 some_event None e = cc
 some_event (Some i) e = refl
@@ -96,11 +105,7 @@ event_kept j zero s i l e p kept at there event is = cc
 event_kept j (suc k) s i l e p kept at there event is =
     let slot : SlotKept s = at_index SlotKept j.slots k s kept.each at in
     let location : LocationKept s.world l = at_index (LocationKept s.world) s.world.locations i l slot.world.locations.each there in
-    let one_more : 1 + k ≡ suc k = omega arith in
-    let inside : length s.world.regions + i < slot_places s = omega (arith, within s.world.locations i l there) in
-    let site : site_at j.slots p ≡ Some (site_of (suc k) l) =
-    site_of_slot 1 0 0 j.slots k s (length s.world.regions + i) p kept.numbered at inside (omega (arith, is))
-    ∙ ap (λ m. site_in m s.world (length s.world.regions + i)) one_more ∙ site_of_location (suc k) s.world i l there in
+    let site : site_at j.slots p ≡ Some (site_of (suc k) l) = ap (site_at j.slots) is ∙ location_site j k s i l kept at there in
     let item_there : is_some (slice_get s.world.items e) ≡ true = event_there s.world.items l.id e (subst (λ (o : Option ℕ). event_fits s.world.items l.id o ≡ true) event location.event) in
     record {
       place = ap is_some site;

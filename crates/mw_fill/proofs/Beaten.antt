@@ -1,0 +1,150 @@
+-- A placement that is generated can be beaten.
+use Rattle.std.proofs.Common.{◌≡◌, ℕ, suc, ◌+◌, ◌<◌, Bool, true, false, cond, List, [], ◌∷◌, ◌++◌, None, All, get_or, refl, sym, ap, subst, ◌∙◌, arith, append-nil}
+use Rattle.std.specs.Prelude.{filter, flat_map}
+use Rattle.std.proofs.lemmas.Bool.{cond-true}
+use Rattle.std.proofs.lemmas.Grind.{flat_map-append}
+use Rattle.std.proofs.lemmas.List.Elements.{All-map, filter-append}
+use Rattle.mw_multi.specs.Joint.{Joint, IsJoint, Slot, place_total}
+use Rattle.mw_multi.specs.Bags.{start_count}
+use Rattle.mw_multi.specs.Steps.{steps_of}
+use Rattle.mw_multi.specs.Placement.{Put, IsPlaced, put_numbers, stands_at, standing, site_at}
+use Rattle.mw_multi.specs.Events.{events_of, has_no_event, is_at_no_event, with_events}
+use Rattle.mw_reach.specs.Reach.{Placed, found, bag_with, Closed}
+use Rattle.mw_reach.specs.Goals.{IsBeatable}
+use Rattle.mw_reach.proofs.Beating.{goals_hold, goals_more}
+use Rattle.mw_reach.proofs.SameLeast.{Closed-less}
+use Rattle.mw_reach.proofs.Walks.{bag_more}
+use Rattle.mw_fill.specs.declared.group.Group.TheVariants.{Asked, Helping, Filling}
+use Rattle.mw_fill.specs.Draws.{start_of, words_of}
+use Rattle.mw_fill.specs.Copies.{copies_of}
+use Rattle.mw_fill.specs.Spots.{Spot, spots_of, regular, all_kinds}
+use Rattle.mw_fill.specs.Fill.{Outcome, filled, stuck, what_stands, in_hand, is_reached, FillRun, placed_anywhere}
+use Rattle.mw_fill.specs.Try.{Lists, lists_of, spots_begin, helping_begin, filling_begin, and_then, the_rest, end_put, placement_of, IsFilled}
+use Rattle.mw_fill.specs.Generated.{everything, IsUnmet}
+use Rattle.mw_fill.proofs.Shuffling.{shuffled_all}
+use Rattle.mw_fill.proofs.Permuting.{words_small, shuffled_count}
+use Rattle.mw_fill.proofs.Trying.{regular_all, all_kinds_all}
+use Rattle.mw_fill.proofs.Locations.{spots_kept}
+use Rattle.mw_fill.proofs.Ascending.{end_place, slots_rise}
+use Rattle.mw_fill.proofs.Keeping.{IsCounted, found_same, as_good}
+use Rattle.mw_fill.proofs.Tidy.{IsTidy, IsIdle, numbers_held, is_site, tidy_nothing, tidy_run, tidy_anywhere, placement_stands}
+use Rattle.mw_fill.proofs.Making.{asked_counted, helping_idle, filling_idle, fillers_idle, own_sites}
+
+-- ---- what stands where
+
+standing_on : (slots : List Slot) (xs ys : List Put) (place : ℕ) → standing slots (xs ++ ys) place ≡ standing slots xs place ++ standing slots ys place
+standing_on slots xs ys place = ap (flat_map (put_numbers slots)) (filter-append (stands_at place) xs ys) ∙ flat_map-append (put_numbers slots) (filter (stands_at place) xs) (filter (stands_at place) ys)
+
+all_pass : {X : Type 0} (p : X → Bool) (xs : List X) → All (λ x. p x ≡ true) xs → filter p xs ≡ xs
+all_pass p [] h = refl
+all_pass p (x ∷ xs) h = cond-true (p x) (x ∷ filter p xs) (filter p xs) (h 0 x (omega arith)) ∙ ap (λ rest. x ∷ rest) (all_pass p xs (λ i d l. h (suc i) d (omega arith)))
+
+-- no event stands at the placement's locations
+no_events : (joint : Joint) → IsJoint joint → (puts : List Put) → filter (is_at_no_event joint.slots) (placement_of joint puts) ≡ placement_of joint puts
+no_events joint kept puts =
+    all_pass (is_at_no_event joint.slots) (placement_of joint puts)
+    (All-map (λ put. is_at_no_event joint.slots put ≡ true) (end_put puts) (spots_of joint)
+    (λ i d l. ap (λ p. has_no_event (site_at joint.slots p)) (end_place puts (get_or (spots_of joint) i d)) ∙ (spots_kept joint kept i d l).no_event))
+
+nothing_else : (slots : List Slot) (sites : List Spot) (puts : List Put) (place : ℕ) (b : Bool) → is_site sites place ≡ b → IsTidy slots sites puts
+    → cond b (numbers_held slots (what_stands puts place)) [] ≡ numbers_held slots (what_stands puts place)
+nothing_else slots sites puts place true e tidy = refl
+nothing_else slots sites puts place false e tidy = sym (ap (numbers_held slots) (tidy.sited place e))
+
+-- where the copies that rules ask for were put first, and others that no rule asks for
+pub stands_alike : (joint : Joint) → IsJoint joint → (first puts : List Put) → IsTidy joint.slots (spots_of joint) puts → ((place : ℕ) → standing joint.slots puts place ≡ standing joint.slots first place)
+    → (place : ℕ) → standing joint.slots (with_events joint (placement_of joint puts)) place ≡ standing joint.slots (events_of joint ++ first) place
+stands_alike joint kept first puts tidy same place =
+    let slots = joint.slots in
+    let spots = spots_of joint in
+    standing_on slots (events_of joint) (filter (is_at_no_event slots) (placement_of joint puts)) place
+    ∙ ap (λ ps. standing slots (events_of joint) place ++ standing slots ps place) (no_events joint kept puts)
+    ∙ ap (λ ns. standing slots (events_of joint) place ++ ns)
+    (placement_stands slots puts spots 0 (0 + place_total slots) place (slots_rise 1 0 0 slots kept.numbered) (fillers_idle joint kept)
+    ∙ nothing_else slots spots puts place (is_site spots place) refl tidy ∙ sym (tidy.alone place) ∙ same place)
+    ∙ sym (standing_on slots (events_of joint) first place)
+
+-- ---- a try that gives a placement
+
+pub record Parts (lists : Lists) (joint : Joint) (puts : List Put) : Type 0 where
+  pub first : List Put
+  pub run : FillRun is_reached joint (regular lists.spots) lists.asked [] (filled first)
+  pub second : List Put
+  pub helping : placed_anywhere (regular lists.spots) lists.helping first ≡ filled second
+  pub filling : placed_anywhere (all_kinds lists.spots) lists.filling second ≡ filled puts
+
+rest_parts : (o : Outcome) (next : List Put → Outcome) (puts : List Put) → and_then o next ≡ filled puts → (middle : List Put) × (o ≡ filled middle) × (next middle ≡ filled puts)
+rest_parts (filled middle) next puts e = (middle, refl, e)
+rest_parts (stuck slot item) next puts e = let never : ⊥ = cc in absurd never
+
+pub parts_of : (joint : Joint) (lists : Lists) (first : Outcome) (puts : List Put) → FillRun is_reached joint (regular lists.spots) lists.asked [] first → filled puts ≡ and_then first (the_rest lists) → Parts lists joint puts
+parts_of joint lists first puts run e =
+    let one = rest_parts first (the_rest lists) puts (sym e) in
+    let two = rest_parts (placed_anywhere (regular lists.spots) lists.helping one.0) (placed_anywhere (all_kinds lists.spots) lists.filling) puts one.2 in
+    record {
+      first = one.0;
+      run = subst (λ o. FillRun is_reached joint (regular lists.spots) lists.asked [] o) one.1 run;
+      second = two.0;
+      helping = two.1;
+      filling = two.2;
+    }
+
+-- ---- the law
+
+module _ (joint : Joint) (kept : IsJoint joint) (seed stream : ℕ) (puts : List Put) (parts : Parts (lists_of joint seed stream) joint puts) where
+  abbrev words : ℕ → ℕ
+  words = words_of (start_of seed stream)
+
+  abbrev lists : Lists
+  lists = lists_of joint seed stream
+
+  abbrev sites : List Spot
+  sites = spots_of joint
+
+  spots_are : (P : Spot → Type 0) → All P sites → All P lists.spots
+  spots_are P h = shuffled_all P words (spots_begin joint) sites h
+
+  first_tidy : IsTidy joint.slots sites parts.first
+  first_tidy =
+      tidy_run joint sites (regular lists.spots) lists.asked [] parts.first (regular_all (λ s. is_site sites s.place ≡ true) lists.spots (spots_are (λ s. is_site sites s.place ≡ true) (own_sites sites)))
+      (tidy_nothing joint.slots sites) parts.run
+
+  pub alike : (place : ℕ) → standing joint.slots (with_events joint (placement_of joint puts)) place ≡ standing joint.slots (events_of joint ++ parts.first) place
+  alike =
+      let there = spots_are (λ s. is_site sites s.place ≡ true) (own_sites sites) in
+      let two =
+      tidy_anywhere joint.slots sites (regular lists.spots) lists.helping parts.first parts.second (regular_all (λ s. is_site sites s.place ≡ true) lists.spots there)
+      (shuffled_all (IsIdle joint.slots) words (helping_begin joint) (copies_of Helping joint) (helping_idle joint)) first_tidy parts.helping in
+      let three =
+      tidy_anywhere joint.slots sites (all_kinds lists.spots) lists.filling parts.second puts (all_kinds_all (λ s. is_site sites s.place ≡ true) lists.spots there)
+      (shuffled_all (IsIdle joint.slots) words (filling_begin joint) (copies_of Filling joint) (filling_idle joint)) two.tidy parts.filling in
+      stands_alike joint kept parts.first puts three.tidy (λ place. three.same place ∙ two.same place)
+
+  module _ (unmet : IsUnmet joint None) (table : Placed) (placed : IsPlaced joint.slots (with_events joint (placement_of joint puts)) table) where
+    pub can_be_beaten : IsBeatable joint table
+    can_be_beaten = λ u closed.
+        let steps = steps_of joint in
+        let start = start_count joint.slots in
+        let all = everything joint in
+        let before = unmet.0 in
+        let w = unmet.1 in
+        let inside : All (λ s. s.place < place_total joint.slots) (regular lists.spots) =
+        regular_all (λ s. s.place < place_total joint.slots) lists.spots (spots_are (λ s. s.place < place_total joint.slots) (λ i d l. (spots_kept joint kept i d l).place)) in
+        let counted : All (IsCounted joint) lists.asked = shuffled_all (IsCounted joint) words 0 (copies_of Asked joint) (asked_counted joint) in
+        let good =
+        as_good joint (regular lists.spots) lists.asked [] parts.first before counted inside (subst (λ ps. IsPlaced joint.slots ps before) (sym (append-nil (events_of joint))) unmet.2) parts.run in
+        let lies : (j : ℕ) → found table u j ≡ found good.end u j = λ j. found_same 0 table good.end u j (placed.size ∙ sym good.placed.size) (λ p. placed.entries p ∙ alike p ∙ sym (good.placed.entries p)) in
+        let at_end : Closed steps start good.end u = Closed-less steps start start good.end table u (λ j. omega (arith, lies j)) closed in
+        let in_hands = good.good u at_end in
+        let as_many : (j : ℕ) → in_hand joint lists.asked j ≡ all j = λ j. ap (λ n. start j + n) (shuffled_count words (words_small (start_of seed stream)) 0 (copies_of Asked joint) j) in
+        let with_all : Closed steps all before u = Closed-less steps all (in_hand joint lists.asked) before before u (λ j. omega (arith, as_many j)) in_hands.0 in
+        let part = unmet.3.least u with_all in
+        let more = bag_more all before w u part in
+        goals_more joint (bag_with all before w) (bag_with start table u) w u (λ j. omega (arith, more j, as_many j, in_hands.1 j, lies j)) part (goals_hold joint (bag_with all before w) w (sym unmet.4))
+
+-- a placement that a try gives, where each goal holds with everything in hand
+pub filled_beatable : (joint : Joint) → IsJoint joint → (seed stream : ℕ) (placement : List Put) → IsUnmet joint None → IsFilled joint seed stream placement
+    → (table : Placed) → IsPlaced joint.slots (with_events joint placement) table → IsBeatable joint table
+filled_beatable joint kept seed stream placement unmet found table placed =
+    let parts = parts_of joint (lists_of joint seed stream) found.1.0 found.0 found.1.1 found.1.2 in
+    can_be_beaten joint kept seed stream found.0 parts unmet table (subst (λ ps. IsPlaced joint.slots (with_events joint ps) table) found.2 placed)

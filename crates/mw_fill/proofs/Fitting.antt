@@ -1,0 +1,79 @@
+-- The first location that fits, and what is held as one item more is put.
+use Rattle.std.proofs.Common.{◌≡◌, ℕ, suc, ◌<◌, ◌&&◌, Bool, true, false, cond, List, [], ◌∷◌, ◌++◌, Option, Some, None, All, length, get_or, set, length-set, refl, sym, ap, ap₂, subst, ◌∙◌, inl, inr, arith}
+use Rattle.std.specs.Prelude.{find, is_none, ◌==◌}
+use Rattle.std.proofs.lemmas.Bool.{cases_Bool, cases_eq, and_parts, cond-true, cond-false}
+use Rattle.std.proofs.lemmas.Bool.Decides.{Decides-eqb}
+use Rattle.std.proofs.lemmas.List.{get_or-set_same, get_or-set_other}
+use Rattle.std.proofs.lemmas.List.Elements.{All-push}
+use Rattle.mw_multi.specs.Joint.{Joint}
+use Rattle.mw_multi.specs.Placement.{Put, PutKept}
+use Rattle.mw_fill.specs.Spots.{Spot}
+use Rattle.mw_fill.specs.Fill.{what_stands, is_fit, first_fit}
+use Rattle.mw_fill.specs.Kept.{AreHeld, IsHeldFor, is_open_in}
+
+-- ---- the first element that passes
+
+pub find_same : {X : Type 0} (f g : X → Bool) (xs : List X) → ((x : X) → f x ≡ g x) → find f xs ≡ find g xs
+find_same f g [] h = refl
+find_same f g (x ∷ xs) h = ap₂ (λ b rest. cond b (Some x) rest) (h x) (find_same f g xs h)
+
+pub find_all : {X : Type 0} (P : X → Type 0) (f : X → Bool) (xs : List X) (x : X) → All P xs → find f xs ≡ Some x → P x
+find_all P f [] x h e = cc
+find_all P f (y ∷ xs) x h e = elim (cases_Bool (f y)) [
+  | inl here ↦ let s : Some y ≡ Some x = sym (cond-true (f y) (Some y) (find f xs) here) ∙ e in let same : y ≡ x = cc in subst P same (h 0 y (omega arith))
+  | inr past ↦ find_all P f xs x (λ i d l. h (suc i) d (omega arith)) (sym (cond-false (f y) (Some y) (find f xs) past) ∙ e)
+]
+
+pub find_passes : {X : Type 0} (f : X → Bool) (xs : List X) (x : X) → find f xs ≡ Some x → f x ≡ true
+find_passes f [] x e = cc
+find_passes f (y ∷ xs) x e = elim (cases_Bool (f y)) [
+  | inl here ↦ let s : Some y ≡ Some x = sym (cond-true (f y) (Some y) (find f xs) here) ∙ e in let same : y ≡ x = cc in subst (λ z. f z ≡ true) same here
+  | inr past ↦ find_passes f xs x (sym (cond-false (f y) (Some y) (find f xs) past) ∙ e)
+]
+
+-- ---- what is held
+
+-- the first that is open by the table is the first that fits
+pub held_first : (test : Spot → Bool) (puts : List Put) (held : List (Option Put)) (spots : List Spot) → AreHeld puts held → find (is_open_in test held) spots ≡ first_fit test puts spots
+held_first test puts held spots h = find_same (is_open_in test held) (is_fit test puts) spots (λ s. ap (λ o. is_none o && test s) (h s.place))
+
+none_there : {X : Type 0} (o : Option X) → is_none o ≡ true → o ≡ None
+none_there None e = refl
+none_there (Some x) e = cc
+
+-- nothing stands at a location that fits
+pub free_there : (test : Spot → Bool) (puts : List Put) (spots : List Spot) (s : Spot) → first_fit test puts spots ≡ Some s → (what_stands puts s.place ≡ None) × (test s ≡ true)
+free_there test puts spots s e =
+    let parts = and_parts (is_none (what_stands puts s.place)) (test s) (find_passes (is_fit test puts) spots s e) in
+    (none_there (what_stands puts s.place) parts.0, parts.1)
+
+pub stands_more : (puts : List Put) (put : Put) (place : ℕ) (b : Bool) → (put.place == place) ≡ b → what_stands puts place ≡ None → what_stands (puts ++ put ∷ []) place ≡ cond b (Some put) None
+stands_more [] put place b e h = ap (λ c. cond c (Some put) None) e
+stands_more (p ∷ puts) put place b e h = elim (cases_Bool (p.place == place)) [
+  | inl here ↦ let s : Some p ≡ None = sym (cond-true (p.place == place) (Some p) (what_stands puts place) here) ∙ h in cc
+  | inr past ↦ cond-false (p.place == place) (Some p) (what_stands (puts ++ put ∷ []) place) past ∙ stands_more puts put place b e (sym (cond-false (p.place == place) (Some p) (what_stands puts place) past) ∙ h)
+]
+
+pub stands_still : (puts : List Put) (put : Put) (place : ℕ) → (put.place == place) ≡ false → what_stands (puts ++ put ∷ []) place ≡ what_stands puts place
+stands_still [] put place e = cond-false (put.place == place) (Some put) None e
+stands_still (p ∷ puts) put place e = ap (λ rest. cond (p.place == place) (Some p) rest) (stands_still puts put place e)
+
+pub differ : (a b : ℕ) → (a ≡ b → ⊥) → (a == b) ≡ false
+differ a b n = elim (cases_Bool (a == b)) [
+  | inl same ↦ absurd (n ((Decides-eqb a b).0 same))
+  | inr other ↦ other
+]
+
+pub held_put : (joint : Joint) (puts : List Put) (put : Put) (held : List (Option Put)) → IsHeldFor joint puts held → PutKept joint.slots put → put.place < length held → what_stands puts put.place ≡ None
+    → IsHeldFor joint (puts ++ put ∷ []) (set held put.place (Some put))
+held_put joint puts put held h kept within free = record {
+  size = length-set held put.place (Some put) ∙ h.size;
+  entries = λ place. elim (cases_eq put.place place) [
+    | inl same ↦
+        subst (λ p. get_or (set held put.place (Some put)) p None ≡ what_stands (puts ++ put ∷ []) p) same
+        (get_or-set_same held put.place (Some put) None within ∙ sym (stands_more puts put put.place true ((Decides-eqb put.place put.place).1 refl) free))
+    | inr other ↦
+        get_or-set_other held put.place place (Some put) None (λ e. other (sym e)) ∙ h.entries place ∙ sym (stands_still puts put place (differ put.place place other))
+  ];
+  kept = All-push (PutKept joint.slots) puts put h.kept kept;
+}

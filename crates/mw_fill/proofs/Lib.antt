@@ -1,0 +1,15 @@
+pub mod Numbered
+pub mod Pools
+pub mod Locations
+pub mod Fitting
+pub mod Stepping
+pub mod Runs
+pub mod Shuffling
+pub mod Hands
+pub mod Trying
+pub mod Ascending
+pub mod Permuting
+pub mod Keeping
+pub mod Tidy
+pub mod Making
+pub mod Beaten

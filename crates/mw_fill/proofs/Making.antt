@@ -1,0 +1,115 @@
+-- What holds of each copy of a group, and of each location with an id.
+use Rattle.std.proofs.Common.{◌≡◌, ℕ, zero, suc, ◌+◌, ◌<◌, Bool, true, false, List, [], ◌∷◌, Option, Some, None, All, length, get_or, refl, sym, ap, subst, ◌∙◌, inl, inr, arith}
+use Rattle.std.specs.Prelude.{flat_map, is_some, replicate, slice_get, ◌==◌, ◌||◌, if◌then◌else◌}
+use Rattle.std.specs.List.{list_any}
+use Rattle.std.proofs.lemmas.Bool.{cases_Bool}
+use Rattle.std.proofs.lemmas.Bool.Decides.{Decides-eqb}
+use Rattle.std.proofs.lemmas.List.Concat.{flat_map-cons}
+use Rattle.std.proofs.lemmas.List.Elements.{All-nil, All-cons, All-append, All-replicate}
+use Rattle.mw_multi.specs.World.{Item, Location, PoolEntry}
+use Rattle.mw_multi.specs.WorldKept.{is_filler}
+use Rattle.mw_multi.specs.RulesKept.{is_progression_item}
+use Rattle.mw_multi.specs.Joint.{Slot, Joint, IsJoint}
+use Rattle.mw_multi.specs.Placement.{slot_at, numbers_of, put_numbers}
+use Rattle.mw_multi.specs.declared.item.Class.TheVariants.{Progression, Useful, Filler, Trap}
+use Rattle.mw_multi.proofs.Sites.{get_some}
+use Rattle.mw_fill.specs.declared.group.Group.{Group}
+use Rattle.mw_fill.specs.declared.group.Group.TheVariants.{Asked, Helping, Filling}
+use Rattle.mw_fill.specs.Copies.{ItemCopy, is_of, item_is_of, copy_of, entry_copies, slot_copies, has_others, copies_of}
+use Rattle.mw_fill.specs.Spots.{Spot, spot_of, spot_at, slot_spots, spots_of}
+use Rattle.mw_fill.specs.Try.{filler_at}
+use Rattle.mw_fill.proofs.Numbered.{numbered_all}
+use Rattle.mw_fill.proofs.Keeping.{IsCounted}
+use Rattle.mw_fill.proofs.Tidy.{IsIdle, is_site}
+
+-- ---- copies
+
+module _ (P : ItemCopy → Type 0) (group : Group) (many : Bool) (number : ℕ) (s : Slot) (each : (item : ℕ) → item_is_of group (slice_get s.world.items item) ≡ true → P (copy_of many number s item)) where
+  entry_all : (e : PoolEntry) (here : Bool) → item_is_of group (slice_get s.world.items e.item) ≡ here → All P (if here then replicate e.count (copy_of many number s e.item) else [])
+  entry_all e true h = All-replicate P e.count (copy_of many number s e.item) (each e.item h)
+  entry_all e false h = All-nil P
+
+  pool_all : (pool : List PoolEntry) → All P (flat_map (entry_copies group many number s) pool)
+  pool_all [] = All-nil P
+  pool_all (e ∷ pool) =
+      rw (flat_map-cons (entry_copies group many number s) e pool)
+      (All-append P (entry_copies group many number s e) (flat_map (entry_copies group many number s) pool) (entry_all e (item_is_of group (slice_get s.world.items e.item)) refl) (pool_all pool))
+
+pub copies_all : (P : ItemCopy → Type 0) (group : Group) (joint : Joint)
+    → ((k : ℕ) (s : Slot) → slot_at joint.slots (suc k) ≡ Some s → (item : ℕ) → item_is_of group (slice_get s.world.items item) ≡ true → P (copy_of (has_others joint) (suc k) s item)) → All P (copies_of group joint)
+copies_all P group joint each =
+    numbered_all P (slot_copies group (has_others joint)) 1 joint.slots
+    (λ k s l e. let at : suc k ≡ 1 + k = omega arith in
+    subst (λ n. All P (slot_copies group (has_others joint) n s)) at
+    (pool_all P group (has_others joint) (suc k) s (each k s (get_some joint.slots k s l ∙ ap Some (sym e))) s.world.pool))
+
+numbers_are : (slots : List Slot) (number item : ℕ) (s : Slot) (asked : Bool) → slot_at slots number ≡ Some s → is_progression_item (slice_get s.world.items item) ≡ asked
+    → numbers_of (slot_at slots number) item ≡ (if asked then (s.first_item + item) ∷ [] else [])
+numbers_are slots number item s asked there is = ap (λ o. numbers_of o item) there ∙ ap (λ b. if b then (s.first_item + item) ∷ [] else []) is
+
+asked_is : (o : Option Item) → item_is_of Asked o ≡ true → is_progression_item o ≡ true
+asked_is (Some i) e = e
+asked_is None e = cc
+
+helping_item : (i : Item) → is_of Helping i.class ≡ true → is_of Asked i.class ≡ false
+helping_item i e = elim i.class as (λ c. is_of Helping c ≡ true → is_of Asked c ≡ false) [ Progression ↦ λ h. cc | Useful ↦ λ h. refl | Filler ↦ λ h. refl | Trap ↦ λ h. refl ] e
+
+filling_item : (i : Item) → is_of Filling i.class ≡ true → is_of Asked i.class ≡ false
+filling_item i e = elim i.class as (λ c. is_of Filling c ≡ true → is_of Asked c ≡ false) [ Progression ↦ λ h. cc | Useful ↦ λ h. refl | Filler ↦ λ h. refl | Trap ↦ λ h. refl ] e
+
+helping_is : (o : Option Item) → item_is_of Helping o ≡ true → is_progression_item o ≡ false
+helping_is (Some i) e = helping_item i e
+helping_is None e = cc
+
+filling_is : (o : Option Item) → item_is_of Filling o ≡ true → is_progression_item o ≡ false
+filling_is (Some i) e = filling_item i e
+filling_is None e = cc
+
+pub asked_counted : (joint : Joint) → All (IsCounted joint) (copies_of Asked joint)
+asked_counted joint = copies_all (IsCounted joint) Asked joint (λ k s there item e. record { numbers = numbers_are joint.slots (suc k) item s true there (asked_is (slice_get s.world.items item) e) })
+
+pub helping_idle : (joint : Joint) → All (IsIdle joint.slots) (copies_of Helping joint)
+helping_idle joint = copies_all (IsIdle joint.slots) Helping joint (λ k s there item e. record { numbers = numbers_are joint.slots (suc k) item s false there (helping_is (slice_get s.world.items item) e) })
+
+pub filling_idle : (joint : Joint) → All (IsIdle joint.slots) (copies_of Filling joint)
+filling_idle joint = copies_all (IsIdle joint.slots) Filling joint (λ k s there item e. record { numbers = numbers_are joint.slots (suc k) item s false there (filling_is (slice_get s.world.items item) e) })
+
+-- ---- locations
+
+module _ (P : Spot → Type 0) (number : ℕ) (s : Slot) (each : (index : ℕ) (l : Location) → P (spot_of number s index l)) where
+  location_all : (index : ℕ) (l : Location) (b : Bool) → All P (if b then spot_of number s index l ∷ [] else [])
+  location_all index l true = All-cons P (spot_of number s index l) [] (each index l) (All-nil P)
+  location_all index l false = All-nil P
+
+  slot_all : All P (slot_spots number s)
+  slot_all = numbered_all P (spot_at number s) 0 s.world.locations (λ i l inside e. location_all (0 + i) l (is_some l.id))
+
+pub spots_all : (P : Spot → Type 0) (joint : Joint) → ((k : ℕ) (s : Slot) → k < length joint.slots → s ≡ get_or joint.slots k s → (index : ℕ) (l : Location) → P (spot_of (suc k) s index l)) → All P (spots_of joint)
+spots_all P joint each =
+    numbered_all P slot_spots 1 joint.slots (λ k s l e. let at : suc k ≡ 1 + k = omega arith in subst (λ n. All P (slot_spots n s)) at (slot_all P (suc k) s (each k s l e)))
+
+filler_item : (i : Item) → is_filler (Some i) ≡ true → is_of Asked i.class ≡ false
+filler_item i e = elim i.class as (λ c. is_filler (Some record i { class = c }) ≡ true → is_of Asked c ≡ false) [ Progression ↦ λ h. cc | Useful ↦ λ h. refl | Filler ↦ λ h. refl | Trap ↦ λ h. refl ] e
+
+filler_is : (o : Option Item) → is_filler o ≡ true → is_progression_item o ≡ false
+filler_is (Some i) e = filler_item i e
+filler_is None e = cc
+
+pub fillers_idle : (joint : Joint) → IsJoint joint → All (λ s. put_numbers joint.slots (filler_at s) ≡ []) (spots_of joint)
+fillers_idle joint kept =
+    spots_all (λ s. put_numbers joint.slots (filler_at s) ≡ []) joint
+    (λ k s within is index l.
+    numbers_are joint.slots (suc k) s.world.filler s false (get_some joint.slots k s within ∙ ap Some (sym is))
+    (filler_is (slice_get s.world.items s.world.filler) (subst (λ (t : Slot). is_filler (slice_get t.world.items t.world.filler) ≡ true) (sym is) (kept.each k s within).world.filler.class)))
+
+any_at : {X : Type 0} (p : X → Bool) (xs : List X) (k : ℕ) (d : X) → k < length xs → p (get_or xs k d) ≡ true → list_any p xs ≡ true
+any_at p [] k d h e = absurd (omega arith)
+any_at p (x ∷ xs) zero d h e = ap (λ b. b || list_any p xs) e
+any_at p (x ∷ xs) (suc k) d h e = elim (cases_Bool (p x)) [
+  | inl here ↦ ap (λ b. b || list_any p xs) here
+  | inr past ↦ ap (λ b. b || list_any p xs) past ∙ any_at p xs k d (omega arith) e
+]
+
+-- each is at one of their places
+pub own_sites : (spots : List Spot) → All (λ s. is_site spots s.place ≡ true) spots
+own_sites spots = λ i d l. any_at (λ s. s.place == (get_or spots i d).place) spots i d l ((Decides-eqb (get_or spots i d).place (get_or spots i d).place).1 refl)

@@ -1,0 +1,38 @@
+-- A shuffle only moves entries.
+use Rattle.std.proofs.Common.{◌≡◌, ℕ, zero, suc, ◌-◌, ◌/◌, ◌^◌, ◌<◌, ◌≤◌, List, length, refl, arith}
+use Rattle.std.specs.List.{swap}
+use Rattle.std.specs.List.Sorted.{IsPermutation}
+use Rattle.std.specs.Prelude.{cond}
+use Rattle.std.proofs.Math.Nat.{mod-lt}
+use Rattle.std.proofs.lemmas.List.Edits.{length-swap}
+use Rattle.std.proofs.lemmas.List.Sorted.{IsPermutation-refl, IsPermutation-trans, IsPermutation-swap, sum_by-IsPermutation}
+use Rattle.rand_chacha.specs.ChaCha.{ChaCha}
+use Rattle.rand_chacha.specs.Block.{block_word}
+use Rattle.mw_fill.specs.Draws.{words_of, drawn, shuffled, shuffled_down}
+use Rattle.mw_fill.specs.Copies.{ItemCopy, has_number, copies_count}
+
+word_small : (n : ℕ) (key : List ℕ) (counter nonce k : ℕ) → block_word n key counter nonce k < 2 ^ 32
+unfolding block_word
+word_small n key counter nonce k = mod-lt _ (omega arith)
+
+pub words_small : (g : ChaCha) (place : ℕ) → words_of g place < 2 ^ 32
+words_small g place = word_small 10 g.key (place / 16) g.stream _
+
+pub drawn_below : (word k : ℕ) → word < 2 ^ 32 → 1 ≤ k → drawn word k < k
+drawn_below word k small some = grind arith
+
+down_moves : {A : Type 0} (words : ℕ → ℕ) → ((p : ℕ) → words p < 2 ^ 32) → (place i : ℕ) (xs : List A) → i ≤ length xs - 1 → IsPermutation xs (shuffled_down words place i xs)
+down_moves words small place zero xs h = IsPermutation-refl xs
+down_moves words small place (suc i) xs h =
+    let j = drawn (words place) (suc (suc i)) in
+    let below : j < suc (suc i) = drawn_below (words place) (suc (suc i)) (small place) (omega arith) in
+    let long : length (swap xs (suc i) j) ≡ length xs = length-swap xs (suc i) j in
+    IsPermutation-trans xs (swap xs (suc i) j) (shuffled_down words (suc place) i (swap xs (suc i) j)) (IsPermutation-swap xs (swap xs (suc i) j) (suc i) j (omega arith) (omega arith) refl)
+    (down_moves words small (suc place) i (swap xs (suc i) j) (omega arith))
+
+pub shuffled_moves : {A : Type 0} (words : ℕ → ℕ) → ((p : ℕ) → words p < 2 ^ 32) → (place : ℕ) (xs : List A) → IsPermutation xs (shuffled words place xs)
+shuffled_moves words small place xs = down_moves words small place (length xs - 1) xs (omega arith)
+
+-- as many copies of each item
+pub shuffled_count : (words : ℕ → ℕ) → ((p : ℕ) → words p < 2 ^ 32) → (place : ℕ) (copies : List ItemCopy) (n : ℕ) → copies_count (shuffled words place copies) n ≡ copies_count copies n
+shuffled_count words small place copies n = sum_by-IsPermutation (λ c. cond (has_number n c) 1 0) copies (shuffled words place copies) (shuffled_moves words small place copies)

@@ -1,0 +1,79 @@
+-- The copies of the pools, and where each may stand.
+use Rattle.std.specs.Prelude.{ℕ, ◌+◌, ◌==◌, List, [], Option, Some, None, Bool, true, false, ◌&&◌, count_by, flat_map, length, nat_lt, replicate, slice_get, slice_index_or, if◌then◌else◌}
+use Rattle.mw_multi.specs.World.{Item, PoolEntry}
+use Rattle.mw_multi.specs.RulesKept.{is_progression}
+use Rattle.mw_multi.specs.Joint.{Slot, Joint}
+use Rattle.mw_multi.specs.declared.item.Class.{Class}
+use Rattle.mw_multi.specs.declared.item.Class.TheVariants.{Progression, Useful, Filler, Trap}
+use Rattle.mw_fill.specs.Numbered.{each_numbered}
+use Rattle.mw_fill.specs.declared.group.Group.{Group}
+use Rattle.mw_fill.specs.declared.group.Group.TheVariants.{Asked, Helping, Filling}
+use Rattle.mw_fill.specs.declared.locality.Locality.{Locality}
+use Rattle.mw_fill.specs.declared.locality.Locality.TheVariants.{Anywhere, AtHome, Abroad}
+
+-- a copy of an item: its receiver's number, the item's index in the receiver's world and its number over all slots, and
+-- where it may stand
+pub record ItemCopy : Type 0 where
+  pub receiver : ℕ
+  pub item : ℕ
+  pub number : ℕ
+  pub locality : Locality
+
+abbrev pub is_useful : Class → Bool
+is_useful Progression = false
+is_useful Useful = true
+is_useful Filler = false
+is_useful Trap = false
+
+abbrev pub is_filling : Class → Bool
+is_filling Progression = false
+is_filling Useful = false
+is_filling Filler = true
+is_filling Trap = true
+
+-- the items that rules ask for, the useful ones, and filler and traps
+abbrev pub is_of : Group → Class → Bool
+is_of Asked class = is_progression class
+is_of Helping class = is_useful class
+is_of Filling class = is_filling class
+
+abbrev pub item_is_of : Group → Option Item → Bool
+item_is_of group None = false
+item_is_of group (Some item) = is_of group item.class
+
+-- a local item stays at home; one that is non-local alone stands abroad, where there are slots other than its own
+abbrev pub locality_of : Bool → Bool → Bool → Locality
+locality_of many local non_local = if local then AtHome else (if many && non_local then Abroad else Anywhere)
+
+-- a copy of an item of the slot of this number
+abbrev pub copy_of : Bool → ℕ → Slot → ℕ → ItemCopy
+copy_of many number s item = record {
+  receiver = number;
+  item = item;
+  number = s.first_item + item;
+  locality = locality_of many (slice_index_or s.local_items item false) (slice_index_or s.non_local_items item false);
+}
+
+-- the copies of a pool entry, where its item is of the group
+abbrev pub entry_copies : Group → Bool → ℕ → Slot → PoolEntry → List ItemCopy
+entry_copies group many number s e = if item_is_of group (slice_get s.world.items e.item) then replicate e.count (copy_of many number s e.item) else []
+
+-- the copies of a slot's pool, entry by entry
+abbrev pub slot_copies : Group → Bool → ℕ → Slot → List ItemCopy
+slot_copies group many number s = flat_map (entry_copies group many number s) s.world.pool
+
+-- there are slots other than one's own
+abbrev pub has_others : Joint → Bool
+has_others joint = nat_lt 1 (length joint.slots)
+
+-- the copies of the group, by slot, pool entry and copy
+abbrev pub copies_of : Group → Joint → List ItemCopy
+copies_of group joint = each_numbered (slot_copies group (has_others joint)) 1 joint.slots
+
+-- the copy is of the item with this number over all slots
+abbrev pub has_number : ℕ → ItemCopy → Bool
+has_number n copy = copy.number == n
+
+-- how many of these copies are of it
+abbrev pub copies_count : List ItemCopy → ℕ → ℕ
+copies_count copies n = count_by (has_number n) copies

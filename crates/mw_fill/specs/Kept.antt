@@ -1,0 +1,39 @@
+-- What copies and locations of a joint keep, and what is put in the midst of a fill.
+use Rattle.std.specs.Prelude.{ℕ, ◌≡◌, ◌<◌, List, Option, None, Bool, true, ◌&&◌, All, is_none, is_some, length, slice_index_or}
+use Rattle.mw_multi.specs.Joint.{Slot, Joint, place_total, item_total}
+use Rattle.mw_multi.specs.Placement.{Put, PutKept, site_at, item_at}
+use Rattle.mw_multi.specs.Events.{has_no_event}
+use Rattle.mw_fill.specs.Copies.{ItemCopy}
+use Rattle.mw_fill.specs.Spots.{Spot}
+use Rattle.mw_fill.specs.Fill.{what_stands}
+use Rattle.mw_fill.specs.Try.{or_filler}
+
+-- the item is one of its receiver's world, and its number one of the joint's
+pub record CopyKept (slots : List Slot) (copy : ItemCopy) : Type 0 where
+  pub item : is_some (item_at slots copy.receiver copy.item) ≡ true
+  pub number : copy.number < item_total slots
+
+-- the place is a location of the joint that has no event, and the filler is an item of its slot's world
+pub record SpotKept (slots : List Slot) (spot : Spot) : Type 0 where
+  pub place : spot.place < place_total slots
+  pub location : is_some (site_at slots spot.place) ≡ true
+  pub no_event : has_no_event (site_at slots spot.place) ≡ true
+  pub filler : is_some (item_at slots spot.slot spot.filler) ≡ true
+
+-- for each place, what stands there
+abbrev pub AreHeld : List Put → List (Option Put) → Type 0
+AreHeld puts held = (place : ℕ) → slice_index_or held place None ≡ what_stands puts place
+
+-- a table with an entry for each place of the joint of what was put, which is kept
+pub record IsHeldFor (joint : Joint) (puts : List Put) (held : List (Option Put)) : Type 0 where
+  pub size : length held ≡ place_total joint.slots
+  pub entries : AreHeld puts held
+  pub kept : All (PutKept joint.slots) puts
+
+-- nothing is held at the location, and it passes the test
+abbrev pub is_open_in : (Spot → Bool) → List (Option Put) → Spot → Bool
+is_open_in test held spot = is_none (slice_index_or held spot.place None) && test spot
+
+-- what is held at the location, or else the filler
+abbrev pub end_held : List (Option Put) → Spot → Put
+end_held held spot = or_filler (slice_index_or held spot.place None) spot

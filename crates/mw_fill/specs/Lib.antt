@@ -1,0 +1,10 @@
+pub mod Draws
+pub mod Numbered
+pub mod Copies
+pub mod Spots
+pub mod Fill
+pub mod Kept
+pub mod ListsKept
+pub mod Answer
+pub mod Generated
+pub mod Try

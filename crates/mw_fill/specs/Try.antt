@@ -1,0 +1,83 @@
+-- One try: shuffled copies and locations, the fill, and fillers for what is left.
+use Rattle.std.specs.Prelude.{ℕ, ◌≡◌, List, [], Option, Some, None, map}
+use Rattle.mw_multi.specs.Joint.{Joint}
+use Rattle.mw_multi.specs.Placement.{Put}
+use Rattle.mw_fill.specs.Draws.{start_of, words_of, shuffled, place_after}
+use Rattle.mw_fill.specs.declared.group.Group.TheVariants.{Asked, Helping, Filling}
+use Rattle.mw_fill.specs.Copies.{ItemCopy, copies_of}
+use Rattle.mw_fill.specs.Spots.{Spot, spots_of, regular, all_kinds}
+use Rattle.mw_fill.specs.Fill.{Outcome, filled, stuck, FillRun, is_reached, placed_anywhere, what_stands}
+
+-- ---- shuffles
+
+-- the copies that rules ask for, the locations with an id, the useful copies, and the filler and trap copies
+pub record Lists : Type 0 where
+  pub asked : List ItemCopy
+  pub spots : List Spot
+  pub helping : List ItemCopy
+  pub filling : List ItemCopy
+
+-- where the words for the locations begin, after those for the copies that rules ask for
+abbrev pub spots_begin : Joint → ℕ
+spots_begin joint = place_after 0 (copies_of Asked joint)
+
+-- where those for the useful copies begin
+abbrev pub helping_begin : Joint → ℕ
+helping_begin joint = place_after (spots_begin joint) (spots_of joint)
+
+-- where those for the filler and trap copies begin
+abbrev pub filling_begin : Joint → ℕ
+filling_begin joint = place_after (helping_begin joint) (copies_of Helping joint)
+
+-- the four lists in the order of their shuffles, one after another
+abbrev pub lists_in : Joint → (ℕ → ℕ) → Lists
+lists_in joint words = record {
+  asked = shuffled words 0 (copies_of Asked joint);
+  spots = shuffled words (spots_begin joint) (spots_of joint);
+  helping = shuffled words (helping_begin joint) (copies_of Helping joint);
+  filling = shuffled words (filling_begin joint) (copies_of Filling joint);
+}
+
+-- those of a stream of a seed
+abbrev pub lists_of : Joint → ℕ → ℕ → Lists
+lists_of joint seed stream = lists_in joint (words_of (start_of seed stream))
+
+-- ---- the fill
+
+abbrev pub and_then : Outcome → (List Put → Outcome) → Outcome
+and_then (filled puts) next = next puts
+and_then (stuck slot item) next = stuck slot item
+
+-- useful copies at priority and then default locations; filler and trap copies at excluded ones first
+abbrev pub the_rest : Lists → List Put → Outcome
+the_rest lists puts = and_then (placed_anywhere (regular lists.spots) lists.helping puts) (placed_anywhere (all_kinds lists.spots) lists.filling)
+
+-- what a try comes to: first the copies that rules ask for, then the rest
+abbrev pub IsOutcome : Joint → Lists → Outcome → Type 0
+IsOutcome joint lists out = (first : Outcome) × FillRun is_reached joint (regular lists.spots) lists.asked [] first × (out ≡ and_then first (the_rest lists))
+
+-- ---- the placement
+
+-- the location's own slot's filler item there
+abbrev pub filler_at : Spot → Put
+filler_at spot = record { place = spot.place; receiver = spot.slot; item = spot.filler }
+
+-- what was put there, or else the filler
+abbrev pub or_filler : Option Put → Spot → Put
+or_filler None spot = filler_at spot
+or_filler (Some put) spot = put
+
+abbrev pub end_put : List Put → Spot → Put
+end_put puts spot = or_filler (what_stands puts spot.place) spot
+
+-- something at each location with an id, by slot and table order
+abbrev pub placement_of : Joint → List Put → List Put
+placement_of joint puts = map (end_put puts) (spots_of joint)
+
+-- the try with this number gives the placement
+abbrev pub IsFilled : Joint → ℕ → ℕ → List Put → Type 0
+IsFilled joint seed stream placement = (puts : List Put) × IsOutcome joint (lists_of joint seed stream) (filled puts) × (placement ≡ placement_of joint puts)
+
+-- the try with this number ends at a copy that finds no location: its slot and its item
+abbrev pub IsStuck : Joint → ℕ → ℕ → ℕ → ℕ → Type 0
+IsStuck joint seed stream slot item = IsOutcome joint (lists_of joint seed stream) (stuck slot item)

@@ -1,0 +1,100 @@
+ghost use Rattle.std.specs.Prelude.{◌≡◌, ◌<◌, ◌≤◌, ◌&&◌, [], None, List, All, MatchResult, find, length, replicate};
+ghost use Rattle.mw_rules.specs.Holds.{Places, bag_of};
+ghost use Rattle.mw_multi.specs.Joint.{place_total};
+ghost use Rattle.mw_multi.specs.Placement.{Put as PlainPut, IsPlaced};
+ghost use Rattle.mw_multi.specs.Steps.{steps_of};
+ghost use Rattle.mw_multi.specs.Events.{events_of};
+ghost use Rattle.mw_multi.specs.Bags.{IsBagOf};
+ghost use Rattle.mw_reach.specs.Reach.{IsLeast};
+ghost use Rattle.mw_reach.specs.Reached.{IsBagFor, IsPlacedFor, IsMadeFor, KeepsRules, places_in};
+ghost use Rattle.mw_fill.specs.Spots.{accepts};
+ghost use Rattle.mw_fill.specs.Fill.{filled, stuck, in_hand, is_reached, FillRun};
+ghost use Rattle.mw_fill.specs.Kept.{CopyKept, SpotKept, IsHeldFor, is_open_in};
+ghost use Rattle.mw_fill.specs.Answer.{OnStuck};
+
+use crate::error::FillError;
+use crate::item_copy::ItemCopy;
+use crate::spot::Spot;
+use mw_multi::{Bag, Joint, Placed, Put};
+use mw_reach::{Reached, reach};
+
+/// The first of the locations that is free, accepts the copy and is reached.
+fn first_reached(
+    copy: &ItemCopy,
+    spots: &[Spot],
+    held: &[Option<Put>],
+    reached: &Reached,
+) -> Option<Spot>
+    requires within { All (λ s. s.place < length held.now) spots.now }
+    ensures { result ≡ find (is_open_in (λ s. accepts copy.now s && places_in reached.now s.place) held.now) spots.now }
+{
+    for spot in spots {
+        let free = held[spot.place as usize].is_none();
+        if free && (spot.accepts(copy) && reached.has(spot.place)) {
+            return Some(*spot);
+        }
+    }
+    None
+}
+
+/// The location for a copy, by what is reached with these items in hand.
+fn location_for(
+    joint: &Joint,
+    copy: &ItemCopy,
+    spots: &[Spot],
+    hand: &Bag,
+    held: &[Option<Put>],
+    placed: &Placed,
+    reached: &mut Reached,
+) -> Option<Spot>
+    requires within { All (λ s. s.place < length held.now) spots.now }
+    requires hand { IsBagFor joint.now hand.now }
+    requires placed { IsPlacedFor joint.now placed.now }
+    requires reached { IsMadeFor joint.now reached.old }
+    requires rules { KeepsRules joint.now reached.old }
+    ensures kept { IsMadeFor joint.now reached.new }
+    ensures rules { KeepsRules joint.now reached.new }
+    ensures fit { (w : Places) × IsLeast (steps_of joint.now) (bag_of hand.now) placed.now w × (result ≡ find (is_open_in (λ s. accepts copy.now s && w s.place) held.now) spots.now) }
+{
+    reach(joint, hand, placed, reached);
+    first_reached(copy, spots, held, reached)
+}
+
+/// Puts each copy in order at the first of the locations that is free, accepts it and can be reached with the starting items
+/// and the later copies. `hand` holds the starting items and all the copies; `held` holds nothing, and `placed` the events.
+pub(crate) fn place_asked(
+    joint: &Joint,
+    copies: &[ItemCopy],
+    spots: &[Spot],
+    hand: &mut Bag,
+    held: &mut [Option<Put>],
+    placed: &mut Placed,
+    reached: &mut Reached,
+) -> Result<(), FillError>
+    requires copies { All (CopyKept joint.now.slots) copies.now }
+    requires few { length copies.now ≤ 10240000 }
+    requires spots { All (SpotKept joint.now.slots) spots.now }
+    requires hand { IsBagOf joint.now.slots (in_hand joint.now copies.now) hand.old }
+    requires held { IsHeldFor joint.now [] held.old }
+    requires placed { IsPlaced joint.now.slots (events_of joint.now) placed.old }
+    requires reached { IsMadeFor joint.now reached.old }
+    requires rules { KeepsRules joint.now reached.old }
+    ensures { MatchResult result
+        (λ _. (puts : List PlainPut) × IsHeldFor joint.now puts held.new × FillRun is_reached joint.now spots.now copies.now [] (filled puts))
+        (λ e. OnStuck e (λ slot item. FillRun is_reached joint.now spots.now copies.now [] (stuck slot item))) }
+{
+    // Reading the joint makes known what its type keeps.
+    let _ = &joint.slots;
+    for copy in copies {
+        hand.take_one(copy.number);
+        match location_for(joint, copy, spots, hand, held, placed, reached) {
+            None => return Err(copy.stuck()),
+            Some(spot) => {
+                let put = copy.put_at(&spot);
+                placed.put(joint, put)?;
+                held[spot.place as usize] = Some(put);
+            }
+        }
+    }
+    Ok(())
+}

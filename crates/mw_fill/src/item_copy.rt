@@ -1,0 +1,55 @@
+use crate::error::FillError;
+use crate::locality::Locality;
+use crate::spot::Spot;
+use mw_multi::Put;
+use std::marker::Model;
+
+/// A copy of an item of a pool.
+#[derive(Clone, Copy, Debug, PartialEq, Eq)]
+pub(crate) struct ItemCopy {
+    /// The receiver's number, from 1.
+    pub receiver: u16,
+    /// The item's index in the receiver's world, from 0.
+    pub item: u32,
+    /// The item's number over all slots.
+    pub number: u32,
+    /// Where it may stand.
+    pub locality: Locality,
+}
+
+impl Model for ItemCopy {
+    ghost use Rattle.mw_fill.specs.Copies as plain;
+
+    ghost Value = { plain.ItemCopy };
+
+    ghost view = { λ c. record { receiver = c.receiver; item = c.item; number = c.number; locality = c.locality } };
+
+    ghost inverse = { λ c. record { receiver = c.receiver; item = c.item; number = c.number; locality = c.locality } };
+}
+
+impl ItemCopy {
+    ghost use Rattle.std.specs.Prelude.{◌≡◌};
+    ghost use Rattle.mw_fill.specs.Fill.{put_of};
+    ghost use Rattle.mw_fill.specs.declared.error.FillError.TheVariants.{Stuck};
+
+    /// The copy at a location.
+    pub fn put_at(&self, spot: &Spot) -> Put
+        ensures { result ≡ put_of self.now spot.now }
+    {
+        Put {
+            place: spot.place,
+            receiver: self.receiver,
+            item: self.item,
+        }
+    }
+
+    /// The error where it finds no location.
+    pub fn stuck(&self) -> FillError
+        ensures { result ≡ Stuck self.now.receiver self.now.item }
+    {
+        FillError::Stuck {
+            slot: self.receiver,
+            item: self.item,
+        }
+    }
+}

@@ -1,0 +1,28 @@
+//! Draws from a stream of words, and the assumed fill.
+#![tactic(auto)]
+
+mod anywhere;
+mod assumed;
+mod copies;
+mod draws;
+mod error;
+mod generating;
+mod group;
+mod hand;
+mod item_copy;
+mod lists;
+mod locality;
+mod one_try;
+mod placement;
+mod seed;
+mod spot;
+mod spots;
+
+pub use draws::{Words, draw, shuffle};
+pub use error::FillError;
+pub use generating::generate;
+pub use one_try::fill_try;
+pub use seed::{GenerateError, Seed};
+
+#[cfg(test)]
+mod tests;

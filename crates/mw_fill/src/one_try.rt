@@ -1,0 +1,127 @@
+ghost use Rattle.std.specs.Prelude.{◌≡◌, ◌<◌, ◌≤◌, [], List, All, IfOk, MatchResult, length};
+ghost use Rattle.mw_multi.specs.Placement.{Put as PlainPut, IsPlacement};
+ghost use Rattle.mw_fill.specs.Fill.{filled, stuck, is_reached, FillRun};
+ghost use Rattle.mw_fill.specs.Kept.{CopyKept, SpotKept, IsHeldFor};
+ghost use Rattle.mw_fill.specs.ListsKept.{AreKept};
+ghost use Rattle.mw_fill.specs.Try.{IsOutcome, IsFilled, IsStuck, placement_of};
+ghost use Rattle.mw_fill.specs.Answer.{OnStuck};
+
+use crate::anywhere::place_anywhere;
+use crate::assumed::place_asked;
+use crate::error::FillError;
+use crate::hand::hand_of;
+use crate::item_copy::ItemCopy;
+use crate::lists::{Lists, lists_of};
+use crate::placement::placement_from;
+use crate::spot::Spot;
+use crate::spots::{all_kinds, regular, spots_of};
+use mw_base::Memory;
+use mw_multi::{Joint, Placed, Placement, Put};
+use mw_reach::Reached;
+use std::alloc::Global;
+
+/// Nothing at each place of the joint.
+fn nothing_held(alloc: Global, joint: &Joint) -> Result<Vec<Option<Put>>, Memory>
+    ensures { IfOk result (λ held. IsHeldFor joint.now [] held.items) }
+{
+    let held = vec![in alloc; None; joint.place_count() as usize]?;
+    Ok(held)
+}
+
+/// Puts the copies that rules ask for.
+fn place_first(
+    alloc: Global,
+    joint: &Joint,
+    copies: &[ItemCopy],
+    spots: &[Spot],
+    held: &mut [Option<Put>],
+) -> Result<(), FillError>
+    requires copies { All (CopyKept joint.now.slots) copies.now }
+    requires few { length copies.now ≤ 10240000 }
+    requires spots { All (SpotKept joint.now.slots) spots.now }
+    requires held { IsHeldFor joint.now [] held.old }
+    ensures { MatchResult result
+        (λ _. (puts : List PlainPut) × IsHeldFor joint.now puts held.new × FillRun is_reached joint.now spots.now copies.now [] (filled puts))
+        (λ e. OnStuck e (λ slot item. FillRun is_reached joint.now spots.now copies.now [] (stuck slot item))) }
+{
+    let mut hand = hand_of(alloc, joint, copies)?;
+    let mut placed = Placed::events(alloc, joint)?;
+    let mut reached = Reached::new(alloc, joint)?;
+    place_asked(
+        joint,
+        copies,
+        spots,
+        &mut hand,
+        held,
+        &mut placed,
+        &mut reached,
+    )
+}
+
+/// Puts the copies of the lists, first those that rules ask for.
+fn place_all(
+    alloc: Global,
+    joint: &Joint,
+    lists: &Lists,
+    held: &mut [Option<Put>],
+) -> Result<(), FillError>
+    requires lists { AreKept joint.now.slots lists.now }
+    requires held { IsHeldFor joint.now [] held.old }
+    ensures { MatchResult result
+        (λ _. (puts : List PlainPut) × IsHeldFor joint.now puts held.new × IsOutcome joint.now lists.now (filled puts))
+        (λ e. OnStuck e (λ slot item. IsOutcome joint.now lists.now (stuck slot item))) }
+{
+    let places = regular(alloc, lists.spots.as_slice())?;
+    if let Err(error) = place_first(
+        alloc,
+        joint,
+        lists.asked.as_slice(),
+        places.as_slice(),
+        held,
+    ) {
+        return Err(error);
+    }
+    if let Err(error) = place_anywhere(lists.helping.as_slice(), places.as_slice(), held) {
+        return Err(error);
+    }
+    let places = all_kinds(alloc, lists.spots.as_slice())?;
+    place_anywhere(lists.filling.as_slice(), places.as_slice(), held)
+}
+
+/// The placement that the lists give. `held` holds nothing, and is room to work in.
+fn place_lists(
+    alloc: Global,
+    joint: &Joint,
+    lists: &Lists,
+    held: &mut [Option<Put>],
+) -> Result<Placement, FillError>
+    requires lists { AreKept joint.now.slots lists.now }
+    requires held { IsHeldFor joint.now [] held.old }
+    ensures answer { MatchResult result
+        (λ placement. (puts : List PlainPut) × IsOutcome joint.now lists.now (filled puts) × (placement ≡ placement_of joint.now puts))
+        (λ e. OnStuck e (λ slot item. IsOutcome joint.now lists.now (stuck slot item))) }
+    ensures placement { IfOk result (IsPlacement joint.now) }
+{
+    // Reading the joint makes known what its type keeps.
+    let _ = &joint.slots;
+    place_all(alloc, joint, lists, held)?;
+    let spots = spots_of(alloc, joint)?;
+    let placement = placement_from(alloc, spots.as_slice(), held)?;
+    Ok(placement)
+}
+
+/// The placement of the try with this number of a seed: something at each location with an id. It is Stuck exactly where a
+/// copy of a pool finds no location; the first such copy's slot and item are told. `Memory` where memory ran out.
+pub fn fill_try(
+    alloc: Global,
+    joint: &Joint,
+    seed: u64,
+    stream: u64,
+) -> Result<Placement, FillError>
+    ensures answer { MatchResult result (IsFilled joint.now seed stream) (λ e. OnStuck e (IsStuck joint.now seed stream)) }
+    ensures placement { IfOk result (IsPlacement joint.now) }
+{
+    let lists = lists_of(alloc, joint, seed, stream)?;
+    let mut held = nothing_held(alloc, joint)?;
+    place_lists(alloc, joint, &lists, held.as_mut_slice())
+}
