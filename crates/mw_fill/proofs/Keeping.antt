@@ -84,7 +84,7 @@ pub record IsAsGood (joint : Joint) (copies : List ItemCopy) (table : Placed) (r
   pub good : (u : Places) → Closed (steps_of joint) (start_count joint.slots) end u
       → Closed (steps_of joint) (in_hand joint copies) table u × ((j : ℕ) → bag_with (in_hand joint copies) table u j ≡ bag_with (start_count joint.slots) end u j)
 
-least_alike : (joint : Joint) (puts : List Put) (base : Bag) (a b : Placed) (w : Places) → IsPlaced joint.slots puts a → IsPlaced joint.slots puts b → IsLeast (steps_of joint) base a w → IsLeast (steps_of joint) base b w
+pub least_alike : (joint : Joint) (puts : List Put) (base : Bag) (a b : Placed) (w : Places) → IsPlaced joint.slots puts a → IsPlaced joint.slots puts b → IsLeast (steps_of joint) base a w → IsLeast (steps_of joint) base b w
 least_alike joint puts base a b w p q l = record {
   closed = Closed-less (steps_of joint) base base b a w (λ j. omega (arith, found_alike joint puts a b w j p q)) l.closed;
   least = λ v k. l.least v (Closed-less (steps_of joint) base base a b v (λ j. omega (arith, found_alike joint puts a b v j p q)) k);

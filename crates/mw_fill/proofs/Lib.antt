@@ -13,3 +13,4 @@ pub mod Keeping
 pub mod Tidy
 pub mod Making
 pub mod Beaten
+pub mod Determined

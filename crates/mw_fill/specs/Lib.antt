@@ -8,3 +8,4 @@ pub mod ListsKept
 pub mod Answer
 pub mod Generated
 pub mod Try
+pub mod Laws

@@ -10,6 +10,7 @@ mod generating;
 mod group;
 mod hand;
 mod item_copy;
+mod laws;
 mod lists;
 mod locality;
 mod one_try;
@@ -21,6 +22,7 @@ mod spots;
 pub use draws::{Words, draw, shuffle};
 pub use error::FillError;
 pub use generating::generate;
+pub use laws::has_one_outcome;
 pub use one_try::fill_try;
 pub use seed::{GenerateError, Seed};
 
