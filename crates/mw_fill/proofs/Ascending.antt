@@ -10,12 +10,12 @@ use Rattle.mw_multi.specs.Joint.{Slot, Joint, IsJoint, AreNumbered, slot_places,
 use Rattle.mw_multi.specs.Steps.{location_place}
 use Rattle.mw_multi.specs.Placement.{Put, PutKept, IsPlacement, put_place, stands_at}
 use Rattle.mw_fill.specs.Numbered.{each_numbered}
-use Rattle.mw_fill.specs.Spots.{Spot, spot_of, spot_at, slot_spots, spots_of}
+use Rattle.mw_fill.specs.Openings.{Opening, opening_of, opening_at, slot_openings, openings_of}
 use Rattle.mw_fill.specs.Fill.{what_stands}
 use Rattle.mw_fill.specs.Try.{or_filler, end_put, placement_of}
-use Rattle.mw_fill.specs.Kept.{SpotKept, AreHeld, end_held}
+use Rattle.mw_fill.specs.Kept.{OpeningKept, AreHeld, end_held}
 use Rattle.mw_fill.proofs.Fitting.{find_all, find_passes}
-use Rattle.mw_fill.proofs.Locations.{spots_kept, put_kept}
+use Rattle.mw_fill.proofs.Locations.{openings_kept, put_kept}
 
 pub map_same : {A B : Type 0} (f g : A → B) (xs : List A) → ((x : A) → f x ≡ g x) → map f xs ≡ map g xs
 map_same f g [] h = refl
@@ -51,8 +51,8 @@ increasing low xs high r = λ k h. let at : suc k ≡ k + 1 = omega arith in sub
 
 -- ---- places of locations
 
-abbrev pub place_of : Spot → ℕ
-place_of spot = spot.place
+abbrev pub place_of : Opening → ℕ
+place_of opening = opening.place
 
 map_map : {A B C : Type 0} (g : B → C) (f : A → B) (xs : List A) → map g (map f xs) ≡ map (λ x. g (f x)) xs
 map_map g f [] = refl
@@ -62,57 +62,57 @@ map_on : {A B : Type 0} (f : A → B) (xs ys : List A) → map f (xs ++ ys) ≡ 
 map_on f [] ys = refl
 map_on f (x ∷ xs) ys = ap (λ rest. f x ∷ rest) (map_on f xs ys)
 
-one_rises : (number : ℕ) (s : Slot) (index : ℕ) (l : Location) (b : Bool) → Rises (location_place s index) (map place_of (if b then spot_of number s index l ∷ [] else [])) (location_place s (suc index))
+one_rises : (number : ℕ) (s : Slot) (index : ℕ) (l : Location) (b : Bool) → Rises (location_place s index) (map place_of (if b then opening_of number s index l ∷ [] else [])) (location_place s (suc index))
 one_rises number s index l true = (omega arith, omega arith, omega arith)
 one_rises number s index l false = omega arith
 
-among_rise : (number : ℕ) (s : Slot) (index : ℕ) (ls : List Location) → Rises (location_place s index) (map place_of (each_numbered (spot_at number s) index ls)) (location_place s (index + length ls))
+among_rise : (number : ℕ) (s : Slot) (index : ℕ) (ls : List Location) → Rises (location_place s index) (map place_of (each_numbered (opening_at number s) index ls)) (location_place s (index + length ls))
 among_rise number s index [] = omega arith
 among_rise number s index (l ∷ ls) =
     let end : suc index + length ls ≡ index + suc (length ls) = omega arith in
-    subst (λ ps. Rises (location_place s index) ps (location_place s (index + suc (length ls)))) (sym (map_on place_of (spot_at number s index l) (each_numbered (spot_at number s) (suc index) ls)))
-    (rises_on (location_place s index) (map place_of (spot_at number s index l)) (location_place s (suc index)) (map place_of (each_numbered (spot_at number s) (suc index) ls)) (location_place s (index + suc (length ls))) (omega arith)
+    subst (λ ps. Rises (location_place s index) ps (location_place s (index + suc (length ls)))) (sym (map_on place_of (opening_at number s index l) (each_numbered (opening_at number s) (suc index) ls)))
+    (rises_on (location_place s index) (map place_of (opening_at number s index l)) (location_place s (suc index)) (map place_of (each_numbered (opening_at number s) (suc index) ls)) (location_place s (index + suc (length ls))) (omega arith)
     (one_rises number s index l (is_some l.id))
-    (subst (λ n. Rises (location_place s (suc index)) (map place_of (each_numbered (spot_at number s) (suc index) ls)) (location_place s n)) end (among_rise number s (suc index) ls)))
+    (subst (λ n. Rises (location_place s (suc index)) (map place_of (each_numbered (opening_at number s) (suc index) ls)) (location_place s n)) end (among_rise number s (suc index) ls)))
 
-pub slots_rise : (number place item : ℕ) (slots : List Slot) → AreNumbered place item slots → Rises place (map place_of (each_numbered slot_spots number slots)) (place + place_total slots)
+pub slots_rise : (number place item : ℕ) (slots : List Slot) → AreNumbered place item slots → Rises place (map place_of (each_numbered slot_openings number slots)) (place + place_total slots)
 slots_rise number place item [] n = omega arith
 slots_rise number place item (s ∷ slots) n =
     let total = sum_by-cons slot_places s slots in
-    let here : Rises place (map place_of (slot_spots number s)) (place + slot_places s) =
-    rises_lower place (location_place s 0) (map place_of (slot_spots number s)) (place + slot_places s) (omega (arith, n.0))
-    (rises_higher (location_place s 0) (map place_of (slot_spots number s)) (location_place s (0 + length s.world.locations)) (place + slot_places s) (omega (arith, n.0)) (among_rise number s 0 s.world.locations)) in
-    subst (λ ps. Rises place ps (place + place_total (s ∷ slots))) (sym (map_on place_of (slot_spots number s) (each_numbered slot_spots (suc number) slots)))
-    (rises_on place (map place_of (slot_spots number s)) (place + slot_places s) (map place_of (each_numbered slot_spots (suc number) slots)) (place + place_total (s ∷ slots)) (omega (arith, total)) here
-    (rises_higher (place + slot_places s) (map place_of (each_numbered slot_spots (suc number) slots)) (place + slot_places s + place_total slots) (place + place_total (s ∷ slots)) (omega (arith, total))
+    let here : Rises place (map place_of (slot_openings number s)) (place + slot_places s) =
+    rises_lower place (location_place s 0) (map place_of (slot_openings number s)) (place + slot_places s) (omega (arith, n.0))
+    (rises_higher (location_place s 0) (map place_of (slot_openings number s)) (location_place s (0 + length s.world.locations)) (place + slot_places s) (omega (arith, n.0)) (among_rise number s 0 s.world.locations)) in
+    subst (λ ps. Rises place ps (place + place_total (s ∷ slots))) (sym (map_on place_of (slot_openings number s) (each_numbered slot_openings (suc number) slots)))
+    (rises_on place (map place_of (slot_openings number s)) (place + slot_places s) (map place_of (each_numbered slot_openings (suc number) slots)) (place + place_total (s ∷ slots)) (omega (arith, total)) here
+    (rises_higher (place + slot_places s) (map place_of (each_numbered slot_openings (suc number) slots)) (place + slot_places s + place_total slots) (place + place_total (s ∷ slots)) (omega (arith, total))
     (slots_rise (suc number) (place + slot_places s) (item + slot_items s) slots n.2)))
 
 -- ---- what stands there in the end
 
-filler_place : (spot : Spot) (o : Option Put) → ((put : Put) → o ≡ Some put → put.place ≡ spot.place) → (or_filler o spot).place ≡ spot.place
-filler_place spot None h = refl
-filler_place spot (Some put) h = h put refl
+filler_place : (opening : Opening) (o : Option Put) → ((put : Put) → o ≡ Some put → put.place ≡ opening.place) → (or_filler o opening).place ≡ opening.place
+filler_place opening None h = refl
+filler_place opening (Some put) h = h put refl
 
-pub end_place : (puts : List Put) (spot : Spot) → (end_put puts spot).place ≡ spot.place
-end_place puts spot = filler_place spot (what_stands puts spot.place) (λ put e. (Decides-eqb put.place spot.place).0 (find_passes (stands_at spot.place) puts put e))
+pub end_place : (puts : List Put) (opening : Opening) → (end_put puts opening).place ≡ opening.place
+end_place puts opening = filler_place opening (what_stands puts opening.place) (λ put e. (Decides-eqb put.place opening.place).0 (find_passes (stands_at opening.place) puts put e))
 
-filler_kept : (slots : List Slot) (spot : Spot) (o : Option Put) → SpotKept slots spot → ((put : Put) → o ≡ Some put → PutKept slots put) → PutKept slots (or_filler o spot)
-filler_kept slots spot None kept h = put_kept slots spot spot.slot spot.filler kept kept.filler
-filler_kept slots spot (Some put) kept h = h put refl
+filler_kept : (slots : List Slot) (opening : Opening) (o : Option Put) → OpeningKept slots opening → ((put : Put) → o ≡ Some put → PutKept slots put) → PutKept slots (or_filler o opening)
+filler_kept slots opening None kept h = put_kept slots opening opening.slot opening.filler kept kept.filler
+filler_kept slots opening (Some put) kept h = h put refl
 
 -- the placement is one of the joint
 pub placement_kept : (joint : Joint) → IsJoint joint → (puts : List Put) → All (PutKept joint.slots) puts → IsPlacement joint (placement_of joint puts)
 placement_kept joint kept puts each = record {
   ascend =
-      let places : map put_place (map (end_put puts) (spots_of joint)) ≡ map place_of (spots_of joint) = map_map put_place (end_put puts) (spots_of joint) ∙ map_same (λ s. put_place (end_put puts s)) place_of (spots_of joint) (end_place puts) in
-      subst IsStrictlyIncreasing (sym places) (increasing 0 (map place_of (spots_of joint)) (0 + place_total joint.slots) (slots_rise 1 0 0 joint.slots kept.numbered));
+      let places : map put_place (map (end_put puts) (openings_of joint)) ≡ map place_of (openings_of joint) = map_map put_place (end_put puts) (openings_of joint) ∙ map_same (λ s. put_place (end_put puts s)) place_of (openings_of joint) (end_place puts) in
+      subst IsStrictlyIncreasing (sym places) (increasing 0 (map place_of (openings_of joint)) (0 + place_total joint.slots) (slots_rise 1 0 0 joint.slots kept.numbered));
   each =
-      All-map (PutKept joint.slots) (end_put puts) (spots_of joint)
+      All-map (PutKept joint.slots) (end_put puts) (openings_of joint)
       (λ i d l.
-      let spot = get_or (spots_of joint) i d in
-      filler_kept joint.slots spot (what_stands puts spot.place) (spots_kept joint kept i d l) (λ put e. find_all (PutKept joint.slots) (stands_at spot.place) puts put each e));
+      let opening = get_or (openings_of joint) i d in
+      filler_kept joint.slots opening (what_stands puts opening.place) (openings_kept joint kept i d l) (λ put e. find_all (PutKept joint.slots) (stands_at opening.place) puts put each e));
 }
 
 -- by the table of what is held
-pub held_placement : (puts : List Put) (held : List (Option Put)) (spots : List Spot) → AreHeld puts held → map (end_held held) spots ≡ map (end_put puts) spots
-held_placement puts held spots h = map_same (end_held held) (end_put puts) spots (λ s. ap (λ o. or_filler o s) (h s.place))
+pub held_placement : (puts : List Put) (held : List (Option Put)) (openings : List Opening) → AreHeld puts held → map (end_held held) openings ≡ map (end_put puts) openings
+held_placement puts held openings h = map_same (end_held held) (end_put puts) openings (λ s. ap (λ o. or_filler o s) (h s.place))

@@ -17,14 +17,14 @@ use Rattle.mw_reach.proofs.Walks.{bag_more}
 use Rattle.mw_fill.specs.declared.group.Group.TheVariants.{Asked, Helping, Filling}
 use Rattle.mw_fill.specs.Draws.{start_of, words_of}
 use Rattle.mw_fill.specs.Copies.{copies_of}
-use Rattle.mw_fill.specs.Spots.{Spot, spots_of, regular, all_kinds}
+use Rattle.mw_fill.specs.Openings.{Opening, openings_of, regular, all_kinds}
 use Rattle.mw_fill.specs.Fill.{Outcome, filled, stuck, what_stands, in_hand, is_reached, FillRun, placed_anywhere}
-use Rattle.mw_fill.specs.Try.{Lists, lists_of, spots_begin, helping_begin, filling_begin, and_then, the_rest, end_put, placement_of, IsFilled}
+use Rattle.mw_fill.specs.Try.{Lists, lists_of, openings_begin, helping_begin, filling_begin, and_then, the_rest, end_put, placement_of, IsFilled}
 use Rattle.mw_fill.specs.Generated.{everything, IsUnmet}
 use Rattle.mw_fill.proofs.Shuffling.{shuffled_all}
 use Rattle.mw_fill.proofs.Permuting.{words_small, shuffled_count}
 use Rattle.mw_fill.proofs.Trying.{regular_all, all_kinds_all}
-use Rattle.mw_fill.proofs.Locations.{spots_kept}
+use Rattle.mw_fill.proofs.Locations.{openings_kept}
 use Rattle.mw_fill.proofs.Ascending.{end_place, slots_rise}
 use Rattle.mw_fill.proofs.Keeping.{IsCounted, found_same, as_good}
 use Rattle.mw_fill.proofs.Tidy.{IsTidy, IsIdle, numbers_held, is_site, tidy_nothing, tidy_run, tidy_anywhere, placement_stands}
@@ -43,47 +43,47 @@ all_pass p (x ∷ xs) h = cond-true (p x) (x ∷ filter p xs) (filter p xs) (h 0
 no_events : (joint : Joint) → IsJoint joint → (puts : List Put) → filter (is_at_no_event joint.slots) (placement_of joint puts) ≡ placement_of joint puts
 no_events joint kept puts =
     all_pass (is_at_no_event joint.slots) (placement_of joint puts)
-    (All-map (λ put. is_at_no_event joint.slots put ≡ true) (end_put puts) (spots_of joint)
-    (λ i d l. ap (λ p. has_no_event (site_at joint.slots p)) (end_place puts (get_or (spots_of joint) i d)) ∙ (spots_kept joint kept i d l).no_event))
+    (All-map (λ put. is_at_no_event joint.slots put ≡ true) (end_put puts) (openings_of joint)
+    (λ i d l. ap (λ p. has_no_event (site_at joint.slots p)) (end_place puts (get_or (openings_of joint) i d)) ∙ (openings_kept joint kept i d l).no_event))
 
-nothing_else : (slots : List Slot) (sites : List Spot) (puts : List Put) (place : ℕ) (b : Bool) → is_site sites place ≡ b → IsTidy slots sites puts
+nothing_else : (slots : List Slot) (sites : List Opening) (puts : List Put) (place : ℕ) (b : Bool) → is_site sites place ≡ b → IsTidy slots sites puts
     → cond b (numbers_held slots (what_stands puts place)) [] ≡ numbers_held slots (what_stands puts place)
 nothing_else slots sites puts place true e tidy = refl
 nothing_else slots sites puts place false e tidy = sym (ap (numbers_held slots) (tidy.sited place e))
 
 -- where the copies that rules ask for were put first, and others that no rule asks for
-pub stands_alike : (joint : Joint) → IsJoint joint → (first puts : List Put) → IsTidy joint.slots (spots_of joint) puts → ((place : ℕ) → standing joint.slots puts place ≡ standing joint.slots first place)
+pub stands_alike : (joint : Joint) → IsJoint joint → (first puts : List Put) → IsTidy joint.slots (openings_of joint) puts → ((place : ℕ) → standing joint.slots puts place ≡ standing joint.slots first place)
     → (place : ℕ) → standing joint.slots (with_events joint (placement_of joint puts)) place ≡ standing joint.slots (events_of joint ++ first) place
 stands_alike joint kept first puts tidy same place =
     let slots = joint.slots in
-    let spots = spots_of joint in
+    let openings = openings_of joint in
     standing_on slots (events_of joint) (filter (is_at_no_event slots) (placement_of joint puts)) place
     ∙ ap (λ ps. standing slots (events_of joint) place ++ standing slots ps place) (no_events joint kept puts)
     ∙ ap (λ ns. standing slots (events_of joint) place ++ ns)
-    (placement_stands slots puts spots 0 (0 + place_total slots) place (slots_rise 1 0 0 slots kept.numbered) (fillers_idle joint kept)
-    ∙ nothing_else slots spots puts place (is_site spots place) refl tidy ∙ sym (tidy.alone place) ∙ same place)
+    (placement_stands slots puts openings 0 (0 + place_total slots) place (slots_rise 1 0 0 slots kept.numbered) (fillers_idle joint kept)
+    ∙ nothing_else slots openings puts place (is_site openings place) refl tidy ∙ sym (tidy.alone place) ∙ same place)
     ∙ sym (standing_on slots (events_of joint) first place)
 
 -- ---- a try that gives a placement
 
 pub record Parts (lists : Lists) (joint : Joint) (puts : List Put) : Type 0 where
   pub first : List Put
-  pub run : FillRun is_reached joint (regular lists.spots) lists.asked [] (filled first)
+  pub run : FillRun is_reached joint (regular lists.openings) lists.asked [] (filled first)
   pub second : List Put
-  pub helping : placed_anywhere (regular lists.spots) lists.helping first ≡ filled second
-  pub filling : placed_anywhere (all_kinds lists.spots) lists.filling second ≡ filled puts
+  pub helping : placed_anywhere (regular lists.openings) lists.helping first ≡ filled second
+  pub filling : placed_anywhere (all_kinds lists.openings) lists.filling second ≡ filled puts
 
 rest_parts : (o : Outcome) (next : List Put → Outcome) (puts : List Put) → and_then o next ≡ filled puts → (middle : List Put) × (o ≡ filled middle) × (next middle ≡ filled puts)
 rest_parts (filled middle) next puts e = (middle, refl, e)
 rest_parts (stuck slot item) next puts e = let never : ⊥ = cc in absurd never
 
-pub parts_of : (joint : Joint) (lists : Lists) (first : Outcome) (puts : List Put) → FillRun is_reached joint (regular lists.spots) lists.asked [] first → filled puts ≡ and_then first (the_rest lists) → Parts lists joint puts
+pub parts_of : (joint : Joint) (lists : Lists) (first : Outcome) (puts : List Put) → FillRun is_reached joint (regular lists.openings) lists.asked [] first → filled puts ≡ and_then first (the_rest lists) → Parts lists joint puts
 parts_of joint lists first puts run e =
     let one = rest_parts first (the_rest lists) puts (sym e) in
-    let two = rest_parts (placed_anywhere (regular lists.spots) lists.helping one.0) (placed_anywhere (all_kinds lists.spots) lists.filling) puts one.2 in
+    let two = rest_parts (placed_anywhere (regular lists.openings) lists.helping one.0) (placed_anywhere (all_kinds lists.openings) lists.filling) puts one.2 in
     record {
       first = one.0;
-      run = subst (λ o. FillRun is_reached joint (regular lists.spots) lists.asked [] o) one.1 run;
+      run = subst (λ o. FillRun is_reached joint (regular lists.openings) lists.asked [] o) one.1 run;
       second = two.0;
       helping = two.1;
       filling = two.2;
@@ -98,25 +98,25 @@ module _ (joint : Joint) (kept : IsJoint joint) (seed stream : ℕ) (puts : List
   abbrev lists : Lists
   lists = lists_of joint seed stream
 
-  abbrev sites : List Spot
-  sites = spots_of joint
+  abbrev sites : List Opening
+  sites = openings_of joint
 
-  spots_are : (P : Spot → Type 0) → All P sites → All P lists.spots
-  spots_are P h = shuffled_all P words (spots_begin joint) sites h
+  openings_are : (P : Opening → Type 0) → All P sites → All P lists.openings
+  openings_are P h = shuffled_all P words (openings_begin joint) sites h
 
   first_tidy : IsTidy joint.slots sites parts.first
   first_tidy =
-      tidy_run joint sites (regular lists.spots) lists.asked [] parts.first (regular_all (λ s. is_site sites s.place ≡ true) lists.spots (spots_are (λ s. is_site sites s.place ≡ true) (own_sites sites)))
+      tidy_run joint sites (regular lists.openings) lists.asked [] parts.first (regular_all (λ s. is_site sites s.place ≡ true) lists.openings (openings_are (λ s. is_site sites s.place ≡ true) (own_sites sites)))
       (tidy_nothing joint.slots sites) parts.run
 
   pub alike : (place : ℕ) → standing joint.slots (with_events joint (placement_of joint puts)) place ≡ standing joint.slots (events_of joint ++ parts.first) place
   alike =
-      let there = spots_are (λ s. is_site sites s.place ≡ true) (own_sites sites) in
+      let there = openings_are (λ s. is_site sites s.place ≡ true) (own_sites sites) in
       let two =
-      tidy_anywhere joint.slots sites (regular lists.spots) lists.helping parts.first parts.second (regular_all (λ s. is_site sites s.place ≡ true) lists.spots there)
+      tidy_anywhere joint.slots sites (regular lists.openings) lists.helping parts.first parts.second (regular_all (λ s. is_site sites s.place ≡ true) lists.openings there)
       (shuffled_all (IsIdle joint.slots) words (helping_begin joint) (copies_of Helping joint) (helping_idle joint)) first_tidy parts.helping in
       let three =
-      tidy_anywhere joint.slots sites (all_kinds lists.spots) lists.filling parts.second puts (all_kinds_all (λ s. is_site sites s.place ≡ true) lists.spots there)
+      tidy_anywhere joint.slots sites (all_kinds lists.openings) lists.filling parts.second puts (all_kinds_all (λ s. is_site sites s.place ≡ true) lists.openings there)
       (shuffled_all (IsIdle joint.slots) words (filling_begin joint) (copies_of Filling joint) (filling_idle joint)) two.tidy parts.filling in
       stands_alike joint kept parts.first puts three.tidy (λ place. three.same place ∙ two.same place)
 
@@ -128,11 +128,11 @@ module _ (joint : Joint) (kept : IsJoint joint) (seed stream : ℕ) (puts : List
         let all = everything joint in
         let before = unmet.0 in
         let w = unmet.1 in
-        let inside : All (λ s. s.place < place_total joint.slots) (regular lists.spots) =
-        regular_all (λ s. s.place < place_total joint.slots) lists.spots (spots_are (λ s. s.place < place_total joint.slots) (λ i d l. (spots_kept joint kept i d l).place)) in
+        let inside : All (λ s. s.place < place_total joint.slots) (regular lists.openings) =
+        regular_all (λ s. s.place < place_total joint.slots) lists.openings (openings_are (λ s. s.place < place_total joint.slots) (λ i d l. (openings_kept joint kept i d l).place)) in
         let counted : All (IsCounted joint) lists.asked = shuffled_all (IsCounted joint) words 0 (copies_of Asked joint) (asked_counted joint) in
         let good =
-        as_good joint (regular lists.spots) lists.asked [] parts.first before counted inside (subst (λ ps. IsPlaced joint.slots ps before) (sym (append-nil (events_of joint))) unmet.2) parts.run in
+        as_good joint (regular lists.openings) lists.asked [] parts.first before counted inside (subst (λ ps. IsPlaced joint.slots ps before) (sym (append-nil (events_of joint))) unmet.2) parts.run in
         let lies : (j : ℕ) → found table u j ≡ found good.end u j = λ j. found_same 0 table good.end u j (placed.size ∙ sym good.placed.size) (λ p. placed.entries p ∙ alike p ∙ sym (good.placed.entries p)) in
         let at_end : Closed steps start good.end u = Closed-less steps start start good.end table u (λ j. omega (arith, lies j)) closed in
         let in_hands = good.good u at_end in

@@ -9,7 +9,7 @@ use Rattle.mw_multi.specs.Placement.{Put}
 use Rattle.mw_multi.specs.Events.{events_of}
 use Rattle.mw_reach.specs.Reach.{IsLeast}
 use Rattle.mw_fill.specs.Copies.{ItemCopy}
-use Rattle.mw_fill.specs.Spots.{Spot, accepts}
+use Rattle.mw_fill.specs.Openings.{Opening, accepts}
 use Rattle.mw_fill.specs.Fill.{Outcome, stuck_with, put_of, is_fit, is_free, first_fit, in_hand, is_reached, FillRun}
 use Rattle.mw_fill.specs.Try.{and_then, the_rest}
 use Rattle.mw_fill.specs.Laws.{HasOneOutcome}
@@ -22,24 +22,24 @@ same_places v w h k p = elim (cases_Bool (v p)) [
   | inr not_v ↦ elim (cases_Bool (w p)) [ inl in_w ↦ k p in_w ∙ sym in_w | inr not_w ↦ not_v ∙ sym not_w ]
 ]
 
-one_outcome : (o : Option Spot) (copy : ItemCopy) (out other : Outcome) (Rest Other : Spot → Type 0) → ((s : Spot) → Rest s → Other s → out ≡ other)
+one_outcome : (o : Option Opening) (copy : ItemCopy) (out other : Outcome) (Rest Other : Opening → Type 0) → ((s : Opening) → Rest s → Other s → out ≡ other)
     → MatchOption o (out ≡ stuck_with copy) Rest → MatchOption o (other ≡ stuck_with copy) Other → out ≡ other
 one_outcome None copy out other Rest Other h a b = a ∙ sym b
 one_outcome (Some s) copy out other Rest Other h a b = h s a b
 
-run_once : (joint : Joint) (spots : List Spot) (copies : List ItemCopy) (puts : List Put) (out other : Outcome) → FillRun is_reached joint spots copies puts out → FillRun is_reached joint spots copies puts other → out ≡ other
-run_once joint spots [] puts out other r s = r ∙ sym s
-run_once joint spots (copy ∷ later) puts out other r s =
+run_once : (joint : Joint) (openings : List Opening) (copies : List ItemCopy) (puts : List Put) (out other : Outcome) → FillRun is_reached joint openings copies puts out → FillRun is_reached joint openings copies puts other → out ≡ other
+run_once joint openings [] puts out other r s = r ∙ sym s
+run_once joint openings (copy ∷ later) puts out other r s =
     let v = r.1 in
     let w = s.1 in
     let moved : IsLeast (steps_of joint) (in_hand joint later) s.0 v = least_alike joint (events_of joint ++ puts) (in_hand joint later) r.0 s.0 v r.2 s.2 r.3 in
     let same = same_places v w (moved.least w s.3.closed) (s.3.least v moved.closed) in
-    let fits : first_fit (λ x. accepts copy x && w x.place) puts spots ≡ first_fit (λ x. accepts copy x && v x.place) puts spots =
-    find_same (is_fit (λ x. accepts copy x && w x.place) puts) (is_fit (λ x. accepts copy x && v x.place) puts) spots (λ x. ap (λ b. is_free puts x && (accepts copy x && b)) (sym (same x.place))) in
-    one_outcome (first_fit (λ x. accepts copy x && v x.place) puts spots) copy out other
-    (λ spot. FillRun is_reached joint spots later (puts ++ put_of copy spot ∷ []) out) (λ spot. FillRun is_reached joint spots later (puts ++ put_of copy spot ∷ []) other)
-    (λ spot a b. run_once joint spots later (puts ++ put_of copy spot ∷ []) out other a b) r.4
-    (subst (λ o. MatchOption o (other ≡ stuck_with copy) (λ spot. FillRun is_reached joint spots later (puts ++ put_of copy spot ∷ []) other)) fits s.4)
+    let fits : first_fit (λ x. accepts copy x && w x.place) puts openings ≡ first_fit (λ x. accepts copy x && v x.place) puts openings =
+    find_same (is_fit (λ x. accepts copy x && w x.place) puts) (is_fit (λ x. accepts copy x && v x.place) puts) openings (λ x. ap (λ b. is_free puts x && (accepts copy x && b)) (sym (same x.place))) in
+    one_outcome (first_fit (λ x. accepts copy x && v x.place) puts openings) copy out other
+    (λ opening. FillRun is_reached joint openings later (puts ++ put_of copy opening ∷ []) out) (λ opening. FillRun is_reached joint openings later (puts ++ put_of copy opening ∷ []) other)
+    (λ opening a b. run_once joint openings later (puts ++ put_of copy opening ∷ []) out other a b) r.4
+    (subst (λ o. MatchOption o (other ≡ stuck_with copy) (λ opening. FillRun is_reached joint openings later (puts ++ put_of copy opening ∷ []) other)) fits s.4)
 
 pub has_one_outcome : HasOneOutcome
 has_one_outcome joint lists out other r s =

@@ -7,7 +7,7 @@ use Rattle.std.proofs.lemmas.List.{get_or-set_same, get_or-set_other}
 use Rattle.std.proofs.lemmas.List.Elements.{All-push}
 use Rattle.mw_multi.specs.Joint.{Joint}
 use Rattle.mw_multi.specs.Placement.{Put, PutKept}
-use Rattle.mw_fill.specs.Spots.{Spot}
+use Rattle.mw_fill.specs.Openings.{Opening}
 use Rattle.mw_fill.specs.Fill.{what_stands, is_fit, first_fit}
 use Rattle.mw_fill.specs.Kept.{AreHeld, IsHeldFor, is_open_in}
 
@@ -34,17 +34,17 @@ find_passes f (y ∷ xs) x e = elim (cases_Bool (f y)) [
 -- ---- what is held
 
 -- the first that is open by the table is the first that fits
-pub held_first : (test : Spot → Bool) (puts : List Put) (held : List (Option Put)) (spots : List Spot) → AreHeld puts held → find (is_open_in test held) spots ≡ first_fit test puts spots
-held_first test puts held spots h = find_same (is_open_in test held) (is_fit test puts) spots (λ s. ap (λ o. is_none o && test s) (h s.place))
+pub held_first : (test : Opening → Bool) (puts : List Put) (held : List (Option Put)) (openings : List Opening) → AreHeld puts held → find (is_open_in test held) openings ≡ first_fit test puts openings
+held_first test puts held openings h = find_same (is_open_in test held) (is_fit test puts) openings (λ s. ap (λ o. is_none o && test s) (h s.place))
 
 none_there : {X : Type 0} (o : Option X) → is_none o ≡ true → o ≡ None
 none_there None e = refl
 none_there (Some x) e = cc
 
 -- nothing stands at a location that fits
-pub free_there : (test : Spot → Bool) (puts : List Put) (spots : List Spot) (s : Spot) → first_fit test puts spots ≡ Some s → (what_stands puts s.place ≡ None) × (test s ≡ true)
-free_there test puts spots s e =
-    let parts = and_parts (is_none (what_stands puts s.place)) (test s) (find_passes (is_fit test puts) spots s e) in
+pub free_there : (test : Opening → Bool) (puts : List Put) (openings : List Opening) (s : Opening) → first_fit test puts openings ≡ Some s → (what_stands puts s.place ≡ None) × (test s ≡ true)
+free_there test puts openings s e =
+    let parts = and_parts (is_none (what_stands puts s.place)) (test s) (find_passes (is_fit test puts) openings s e) in
     (none_there (what_stands puts s.place) parts.0, parts.1)
 
 pub stands_more : (puts : List Put) (put : Put) (place : ℕ) (b : Bool) → (put.place == place) ≡ b → what_stands puts place ≡ None → what_stands (puts ++ put ∷ []) place ≡ cond b (Some put) None

@@ -11,7 +11,7 @@ use Rattle.mw_multi.proofs.Standing.{placed_put}
 use Rattle.mw_reach.specs.Reach.{Placed, times_in, found_from, found, bag_with, Closed, IsLeast}
 use Rattle.mw_reach.proofs.SameLeast.{Closed-less}
 use Rattle.mw_fill.specs.Copies.{ItemCopy, copies_count}
-use Rattle.mw_fill.specs.Spots.{Spot, accepts}
+use Rattle.mw_fill.specs.Openings.{Opening, accepts}
 use Rattle.mw_fill.specs.Fill.{filled, stuck_with, put_of, first_fit, in_hand, is_reached, FillRun}
 use Rattle.mw_fill.proofs.Fitting.{find_all, free_there}
 use Rattle.mw_fill.proofs.Runs.{count_more}
@@ -90,41 +90,41 @@ least_alike joint puts base a b w p q l = record {
   least = λ v k. l.least v (Closed-less (steps_of joint) base base a b v (λ j. omega (arith, found_alike joint puts a b v j p q)) k);
 }
 
-one_as_good : (joint : Joint) (spots : List Spot) (copy : ItemCopy) (later : List ItemCopy) (puts result : List Put) (table : Placed) (w : Places) (test : Spot → Bool) → ((s : Spot) → test s ≡ true → w s.place ≡ true)
-    → IsCounted joint copy → All (λ s. s.place < place_total joint.slots) spots → IsPlaced joint.slots (events_of joint ++ puts) table
+one_as_good : (joint : Joint) (openings : List Opening) (copy : ItemCopy) (later : List ItemCopy) (puts result : List Put) (table : Placed) (w : Places) (test : Opening → Bool) → ((s : Opening) → test s ≡ true → w s.place ≡ true)
+    → IsCounted joint copy → All (λ s. s.place < place_total joint.slots) openings → IsPlaced joint.slots (events_of joint ++ puts) table
     → IsLeast (steps_of joint) (in_hand joint later) table w
-    → ((spot : Spot) (next : Placed) → IsPlaced joint.slots (events_of joint ++ (puts ++ put_of copy spot ∷ [])) next → FillRun is_reached joint spots later (puts ++ put_of copy spot ∷ []) (filled result) → IsAsGood joint later next result)
-    → (o : Option Spot) → first_fit test puts spots ≡ o
-    → MatchOption o (filled result ≡ stuck_with copy) (λ spot. FillRun is_reached joint spots later (puts ++ put_of copy spot ∷ []) (filled result))
+    → ((opening : Opening) (next : Placed) → IsPlaced joint.slots (events_of joint ++ (puts ++ put_of copy opening ∷ [])) next → FillRun is_reached joint openings later (puts ++ put_of copy opening ∷ []) (filled result) → IsAsGood joint later next result)
+    → (o : Option Opening) → first_fit test puts openings ≡ o
+    → MatchOption o (filled result ≡ stuck_with copy) (λ opening. FillRun is_reached joint openings later (puts ++ put_of copy opening ∷ []) (filled result))
     → IsAsGood joint (copy ∷ later) table result
-one_as_good joint spots copy later puts result table w test reach counted inside placed least rest None e r = let never : ⊥ = cc in absurd never
-one_as_good joint spots copy later puts result table w test reach counted inside placed least rest (Some spot) e r =
-    let fits = free_there test puts spots spot e in
-    let within : spot.place < length table = omega (arith, placed.size, find_all (λ s. s.place < place_total joint.slots) _ spots spot inside e) in
-    let next = set table spot.place (get_or table spot.place [] ++ copy.number ∷ []) in
-    let is : next ≡ set table spot.place (numbers_at table spot.place ++ put_numbers joint.slots (put_of copy spot)) = ap (λ ns. set table spot.place (get_or table spot.place [] ++ ns)) (sym counted.numbers) in
-    let put : IsPlaced joint.slots ((events_of joint ++ puts) ++ put_of copy spot ∷ []) next = placed_put joint.slots (events_of joint ++ puts) (put_of copy spot) table next within is placed in
-    let then_good = rest spot next (subst (λ ps. IsPlaced joint.slots ps next) (append_assoc (events_of joint) puts (put_of copy spot ∷ [])) put) r in
+one_as_good joint openings copy later puts result table w test reach counted inside placed least rest None e r = let never : ⊥ = cc in absurd never
+one_as_good joint openings copy later puts result table w test reach counted inside placed least rest (Some opening) e r =
+    let fits = free_there test puts openings opening e in
+    let within : opening.place < length table = omega (arith, placed.size, find_all (λ s. s.place < place_total joint.slots) _ openings opening inside e) in
+    let next = set table opening.place (get_or table opening.place [] ++ copy.number ∷ []) in
+    let is : next ≡ set table opening.place (numbers_at table opening.place ++ put_numbers joint.slots (put_of copy opening)) = ap (λ ns. set table opening.place (get_or table opening.place [] ++ ns)) (sym counted.numbers) in
+    let put : IsPlaced joint.slots ((events_of joint ++ puts) ++ put_of copy opening ∷ []) next = placed_put joint.slots (events_of joint ++ puts) (put_of copy opening) table next within is placed in
+    let then_good = rest opening next (subst (λ ps. IsPlaced joint.slots ps next) (append_assoc (events_of joint) puts (put_of copy opening ∷ [])) put) r in
     record {
       end = then_good.end;
       placed = then_good.placed;
       good = λ u c.
           let later_good = then_good.good u c in
-          let here = where_it_lies joint copy later table spot.place within w least (reach spot fits.1) u later_good.0 in
+          let here = where_it_lies joint copy later table opening.place within w least (reach opening fits.1) u later_good.0 in
           (here.0, λ j. here.1 j ∙ later_good.1 j);
     }
 
-pub as_good : (joint : Joint) (spots : List Spot) (copies : List ItemCopy) (puts result : List Put) (table : Placed) → All (IsCounted joint) copies → All (λ s. s.place < place_total joint.slots) spots
-    → IsPlaced joint.slots (events_of joint ++ puts) table → FillRun is_reached joint spots copies puts (filled result) → IsAsGood joint copies table result
-as_good joint spots [] puts result table counted inside placed r =
+pub as_good : (joint : Joint) (openings : List Opening) (copies : List ItemCopy) (puts result : List Put) (table : Placed) → All (IsCounted joint) copies → All (λ s. s.place < place_total joint.slots) openings
+    → IsPlaced joint.slots (events_of joint ++ puts) table → FillRun is_reached joint openings copies puts (filled result) → IsAsGood joint copies table result
+as_good joint openings [] puts result table counted inside placed r =
     let same : result ≡ puts = cc in
     rw same record {
       end = table;
       placed = placed;
       good = λ u c. (Closed-less (steps_of joint) (in_hand joint []) (start_count joint.slots) table table u (λ j. omega arith) c, λ j. omega arith);
     }
-as_good joint spots (copy ∷ later) puts result table counted inside placed r =
-    one_as_good joint spots copy later puts result table r.1 (λ s. accepts copy s && r.1 s.place) (λ s e. (and_parts (accepts copy s) (r.1 s.place) e).1) (counted 0 copy (omega arith)) inside placed
+as_good joint openings (copy ∷ later) puts result table counted inside placed r =
+    one_as_good joint openings copy later puts result table r.1 (λ s. accepts copy s && r.1 s.place) (λ s e. (and_parts (accepts copy s) (r.1 s.place) e).1) (counted 0 copy (omega arith)) inside placed
     (least_alike joint (events_of joint ++ puts) (in_hand joint later) r.0 table r.1 r.2 placed r.3)
-    (λ spot next p rest. as_good joint spots later (puts ++ put_of copy spot ∷ []) result next (λ i d l. counted (suc i) d (omega arith)) inside p rest)
-    (first_fit (λ s. accepts copy s && r.1 s.place) puts spots) refl r.4
+    (λ opening next p rest. as_good joint openings later (puts ++ put_of copy opening ∷ []) result next (λ i d l. counted (suc i) d (omega arith)) inside p rest)
+    (first_fit (λ s. accepts copy s && r.1 s.place) puts openings) refl r.4

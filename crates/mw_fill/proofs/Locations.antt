@@ -10,24 +10,24 @@ use Rattle.mw_multi.specs.Events.{has_no_event}
 use Rattle.mw_multi.proofs.Sites.{get_some, location_site}
 use Rattle.mw_reach.proofs.Slots.{slot_fits}
 use Rattle.mw_multi.specs.Joint.{Slot, Joint, IsJoint, slot_places}
-use Rattle.mw_fill.specs.Kept.{SpotKept}
+use Rattle.mw_fill.specs.Kept.{OpeningKept}
 use Rattle.mw_fill.specs.Numbered.{each_numbered}
-use Rattle.mw_fill.specs.Spots.{Spot, spot_of, spot_at, slot_spots, spots_of}
+use Rattle.mw_fill.specs.Openings.{Opening, opening_of, opening_at, slot_openings, openings_of}
 use Rattle.mw_fill.proofs.Numbered.{numbered_le, numbered_all}
 use Rattle.mw_fill.proofs.Pools.{item_there}
 
-one_le : (number : ℕ) (s : Slot) (index : ℕ) (l : Location) (b : Bool) → length (if b then spot_of number s index l ∷ [] else []) ≤ 1
+one_le : (number : ℕ) (s : Slot) (index : ℕ) (l : Location) (b : Bool) → length (if b then opening_of number s index l ∷ [] else []) ≤ 1
 one_le number s index l true = omega arith
 one_le number s index l false = omega arith
 
-among_le : (number : ℕ) (s : Slot) (index : ℕ) (ls : List Location) → length (each_numbered (spot_at number s) index ls) ≤ length ls
+among_le : (number : ℕ) (s : Slot) (index : ℕ) (ls : List Location) → length (each_numbered (opening_at number s) index ls) ≤ length ls
 among_le number s index [] = omega arith
-among_le number s index (l ∷ ls) = omega (arith, length-append (spot_at number s index l) (each_numbered (spot_at number s) (suc index) ls), one_le number s index l (is_some l.id), among_le number s (suc index) ls)
+among_le number s index (l ∷ ls) = omega (arith, length-append (opening_at number s index l) (each_numbered (opening_at number s) (suc index) ls), one_le number s index l (is_some l.id), among_le number s (suc index) ls)
 
 -- no more locations than places
-pub spots_are_few : (joint : Joint) → IsJoint joint → length (spots_of joint) ≤ 200000
-spots_are_few joint kept =
-    omega (arith, numbered_le slot_spots slot_places 1 joint.slots (λ n i d l. let s = get_or joint.slots i d in omega (arith, among_le n s 0 s.world.locations)), kept.places)
+pub openings_are_few : (joint : Joint) → IsJoint joint → length (openings_of joint) ≤ 200000
+openings_are_few joint kept =
+    omega (arith, numbered_le slot_openings slot_places 1 joint.slots (λ n i d l. let s = get_or joint.slots i d in omega (arith, among_le n s 0 s.world.locations)), kept.places)
 
 -- ---- whose they are
 
@@ -43,8 +43,8 @@ module _ (joint : Joint) (kept : IsJoint joint) (k : ℕ) (s : Slot) (within : k
   world_kept : IsWorld s.world
   world_kept = subst (λ (t : Slot). IsWorld t.world) (sym is) (kept.each k s within).world
 
-  spot_kept : (i : ℕ) (l : Location) → slice_get s.world.locations i ≡ Some l → LocationKept s.world l → i < length s.world.locations → is_some l.id ≡ true → SpotKept joint.slots (spot_of (suc k) s i l)
-  spot_kept i l there location inside id =
+  opening_kept : (i : ℕ) (l : Location) → slice_get s.world.locations i ≡ Some l → LocationKept s.world l → i < length s.world.locations → is_some l.id ≡ true → OpeningKept joint.slots (opening_of (suc k) s i l)
+  opening_kept i l there location inside id =
       let fits = slot_fits joint kept k s within is in
       let site = location_site joint k s i l kept slot_there there in
       record {
@@ -54,22 +54,22 @@ module _ (joint : Joint) (kept : IsJoint joint) (k : ℕ) (s : Slot) (within : k
         filler = item_there joint kept k s within is s.world.filler world_kept.filler.id;
       }
 
-  one_kept : (i : ℕ) (l : Location) (b : Bool) → is_some l.id ≡ b → slice_get s.world.locations i ≡ Some l → LocationKept s.world l → i < length s.world.locations → All (SpotKept joint.slots) (if b then spot_of (suc k) s i l ∷ [] else [])
-  one_kept i l true id there location inside = All-cons (SpotKept joint.slots) (spot_of (suc k) s i l) [] (spot_kept i l there location inside id) (All-nil (SpotKept joint.slots))
-  one_kept i l false id there location inside = All-nil (SpotKept joint.slots)
+  one_kept : (i : ℕ) (l : Location) (b : Bool) → is_some l.id ≡ b → slice_get s.world.locations i ≡ Some l → LocationKept s.world l → i < length s.world.locations → All (OpeningKept joint.slots) (if b then opening_of (suc k) s i l ∷ [] else [])
+  one_kept i l true id there location inside = All-cons (OpeningKept joint.slots) (opening_of (suc k) s i l) [] (opening_kept i l there location inside id) (All-nil (OpeningKept joint.slots))
+  one_kept i l false id there location inside = All-nil (OpeningKept joint.slots)
 
-  slot_kept : All (SpotKept joint.slots) (slot_spots (suc k) s)
+  slot_kept : All (OpeningKept joint.slots) (slot_openings (suc k) s)
   slot_kept =
-      numbered_all (SpotKept joint.slots) (spot_at (suc k) s) 0 s.world.locations
+      numbered_all (OpeningKept joint.slots) (opening_at (suc k) s) 0 s.world.locations
       (λ i l inside e. let at : i ≡ 0 + i = omega arith in
-      subst (λ n. All (SpotKept joint.slots) (spot_at (suc k) s n l)) at
+      subst (λ n. All (OpeningKept joint.slots) (opening_at (suc k) s n l)) at
       (one_kept i l (is_some l.id) refl (get_some s.world.locations i l inside ∙ ap Some (sym e)) (subst (LocationKept s.world) (sym e) (world_kept.locations.each i l inside)) inside))
 
 -- they are the joint's, and have no events
-pub spots_kept : (joint : Joint) → IsJoint joint → All (SpotKept joint.slots) (spots_of joint)
-spots_kept joint kept =
-    numbered_all (SpotKept joint.slots) slot_spots 1 joint.slots
-    (λ k s l e. let at : suc k ≡ 1 + k = omega arith in subst (λ n. All (SpotKept joint.slots) (slot_spots n s)) at (slot_kept joint kept k s l e))
+pub openings_kept : (joint : Joint) → IsJoint joint → All (OpeningKept joint.slots) (openings_of joint)
+openings_kept joint kept =
+    numbered_all (OpeningKept joint.slots) slot_openings 1 joint.slots
+    (λ k s l e. let at : suc k ≡ 1 + k = omega arith in subst (λ n. All (OpeningKept joint.slots) (slot_openings n s)) at (slot_kept joint kept k s l e))
 
 -- ---- puts at them
 
@@ -82,9 +82,9 @@ fits_here put None e = refl
 fits_here put (Some site) e = fits_none put site site.location.event e
 
 -- an item of the joint may stand at such a location
-pub put_kept : (slots : List Slot) (spot : Spot) (receiver item : ℕ) → SpotKept slots spot → is_some (item_at slots receiver item) ≡ true → PutKept slots record { place = spot.place; receiver = receiver; item = item }
-put_kept slots spot receiver item kept there = record {
+pub put_kept : (slots : List Slot) (opening : Opening) (receiver item : ℕ) → OpeningKept slots opening → is_some (item_at slots receiver item) ≡ true → PutKept slots record { place = opening.place; receiver = receiver; item = item }
+put_kept slots opening receiver item kept there = record {
   place = kept.location;
   item = there;
-  event = fits_here record { place = spot.place; receiver = receiver; item = item } (site_at slots spot.place) kept.no_event;
+  event = fits_here record { place = opening.place; receiver = receiver; item = item } (site_at slots opening.place) kept.no_event;
 }

@@ -16,7 +16,7 @@ use Rattle.mw_multi.proofs.Sites.{get_some}
 use Rattle.mw_fill.specs.declared.group.Group.{Group}
 use Rattle.mw_fill.specs.declared.group.Group.TheVariants.{Asked, Helping, Filling}
 use Rattle.mw_fill.specs.Copies.{ItemCopy, is_of, item_is_of, copy_of, entry_copies, slot_copies, has_others, copies_of}
-use Rattle.mw_fill.specs.Spots.{Spot, spot_of, spot_at, slot_spots, spots_of}
+use Rattle.mw_fill.specs.Openings.{Opening, opening_of, opening_at, slot_openings, openings_of}
 use Rattle.mw_fill.specs.Try.{filler_at}
 use Rattle.mw_fill.proofs.Numbered.{numbered_all}
 use Rattle.mw_fill.proofs.Keeping.{IsCounted}
@@ -76,17 +76,17 @@ filling_idle joint = copies_all (IsIdle joint.slots) Filling joint (λ k s there
 
 -- ---- locations
 
-module _ (P : Spot → Type 0) (number : ℕ) (s : Slot) (each : (index : ℕ) (l : Location) → P (spot_of number s index l)) where
-  location_all : (index : ℕ) (l : Location) (b : Bool) → All P (if b then spot_of number s index l ∷ [] else [])
-  location_all index l true = All-cons P (spot_of number s index l) [] (each index l) (All-nil P)
+module _ (P : Opening → Type 0) (number : ℕ) (s : Slot) (each : (index : ℕ) (l : Location) → P (opening_of number s index l)) where
+  location_all : (index : ℕ) (l : Location) (b : Bool) → All P (if b then opening_of number s index l ∷ [] else [])
+  location_all index l true = All-cons P (opening_of number s index l) [] (each index l) (All-nil P)
   location_all index l false = All-nil P
 
-  slot_all : All P (slot_spots number s)
-  slot_all = numbered_all P (spot_at number s) 0 s.world.locations (λ i l inside e. location_all (0 + i) l (is_some l.id))
+  slot_all : All P (slot_openings number s)
+  slot_all = numbered_all P (opening_at number s) 0 s.world.locations (λ i l inside e. location_all (0 + i) l (is_some l.id))
 
-pub spots_all : (P : Spot → Type 0) (joint : Joint) → ((k : ℕ) (s : Slot) → k < length joint.slots → s ≡ get_or joint.slots k s → (index : ℕ) (l : Location) → P (spot_of (suc k) s index l)) → All P (spots_of joint)
-spots_all P joint each =
-    numbered_all P slot_spots 1 joint.slots (λ k s l e. let at : suc k ≡ 1 + k = omega arith in subst (λ n. All P (slot_spots n s)) at (slot_all P (suc k) s (each k s l e)))
+pub openings_all : (P : Opening → Type 0) (joint : Joint) → ((k : ℕ) (s : Slot) → k < length joint.slots → s ≡ get_or joint.slots k s → (index : ℕ) (l : Location) → P (opening_of (suc k) s index l)) → All P (openings_of joint)
+openings_all P joint each =
+    numbered_all P slot_openings 1 joint.slots (λ k s l e. let at : suc k ≡ 1 + k = omega arith in subst (λ n. All P (slot_openings n s)) at (slot_all P (suc k) s (each k s l e)))
 
 filler_item : (i : Item) → is_filler (Some i) ≡ true → is_of Asked i.class ≡ false
 filler_item i e = elim i.class as (λ c. is_filler (Some record i { class = c }) ≡ true → is_of Asked c ≡ false) [ Progression ↦ λ h. cc | Useful ↦ λ h. refl | Filler ↦ λ h. refl | Trap ↦ λ h. refl ] e
@@ -95,9 +95,9 @@ filler_is : (o : Option Item) → is_filler o ≡ true → is_progression_item o
 filler_is (Some i) e = filler_item i e
 filler_is None e = cc
 
-pub fillers_idle : (joint : Joint) → IsJoint joint → All (λ s. put_numbers joint.slots (filler_at s) ≡ []) (spots_of joint)
+pub fillers_idle : (joint : Joint) → IsJoint joint → All (λ s. put_numbers joint.slots (filler_at s) ≡ []) (openings_of joint)
 fillers_idle joint kept =
-    spots_all (λ s. put_numbers joint.slots (filler_at s) ≡ []) joint
+    openings_all (λ s. put_numbers joint.slots (filler_at s) ≡ []) joint
     (λ k s within is index l.
     numbers_are joint.slots (suc k) s.world.filler s false (get_some joint.slots k s within ∙ ap Some (sym is))
     (filler_is (slice_get s.world.items s.world.filler) (subst (λ (t : Slot). is_filler (slice_get t.world.items t.world.filler) ≡ true) (sym is) (kept.each k s within).world.filler.class)))
@@ -111,5 +111,5 @@ any_at p (x ∷ xs) (suc k) d h e = elim (cases_Bool (p x)) [
 ]
 
 -- each is at one of their places
-pub own_sites : (spots : List Spot) → All (λ s. is_site spots s.place ≡ true) spots
-own_sites spots = λ i d l. any_at (λ s. s.place == (get_or spots i d).place) spots i d l ((Decides-eqb (get_or spots i d).place (get_or spots i d).place).1 refl)
+pub own_sites : (openings : List Opening) → All (λ s. is_site openings s.place ≡ true) openings
+own_sites openings = λ i d l. any_at (λ s. s.place == (get_or openings i d).place) openings i d l ((Decides-eqb (get_or openings i d).place (get_or openings i d).place).1 refl)

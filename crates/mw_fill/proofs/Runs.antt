@@ -17,24 +17,24 @@ use Rattle.mw_reach.specs.Reached.{IsPlacedFor}
 use Rattle.mw_reach.proofs.Placing.{placed_for}
 use Rattle.mw_reach.proofs.SameLeast.{IsLeast-same}
 use Rattle.mw_fill.specs.Copies.{ItemCopy, has_number, copies_count}
-use Rattle.mw_fill.specs.Spots.{Spot, accepts}
+use Rattle.mw_fill.specs.Openings.{Opening, accepts}
 use Rattle.mw_fill.specs.Fill.{Outcome, filled, stuck_with, put_of, first_fit, in_hand, is_reached, FillRun}
-use Rattle.mw_fill.specs.Kept.{CopyKept, SpotKept, IsHeldFor}
+use Rattle.mw_fill.specs.Kept.{CopyKept, OpeningKept, IsHeldFor}
 use Rattle.mw_fill.proofs.Fitting.{differ}
 use Rattle.mw_fill.proofs.Stepping.{next_copy, held_next}
 
 -- after k copies: what the run over the rest gives, the whole run gives
-pub record IsPlacedSoFar (joint : Joint) (spots : List Spot) (copies : List ItemCopy) (k : ℕ) (hand : List ℕ) (held : List (Option Put)) (table : List (List ℕ)) : Type 0 where
+pub record IsPlacedSoFar (joint : Joint) (openings : List Opening) (copies : List ItemCopy) (k : ℕ) (hand : List ℕ) (held : List (Option Put)) (table : List (List ℕ)) : Type 0 where
   pub puts : List Put
   pub held_is : IsHeldFor joint puts held
   pub table_is : IsPlaced joint.slots (events_of joint ++ puts) table
   pub few : length puts ≤ k
   pub hand_is : IsBagOf joint.slots (in_hand joint (drop k copies)) hand
-  pub runs : (out : Outcome) → FillRun is_reached joint spots (drop k copies) puts out → FillRun is_reached joint spots copies [] out
+  pub runs : (out : Outcome) → FillRun is_reached joint openings (drop k copies) puts out → FillRun is_reached joint openings copies [] out
 
-pub begin : (joint : Joint) (spots : List Spot) (copies : List ItemCopy) (hand : List ℕ) (held : List (Option Put)) (table : List (List ℕ))
-    → IsBagOf joint.slots (in_hand joint copies) hand → IsHeldFor joint [] held → IsPlaced joint.slots (events_of joint) table → IsPlacedSoFar joint spots copies 0 hand held table
-begin joint spots copies hand held table bag nothing events = record {
+pub begin : (joint : Joint) (openings : List Opening) (copies : List ItemCopy) (hand : List ℕ) (held : List (Option Put)) (table : List (List ℕ))
+    → IsBagOf joint.slots (in_hand joint copies) hand → IsHeldFor joint [] held → IsPlaced joint.slots (events_of joint) table → IsPlacedSoFar joint openings copies 0 hand held table
+begin joint openings copies hand held table bag nothing events = record {
   puts = [];
   held_is = nothing;
   table_is = subst (λ ps. IsPlaced joint.slots ps table) (sym (append-nil (events_of joint))) events;
@@ -46,8 +46,8 @@ begin joint spots copies hand held table bag nothing events = record {
 pub count_more : (copy : ItemCopy) (later : List ItemCopy) (n : ℕ) (b : Bool) → (copy.number == n) ≡ b → copies_count (copy ∷ later) n ≡ cond b 1 0 + copies_count later n
 count_more copy later n b e = sum_by-cons (λ c. cond (has_number n c) 1 0) copy later ∙ ap (λ t. cond t 1 0 + copies_count later n) e
 
-module _ (joint : Joint) (kept : IsJoint joint) (spots : List Spot) (copies : List ItemCopy) (few_copies : length copies ≤ 10240000) (k : ℕ) (hand : List ℕ) (held : List (Option Put)) (table : List (List ℕ))
-    (so_far : IsPlacedSoFar joint spots copies k hand held table) (copy : ItemCopy) (within : k < length copies) (is : copy ≡ get_or copies k copy) (copy_kept : CopyKept joint.slots copy) where
+module _ (joint : Joint) (kept : IsJoint joint) (openings : List Opening) (copies : List ItemCopy) (few_copies : length copies ≤ 10240000) (k : ℕ) (hand : List ℕ) (held : List (Option Put)) (table : List (List ℕ))
+    (so_far : IsPlacedSoFar joint openings copies k hand held table) (copy : ItemCopy) (within : k < length copies) (is : copy ≡ get_or copies k copy) (copy_kept : CopyKept joint.slots copy) where
   abbrev later : List ItemCopy
   later = drop (k + 1) copies
 
@@ -87,21 +87,21 @@ module _ (joint : Joint) (kept : IsJoint joint) (spots : List Spot) (copies : Li
     least_here : IsLeast (steps_of joint) (in_hand joint later) table w
     least_here = IsLeast-same (steps_of joint) (bag_of less) (in_hand joint later) table w hand_after.counts least
 
-    pub stuck_here : first_fit (λ s. accepts copy s && w s.place) so_far.puts spots ≡ None → FillRun is_reached joint spots copies [] (stuck_with copy)
+    pub stuck_here : first_fit (λ s. accepts copy s && w s.place) so_far.puts openings ≡ None → FillRun is_reached joint openings copies [] (stuck_with copy)
     stuck_here e = so_far.runs (stuck_with copy) (rw rest_is (table, w, so_far.table_is, least_here, rw e refl))
 
-    pub one_placed : (spot : Spot) (next : List (List ℕ)) → first_fit (λ s. accepts copy s && w s.place) so_far.puts spots ≡ Some spot → All (SpotKept joint.slots) spots
-        → IsPlaced joint.slots ((events_of joint ++ so_far.puts) ++ put_of copy spot ∷ []) next
-        → IsPlacedSoFar joint spots copies (k + 1) less (set held spot.place (Some (put_of copy spot))) next
-    one_placed spot next e there placed = record {
-      puts = so_far.puts ++ put_of copy spot ∷ [];
-      held_is = held_next joint copy (λ s. accepts copy s && w s.place) so_far.puts spots spot held copy_kept there so_far.held_is e;
-      table_is = subst (λ ps. IsPlaced joint.slots ps next) (append_assoc (events_of joint) so_far.puts (put_of copy spot ∷ [])) placed;
-      few = omega (arith, length-append so_far.puts (put_of copy spot ∷ []), so_far.few);
+    pub one_placed : (opening : Opening) (next : List (List ℕ)) → first_fit (λ s. accepts copy s && w s.place) so_far.puts openings ≡ Some opening → All (OpeningKept joint.slots) openings
+        → IsPlaced joint.slots ((events_of joint ++ so_far.puts) ++ put_of copy opening ∷ []) next
+        → IsPlacedSoFar joint openings copies (k + 1) less (set held opening.place (Some (put_of copy opening))) next
+    one_placed opening next e there placed = record {
+      puts = so_far.puts ++ put_of copy opening ∷ [];
+      held_is = held_next joint copy (λ s. accepts copy s && w s.place) so_far.puts openings opening held copy_kept there so_far.held_is e;
+      table_is = subst (λ ps. IsPlaced joint.slots ps next) (append_assoc (events_of joint) so_far.puts (put_of copy opening ∷ [])) placed;
+      few = omega (arith, length-append so_far.puts (put_of copy opening ∷ []), so_far.few);
       hand_is = hand_after;
       runs = λ out r. so_far.runs out (rw rest_is (table, w, so_far.table_is, least_here, rw e r));
     }
 
-pub end_is : (joint : Joint) (spots : List Spot) (copies : List ItemCopy) (k : ℕ) (hand : List ℕ) (held : List (Option Put)) (table : List (List ℕ)) (so_far : IsPlacedSoFar joint spots copies k hand held table)
-    → length copies ≤ k → FillRun is_reached joint spots copies [] (filled so_far.puts)
-end_is joint spots copies k hand held table so_far past = so_far.runs (filled so_far.puts) (rw (drop_all k copies past) refl)
+pub end_is : (joint : Joint) (openings : List Opening) (copies : List ItemCopy) (k : ℕ) (hand : List ℕ) (held : List (Option Put)) (table : List (List ℕ)) (so_far : IsPlacedSoFar joint openings copies k hand held table)
+    → length copies ≤ k → FillRun is_reached joint openings copies [] (filled so_far.puts)
+end_is joint openings copies k hand held table so_far past = so_far.runs (filled so_far.puts) (rw (drop_all k copies past) refl)

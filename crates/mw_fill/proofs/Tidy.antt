@@ -8,7 +8,7 @@ use Rattle.mw_multi.specs.Joint.{Slot, Joint}
 use Rattle.mw_multi.specs.Placement.{Put, slot_at, numbers_of, put_numbers, stands_at, standing}
 use Rattle.mw_multi.proofs.Standing.{standing_push}
 use Rattle.mw_fill.specs.Copies.{ItemCopy}
-use Rattle.mw_fill.specs.Spots.{Spot, accepts}
+use Rattle.mw_fill.specs.Openings.{Opening, accepts}
 use Rattle.mw_fill.specs.Fill.{filled, stuck_with, put_of, first_fit, or_stuck, what_stands, is_reached, FillRun, placed_anywhere}
 use Rattle.mw_fill.specs.Try.{filler_at, or_filler, end_put}
 use Rattle.mw_fill.proofs.Fitting.{find_all, free_there, stands_more, stands_still}
@@ -20,15 +20,15 @@ numbers_held slots None = []
 numbers_held slots (Some put) = put_numbers slots put
 
 -- one of the locations is at the place
-abbrev pub is_site : List Spot → ℕ → Bool
-is_site spots place = list_any (λ s. s.place == place) spots
+abbrev pub is_site : List Opening → ℕ → Bool
+is_site openings place = list_any (λ s. s.place == place) openings
 
 -- each item stands alone, at one of the locations
-pub record IsTidy (slots : List Slot) (sites : List Spot) (puts : List Put) : Type 0 where
+pub record IsTidy (slots : List Slot) (sites : List Opening) (puts : List Put) : Type 0 where
   pub alone : (place : ℕ) → standing slots puts place ≡ numbers_held slots (what_stands puts place)
   pub sited : (place : ℕ) → is_site sites place ≡ false → what_stands puts place ≡ None
 
-pub tidy_nothing : (slots : List Slot) (sites : List Spot) → IsTidy slots sites []
+pub tidy_nothing : (slots : List Slot) (sites : List Opening) → IsTidy slots sites []
 tidy_nothing slots sites = record { alone = λ place. refl; sited = λ place e. refl }
 
 put_alone : (slots : List Slot) (puts : List Put) (put : Put) (place : ℕ) (b : Bool) → (put.place == place) ≡ b → standing slots puts place ≡ numbers_held slots (what_stands puts place)
@@ -43,7 +43,7 @@ put_alone slots puts put place false e h free =
     standing_push slots puts put place ∙ ap (λ b. standing slots puts place ++ cond b (put_numbers slots put) []) e
     ∙ append-nil (standing slots puts place) ∙ h ∙ sym (ap (numbers_held slots) (stands_still puts put place e))
 
-put_sited : (sites : List Spot) (puts : List Put) (put : Put) (place : ℕ) (b : Bool) → (put.place == place) ≡ b → is_site sites put.place ≡ true → is_site sites place ≡ false
+put_sited : (sites : List Opening) (puts : List Put) (put : Put) (place : ℕ) (b : Bool) → (put.place == place) ≡ b → is_site sites put.place ≡ true → is_site sites place ≡ false
     → what_stands puts place ≡ None → what_stands (puts ++ put ∷ []) place ≡ None
 put_sited sites puts put place true e site other h =
     let same : put.place ≡ place = (Decides-eqb put.place place).0 e in
@@ -51,7 +51,7 @@ put_sited sites puts put place true e site other h =
     cc
 put_sited sites puts put place false e site other h = stands_still puts put place e ∙ h
 
-pub tidy_put : (slots : List Slot) (sites : List Spot) (puts : List Put) (put : Put) → IsTidy slots sites puts → what_stands puts put.place ≡ None → is_site sites put.place ≡ true → IsTidy slots sites (puts ++ put ∷ [])
+pub tidy_put : (slots : List Slot) (sites : List Opening) (puts : List Put) (put : Put) → IsTidy slots sites puts → what_stands puts put.place ≡ None → is_site sites put.place ≡ true → IsTidy slots sites (puts ++ put ∷ [])
 tidy_put slots sites puts put tidy free site = record {
   alone = λ place. put_alone slots puts put place (put.place == place) refl (tidy.alone place) free;
   sited = λ place other. put_sited sites puts put place (put.place == place) refl site other (tidy.sited place other);
@@ -59,34 +59,34 @@ tidy_put slots sites puts put tidy free site = record {
 
 -- ---- the runs
 
-abbrev AreSites : List Spot → List Spot → Type 0
-AreSites sites spots = All (λ s. is_site sites s.place ≡ true) spots
+abbrev AreSites : List Opening → List Opening → Type 0
+AreSites sites openings = All (λ s. is_site sites s.place ≡ true) openings
 
-one_tidy : (slots : List Slot) (sites spots : List Spot) (copy : ItemCopy) (puts : List Put) (test : Spot → Bool) (spot : Spot) → AreSites sites spots → IsTidy slots sites puts → first_fit test puts spots ≡ Some spot
-    → IsTidy slots sites (puts ++ put_of copy spot ∷ [])
-one_tidy slots sites spots copy puts test spot all tidy e =
-    tidy_put slots sites puts (put_of copy spot) tidy (free_there test puts spots spot e).0 (find_all (λ s. is_site sites s.place ≡ true) _ spots spot all e)
+one_tidy : (slots : List Slot) (sites openings : List Opening) (copy : ItemCopy) (puts : List Put) (test : Opening → Bool) (opening : Opening) → AreSites sites openings → IsTidy slots sites puts → first_fit test puts openings ≡ Some opening
+    → IsTidy slots sites (puts ++ put_of copy opening ∷ [])
+one_tidy slots sites openings copy puts test opening all tidy e =
+    tidy_put slots sites puts (put_of copy opening) tidy (free_there test puts openings opening e).0 (find_all (λ s. is_site sites s.place ≡ true) _ openings opening all e)
 
-tidy_step : (joint : Joint) (sites spots : List Spot) (copy : ItemCopy) (later : List ItemCopy) (puts result : List Put) (test : Spot → Bool) → AreSites sites spots → IsTidy joint.slots sites puts
-    → ((spot : Spot) → IsTidy joint.slots sites (puts ++ put_of copy spot ∷ []) → FillRun is_reached joint spots later (puts ++ put_of copy spot ∷ []) (filled result) → IsTidy joint.slots sites result)
-    → (o : Option Spot) → first_fit test puts spots ≡ o → MatchOption o (filled result ≡ stuck_with copy) (λ spot. FillRun is_reached joint spots later (puts ++ put_of copy spot ∷ []) (filled result))
+tidy_step : (joint : Joint) (sites openings : List Opening) (copy : ItemCopy) (later : List ItemCopy) (puts result : List Put) (test : Opening → Bool) → AreSites sites openings → IsTidy joint.slots sites puts
+    → ((opening : Opening) → IsTidy joint.slots sites (puts ++ put_of copy opening ∷ []) → FillRun is_reached joint openings later (puts ++ put_of copy opening ∷ []) (filled result) → IsTidy joint.slots sites result)
+    → (o : Option Opening) → first_fit test puts openings ≡ o → MatchOption o (filled result ≡ stuck_with copy) (λ opening. FillRun is_reached joint openings later (puts ++ put_of copy opening ∷ []) (filled result))
     → IsTidy joint.slots sites result
-tidy_step joint sites spots copy later puts result test all tidy rest None e r = let never : ⊥ = cc in absurd never
-tidy_step joint sites spots copy later puts result test all tidy rest (Some spot) e r = rest spot (one_tidy joint.slots sites spots copy puts test spot all tidy e) r
+tidy_step joint sites openings copy later puts result test all tidy rest None e r = let never : ⊥ = cc in absurd never
+tidy_step joint sites openings copy later puts result test all tidy rest (Some opening) e r = rest opening (one_tidy joint.slots sites openings copy puts test opening all tidy e) r
 
-pub tidy_run : (joint : Joint) (sites spots : List Spot) (copies : List ItemCopy) (puts result : List Put) → AreSites sites spots → IsTidy joint.slots sites puts
-    → FillRun is_reached joint spots copies puts (filled result) → IsTidy joint.slots sites result
-tidy_run joint sites spots [] puts result all tidy r = let same : result ≡ puts = cc in rw same tidy
-tidy_run joint sites spots (copy ∷ later) puts result all tidy r =
-    tidy_step joint sites spots copy later puts result (λ s. accepts copy s && r.1 s.place) all tidy
-    (λ spot t rest. tidy_run joint sites spots later (puts ++ put_of copy spot ∷ []) result all t rest) (first_fit (λ s. accepts copy s && r.1 s.place) puts spots) refl r.4
+pub tidy_run : (joint : Joint) (sites openings : List Opening) (copies : List ItemCopy) (puts result : List Put) → AreSites sites openings → IsTidy joint.slots sites puts
+    → FillRun is_reached joint openings copies puts (filled result) → IsTidy joint.slots sites result
+tidy_run joint sites openings [] puts result all tidy r = let same : result ≡ puts = cc in rw same tidy
+tidy_run joint sites openings (copy ∷ later) puts result all tidy r =
+    tidy_step joint sites openings copy later puts result (λ s. accepts copy s && r.1 s.place) all tidy
+    (λ opening t rest. tidy_run joint sites openings later (puts ++ put_of copy opening ∷ []) result all t rest) (first_fit (λ s. accepts copy s && r.1 s.place) puts openings) refl r.4
 
 -- a copy that no rule asks for
 pub record IsIdle (slots : List Slot) (copy : ItemCopy) : Type 0 where
   pub numbers : numbers_of (slot_at slots copy.receiver) copy.item ≡ []
 
 -- tidy, and as much stands at each place as before
-pub record IsTidyAs (slots : List Slot) (sites : List Spot) (puts result : List Put) : Type 0 where
+pub record IsTidyAs (slots : List Slot) (sites : List Opening) (puts result : List Put) : Type 0 where
   pub tidy : IsTidy slots sites result
   pub same : (place : ℕ) → standing slots result place ≡ standing slots puts place
 
@@ -94,62 +94,62 @@ either_nothing : (b : Bool) → cond {A = List ℕ} b [] [] ≡ []
 either_nothing true = refl
 either_nothing false = refl
 
-idle_same : (slots : List Slot) (copy : ItemCopy) (puts : List Put) (spot : Spot) (place : ℕ) → IsIdle slots copy → standing slots (puts ++ put_of copy spot ∷ []) place ≡ standing slots puts place
-idle_same slots copy puts spot place idle =
-    standing_push slots puts (put_of copy spot) place ∙ ap (λ ns. standing slots puts place ++ cond (spot.place == place) ns []) idle.numbers
-    ∙ ap (λ ns. standing slots puts place ++ ns) (either_nothing (spot.place == place)) ∙ append-nil (standing slots puts place)
+idle_same : (slots : List Slot) (copy : ItemCopy) (puts : List Put) (opening : Opening) (place : ℕ) → IsIdle slots copy → standing slots (puts ++ put_of copy opening ∷ []) place ≡ standing slots puts place
+idle_same slots copy puts opening place idle =
+    standing_push slots puts (put_of copy opening) place ∙ ap (λ ns. standing slots puts place ++ cond (opening.place == place) ns []) idle.numbers
+    ∙ ap (λ ns. standing slots puts place ++ ns) (either_nothing (opening.place == place)) ∙ append-nil (standing slots puts place)
 
-anywhere_step : (slots : List Slot) (sites spots : List Spot) (copy : ItemCopy) (later : List ItemCopy) (puts result : List Put) → AreSites sites spots → IsIdle slots copy → IsTidy slots sites puts
-    → ((spot : Spot) → IsTidy slots sites (puts ++ put_of copy spot ∷ []) → placed_anywhere spots later (puts ++ put_of copy spot ∷ []) ≡ filled result → IsTidyAs slots sites (puts ++ put_of copy spot ∷ []) result)
-    → (o : Option Spot) → first_fit (accepts copy) puts spots ≡ o → or_stuck o copy (λ spot. placed_anywhere spots later (puts ++ put_of copy spot ∷ [])) ≡ filled result
+anywhere_step : (slots : List Slot) (sites openings : List Opening) (copy : ItemCopy) (later : List ItemCopy) (puts result : List Put) → AreSites sites openings → IsIdle slots copy → IsTidy slots sites puts
+    → ((opening : Opening) → IsTidy slots sites (puts ++ put_of copy opening ∷ []) → placed_anywhere openings later (puts ++ put_of copy opening ∷ []) ≡ filled result → IsTidyAs slots sites (puts ++ put_of copy opening ∷ []) result)
+    → (o : Option Opening) → first_fit (accepts copy) puts openings ≡ o → or_stuck o copy (λ opening. placed_anywhere openings later (puts ++ put_of copy opening ∷ [])) ≡ filled result
     → IsTidyAs slots sites puts result
-anywhere_step slots sites spots copy later puts result all idle tidy rest None e r = let never : ⊥ = cc in absurd never
-anywhere_step slots sites spots copy later puts result all idle tidy rest (Some spot) e r =
-    let end = rest spot (one_tidy slots sites spots copy puts (accepts copy) spot all tidy e) r in
-    record { tidy = end.tidy; same = λ place. end.same place ∙ idle_same slots copy puts spot place idle }
+anywhere_step slots sites openings copy later puts result all idle tidy rest None e r = let never : ⊥ = cc in absurd never
+anywhere_step slots sites openings copy later puts result all idle tidy rest (Some opening) e r =
+    let end = rest opening (one_tidy slots sites openings copy puts (accepts copy) opening all tidy e) r in
+    record { tidy = end.tidy; same = λ place. end.same place ∙ idle_same slots copy puts opening place idle }
 
-pub tidy_anywhere : (slots : List Slot) (sites spots : List Spot) (copies : List ItemCopy) (puts result : List Put) → AreSites sites spots → All (IsIdle slots) copies → IsTidy slots sites puts
-    → placed_anywhere spots copies puts ≡ filled result → IsTidyAs slots sites puts result
-tidy_anywhere slots sites spots [] puts result all idle tidy r =
+pub tidy_anywhere : (slots : List Slot) (sites openings : List Opening) (copies : List ItemCopy) (puts result : List Put) → AreSites sites openings → All (IsIdle slots) copies → IsTidy slots sites puts
+    → placed_anywhere openings copies puts ≡ filled result → IsTidyAs slots sites puts result
+tidy_anywhere slots sites openings [] puts result all idle tidy r =
     let same : puts ≡ result = cc in
     record { tidy = subst (IsTidy slots sites) same tidy; same = λ place. ap (λ ps. standing slots ps place) (sym same) }
-tidy_anywhere slots sites spots (copy ∷ later) puts result all idle tidy r =
-    anywhere_step slots sites spots copy later puts result all (idle 0 copy (omega arith)) tidy
-    (λ spot t rest. tidy_anywhere slots sites spots later (puts ++ put_of copy spot ∷ []) result all (λ i d l. idle (suc i) d (omega arith)) t rest) (first_fit (accepts copy) puts spots) refl r
+tidy_anywhere slots sites openings (copy ∷ later) puts result all idle tidy r =
+    anywhere_step slots sites openings copy later puts result all (idle 0 copy (omega arith)) tidy
+    (λ opening t rest. tidy_anywhere slots sites openings later (puts ++ put_of copy opening ∷ []) result all (λ i d l. idle (suc i) d (omega arith)) t rest) (first_fit (accepts copy) puts openings) refl r
 
 -- ---- the placement
 
-none_later : (puts : List Put) (x : ℕ) (spots : List Spot) (low high : ℕ) → x < low → Rises low (map place_of spots) high → filter (stands_at x) (map (end_put puts) spots) ≡ []
+none_later : (puts : List Put) (x : ℕ) (openings : List Opening) (low high : ℕ) → x < low → Rises low (map place_of openings) high → filter (stands_at x) (map (end_put puts) openings) ≡ []
 none_later puts x [] low high h r = refl
-none_later puts x (s ∷ spots) low high h r =
+none_later puts x (s ∷ openings) low high h r =
     let other : (end_put puts s).place ≡ x → ⊥ = λ e. absurd (omega (arith, end_place puts s, r.0)) in
     let test : ((end_put puts s).place == x) ≡ false = elim (cases_Bool ((end_put puts s).place == x)) [
       | inl same ↦ absurd (other ((Decides-eqb (end_put puts s).place x).0 same))
       | inr differs ↦ differs
     ] in
-    cond-false ((end_put puts s).place == x) (end_put puts s ∷ filter (stands_at x) (map (end_put puts) spots)) (filter (stands_at x) (map (end_put puts) spots)) test ∙ none_later puts x spots (suc s.place) high (omega (arith, r.0)) r.2
+    cond-false ((end_put puts s).place == x) (end_put puts s ∷ filter (stands_at x) (map (end_put puts) openings)) (filter (stands_at x) (map (end_put puts) openings)) test ∙ none_later puts x openings (suc s.place) high (omega (arith, r.0)) r.2
 
-end_numbers : (slots : List Slot) (spot : Spot) (o : Option Put) → put_numbers slots (filler_at spot) ≡ [] → put_numbers slots (or_filler o spot) ≡ numbers_held slots o
-end_numbers slots spot None h = h
-end_numbers slots spot (Some put) h = refl
+end_numbers : (slots : List Slot) (opening : Opening) (o : Option Put) → put_numbers slots (filler_at opening) ≡ [] → put_numbers slots (or_filler o opening) ≡ numbers_held slots o
+end_numbers slots opening None h = h
+end_numbers slots opening (Some put) h = refl
 
 -- at a place of these locations stands what was put there
-pub placement_stands : (slots : List Slot) (puts : List Put) (spots : List Spot) (low high place : ℕ) → Rises low (map place_of spots) high → All (λ s. put_numbers slots (filler_at s) ≡ []) spots
-    → standing slots (map (end_put puts) spots) place ≡ cond (is_site spots place) (numbers_held slots (what_stands puts place)) []
+pub placement_stands : (slots : List Slot) (puts : List Put) (openings : List Opening) (low high place : ℕ) → Rises low (map place_of openings) high → All (λ s. put_numbers slots (filler_at s) ≡ []) openings
+    → standing slots (map (end_put puts) openings) place ≡ cond (is_site openings place) (numbers_held slots (what_stands puts place)) []
 placement_stands slots puts [] low high place r idle = refl
-placement_stands slots puts (s ∷ spots) low high place r idle =
-    let rest = filter (stands_at place) (map (end_put puts) spots) in
+placement_stands slots puts (s ∷ openings) low high place r idle =
+    let rest = filter (stands_at place) (map (end_put puts) openings) in
     let more = numbers_held slots (what_stands puts place) in
     elim (cases_Bool (s.place == place)) [
       | inl here ↦
           let same : s.place ≡ place = (Decides-eqb s.place place).0 here in
           let test : ((end_put puts s).place == place) ≡ true = ap (λ p. p == place) (end_place puts s) ∙ here in
-          let nothing : rest ≡ [] = none_later puts place spots (suc s.place) high (omega arith) r.2 in
+          let nothing : rest ≡ [] = none_later puts place openings (suc s.place) high (omega arith) r.2 in
           ap (flat_map (put_numbers slots)) (cond-true ((end_put puts s).place == place) (end_put puts s ∷ rest) rest test ∙ ap (λ ps. end_put puts s ∷ ps) nothing)
           ∙ append-nil (put_numbers slots (end_put puts s)) ∙ end_numbers slots s (what_stands puts s.place) (idle 0 s (omega arith)) ∙ ap (λ p. numbers_held slots (what_stands puts p)) same
-          ∙ sym (ap (λ b. cond (b || is_site spots place) more []) here)
+          ∙ sym (ap (λ b. cond (b || is_site openings place) more []) here)
       | inr past ↦
           let test : ((end_put puts s).place == place) ≡ false = ap (λ p. p == place) (end_place puts s) ∙ past in
           ap (flat_map (put_numbers slots)) (cond-false ((end_put puts s).place == place) (end_put puts s ∷ rest) rest test)
-          ∙ placement_stands slots puts spots (suc s.place) high place r.2 (λ i d l. idle (suc i) d (omega arith)) ∙ sym (ap (λ b. cond (b || is_site spots place) more []) past)
+          ∙ placement_stands slots puts openings (suc s.place) high place r.2 (λ i d l. idle (suc i) d (omega arith)) ∙ sym (ap (λ b. cond (b || is_site openings place) more []) past)
     ]

@@ -10,7 +10,7 @@ use Rattle.mw_reach.specs.Reach.{bag_with, IsLeast}
 use Rattle.mw_reach.specs.Goals.{unmet_goal}
 use Rattle.mw_fill.specs.declared.group.Group.TheVariants.{Asked}
 use Rattle.mw_fill.specs.Copies.{copies_of}
-use Rattle.mw_fill.specs.Spots.{spots_of}
+use Rattle.mw_fill.specs.Openings.{openings_of}
 use Rattle.mw_fill.specs.Fill.{in_hand}
 use Rattle.mw_fill.specs.Try.{IsFilled, IsStuck}
 use Rattle.mw_fill.specs.declared.seed.Seed.{Seed}
@@ -36,7 +36,7 @@ pool_size joint = sum_by slot_pool_size joint.slots
 
 -- how many locations have an id
 abbrev pub room_size : Joint → ℕ
-room_size joint = length (spots_of joint)
+room_size joint = length (openings_of joint)
 
 -- each try below this number is stuck
 abbrev pub AreStuck : Joint → ℕ → ℕ → Type 0

@@ -4,7 +4,7 @@ use Rattle.mw_multi.specs.Joint.{Slot, Joint, place_total, item_total}
 use Rattle.mw_multi.specs.Placement.{Put, PutKept, site_at, item_at}
 use Rattle.mw_multi.specs.Events.{has_no_event}
 use Rattle.mw_fill.specs.Copies.{ItemCopy}
-use Rattle.mw_fill.specs.Spots.{Spot}
+use Rattle.mw_fill.specs.Openings.{Opening}
 use Rattle.mw_fill.specs.Fill.{what_stands}
 use Rattle.mw_fill.specs.Try.{or_filler}
 
@@ -14,11 +14,11 @@ pub record CopyKept (slots : List Slot) (copy : ItemCopy) : Type 0 where
   pub number : copy.number < item_total slots
 
 -- the place is a location of the joint that has no event, and the filler is an item of its slot's world
-pub record SpotKept (slots : List Slot) (spot : Spot) : Type 0 where
-  pub place : spot.place < place_total slots
-  pub location : is_some (site_at slots spot.place) ≡ true
-  pub no_event : has_no_event (site_at slots spot.place) ≡ true
-  pub filler : is_some (item_at slots spot.slot spot.filler) ≡ true
+pub record OpeningKept (slots : List Slot) (opening : Opening) : Type 0 where
+  pub place : opening.place < place_total slots
+  pub location : is_some (site_at slots opening.place) ≡ true
+  pub no_event : has_no_event (site_at slots opening.place) ≡ true
+  pub filler : is_some (item_at slots opening.slot opening.filler) ≡ true
 
 -- for each place, what stands there
 abbrev pub AreHeld : List Put → List (Option Put) → Type 0
@@ -31,9 +31,9 @@ pub record IsHeldFor (joint : Joint) (puts : List Put) (held : List (Option Put)
   pub kept : All (PutKept joint.slots) puts
 
 -- nothing is held at the location, and it passes the test
-abbrev pub is_open_in : (Spot → Bool) → List (Option Put) → Spot → Bool
-is_open_in test held spot = is_none (slice_index_or held spot.place None) && test spot
+abbrev pub is_open_in : (Opening → Bool) → List (Option Put) → Opening → Bool
+is_open_in test held opening = is_none (slice_index_or held opening.place None) && test opening
 
 -- what is held at the location, or else the filler
-abbrev pub end_held : List (Option Put) → Spot → Put
-end_held held spot = or_filler (slice_index_or held spot.place None) spot
+abbrev pub end_held : List (Option Put) → Opening → Put
+end_held held opening = or_filler (slice_index_or held opening.place None) opening

@@ -1,7 +1,7 @@
 pub mod Draws
 pub mod Numbered
 pub mod Copies
-pub mod Spots
+pub mod Openings
 pub mod Fill
 pub mod Kept
 pub mod ListsKept

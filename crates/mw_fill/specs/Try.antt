@@ -5,7 +5,7 @@ use Rattle.mw_multi.specs.Placement.{Put}
 use Rattle.mw_fill.specs.Draws.{start_of, words_of, shuffled, place_after}
 use Rattle.mw_fill.specs.declared.group.Group.TheVariants.{Asked, Helping, Filling}
 use Rattle.mw_fill.specs.Copies.{ItemCopy, copies_of}
-use Rattle.mw_fill.specs.Spots.{Spot, spots_of, regular, all_kinds}
+use Rattle.mw_fill.specs.Openings.{Opening, openings_of, regular, all_kinds}
 use Rattle.mw_fill.specs.Fill.{Outcome, filled, stuck, FillRun, is_reached, placed_anywhere, what_stands}
 
 -- ---- shuffles
@@ -13,17 +13,17 @@ use Rattle.mw_fill.specs.Fill.{Outcome, filled, stuck, FillRun, is_reached, plac
 -- the copies that rules ask for, the locations with an id, the useful copies, and the filler and trap copies
 pub record Lists : Type 0 where
   pub asked : List ItemCopy
-  pub spots : List Spot
+  pub openings : List Opening
   pub helping : List ItemCopy
   pub filling : List ItemCopy
 
 -- where the words for the locations begin, after those for the copies that rules ask for
-abbrev pub spots_begin : Joint → ℕ
-spots_begin joint = place_after 0 (copies_of Asked joint)
+abbrev pub openings_begin : Joint → ℕ
+openings_begin joint = place_after 0 (copies_of Asked joint)
 
 -- where those for the useful copies begin
 abbrev pub helping_begin : Joint → ℕ
-helping_begin joint = place_after (spots_begin joint) (spots_of joint)
+helping_begin joint = place_after (openings_begin joint) (openings_of joint)
 
 -- where those for the filler and trap copies begin
 abbrev pub filling_begin : Joint → ℕ
@@ -33,7 +33,7 @@ filling_begin joint = place_after (helping_begin joint) (copies_of Helping joint
 abbrev pub lists_in : Joint → (ℕ → ℕ) → Lists
 lists_in joint words = record {
   asked = shuffled words 0 (copies_of Asked joint);
-  spots = shuffled words (spots_begin joint) (spots_of joint);
+  openings = shuffled words (openings_begin joint) (openings_of joint);
   helping = shuffled words (helping_begin joint) (copies_of Helping joint);
   filling = shuffled words (filling_begin joint) (copies_of Filling joint);
 }
@@ -50,29 +50,29 @@ and_then (stuck slot item) next = stuck slot item
 
 -- useful copies at priority and then default locations; filler and trap copies at excluded ones first
 abbrev pub the_rest : Lists → List Put → Outcome
-the_rest lists puts = and_then (placed_anywhere (regular lists.spots) lists.helping puts) (placed_anywhere (all_kinds lists.spots) lists.filling)
+the_rest lists puts = and_then (placed_anywhere (regular lists.openings) lists.helping puts) (placed_anywhere (all_kinds lists.openings) lists.filling)
 
 -- what a try comes to: first the copies that rules ask for, then the rest
 abbrev pub IsOutcome : Joint → Lists → Outcome → Type 0
-IsOutcome joint lists out = (first : Outcome) × FillRun is_reached joint (regular lists.spots) lists.asked [] first × (out ≡ and_then first (the_rest lists))
+IsOutcome joint lists out = (first : Outcome) × FillRun is_reached joint (regular lists.openings) lists.asked [] first × (out ≡ and_then first (the_rest lists))
 
 -- ---- the placement
 
 -- the location's own slot's filler item there
-abbrev pub filler_at : Spot → Put
-filler_at spot = record { place = spot.place; receiver = spot.slot; item = spot.filler }
+abbrev pub filler_at : Opening → Put
+filler_at opening = record { place = opening.place; receiver = opening.slot; item = opening.filler }
 
 -- what was put there, or else the filler
-abbrev pub or_filler : Option Put → Spot → Put
-or_filler None spot = filler_at spot
-or_filler (Some put) spot = put
+abbrev pub or_filler : Option Put → Opening → Put
+or_filler None opening = filler_at opening
+or_filler (Some put) opening = put
 
-abbrev pub end_put : List Put → Spot → Put
-end_put puts spot = or_filler (what_stands puts spot.place) spot
+abbrev pub end_put : List Put → Opening → Put
+end_put puts opening = or_filler (what_stands puts opening.place) opening
 
 -- something at each location with an id, by slot and table order
 abbrev pub placement_of : Joint → List Put → List Put
-placement_of joint puts = map (end_put puts) (spots_of joint)
+placement_of joint puts = map (end_put puts) (openings_of joint)
 
 -- the try with this number gives the placement
 abbrev pub IsFilled : Joint → ℕ → ℕ → List Put → Type 0

@@ -7,31 +7,31 @@ ghost use Rattle.mw_multi.specs.Events.{events_of};
 ghost use Rattle.mw_multi.specs.Bags.{IsBagOf};
 ghost use Rattle.mw_reach.specs.Reach.{IsLeast};
 ghost use Rattle.mw_reach.specs.Reached.{IsBagFor, IsPlacedFor, IsMadeFor, KeepsRules, places_in};
-ghost use Rattle.mw_fill.specs.Spots.{accepts};
+ghost use Rattle.mw_fill.specs.Openings.{accepts};
 ghost use Rattle.mw_fill.specs.Fill.{filled, stuck, in_hand, is_reached, FillRun};
-ghost use Rattle.mw_fill.specs.Kept.{CopyKept, SpotKept, IsHeldFor, is_open_in};
+ghost use Rattle.mw_fill.specs.Kept.{CopyKept, OpeningKept, IsHeldFor, is_open_in};
 ghost use Rattle.mw_fill.specs.Answer.{OnStuck};
 
 use crate::error::FillError;
 use crate::item_copy::ItemCopy;
-use crate::spot::Spot;
+use crate::opening::Opening;
 use mw_multi::{Bag, Joint, Placed, Put};
 use mw_reach::{Reached, reach};
 
 /// The first of the locations that is free, accepts the copy and is reached.
 fn first_reached(
     copy: &ItemCopy,
-    spots: &[Spot],
+    openings: &[Opening],
     held: &[Option<Put>],
     reached: &Reached,
-) -> Option<Spot>
-    requires within { All (λ s. s.place < length held.now) spots.now }
-    ensures { result ≡ find (is_open_in (λ s. accepts copy.now s && places_in reached.now s.place) held.now) spots.now }
+) -> Option<Opening>
+    requires within { All (λ s. s.place < length held.now) openings.now }
+    ensures { result ≡ find (is_open_in (λ s. accepts copy.now s && places_in reached.now s.place) held.now) openings.now }
 {
-    for spot in spots {
-        let free = held[spot.place as usize].is_none();
-        if free && (spot.accepts(copy) && reached.has(spot.place)) {
-            return Some(*spot);
+    for opening in openings {
+        let free = held[opening.place as usize].is_none();
+        if free && (opening.accepts(copy) && reached.has(opening.place)) {
+            return Some(*opening);
         }
     }
     None
@@ -41,23 +41,23 @@ fn first_reached(
 fn location_for(
     joint: &Joint,
     copy: &ItemCopy,
-    spots: &[Spot],
+    openings: &[Opening],
     hand: &Bag,
     held: &[Option<Put>],
     placed: &Placed,
     reached: &mut Reached,
-) -> Option<Spot>
-    requires within { All (λ s. s.place < length held.now) spots.now }
+) -> Option<Opening>
+    requires within { All (λ s. s.place < length held.now) openings.now }
     requires hand { IsBagFor joint.now hand.now }
     requires placed { IsPlacedFor joint.now placed.now }
     requires reached { IsMadeFor joint.now reached.old }
     requires rules { KeepsRules joint.now reached.old }
     ensures kept { IsMadeFor joint.now reached.new }
     ensures rules { KeepsRules joint.now reached.new }
-    ensures fit { (w : Places) × IsLeast (steps_of joint.now) (bag_of hand.now) placed.now w × (result ≡ find (is_open_in (λ s. accepts copy.now s && w s.place) held.now) spots.now) }
+    ensures fit { (w : Places) × IsLeast (steps_of joint.now) (bag_of hand.now) placed.now w × (result ≡ find (is_open_in (λ s. accepts copy.now s && w s.place) held.now) openings.now) }
 {
     reach(joint, hand, placed, reached);
-    first_reached(copy, spots, held, reached)
+    first_reached(copy, openings, held, reached)
 }
 
 /// Puts each copy in order at the first of the locations that is free, accepts it and can be reached with the starting items
@@ -65,7 +65,7 @@ fn location_for(
 pub(crate) fn place_asked(
     joint: &Joint,
     copies: &[ItemCopy],
-    spots: &[Spot],
+    openings: &[Opening],
     hand: &mut Bag,
     held: &mut [Option<Put>],
     placed: &mut Placed,
@@ -73,26 +73,26 @@ pub(crate) fn place_asked(
 ) -> Result<(), FillError>
     requires copies { All (CopyKept joint.now.slots) copies.now }
     requires few { length copies.now ≤ 10240000 }
-    requires spots { All (SpotKept joint.now.slots) spots.now }
+    requires openings { All (OpeningKept joint.now.slots) openings.now }
     requires hand { IsBagOf joint.now.slots (in_hand joint.now copies.now) hand.old }
     requires held { IsHeldFor joint.now [] held.old }
     requires placed { IsPlaced joint.now.slots (events_of joint.now) placed.old }
     requires reached { IsMadeFor joint.now reached.old }
     requires rules { KeepsRules joint.now reached.old }
     ensures { MatchResult result
-        (λ _. (puts : List PlainPut) × IsHeldFor joint.now puts held.new × FillRun is_reached joint.now spots.now copies.now [] (filled puts))
-        (λ e. OnStuck e (λ slot item. FillRun is_reached joint.now spots.now copies.now [] (stuck slot item))) }
+        (λ _. (puts : List PlainPut) × IsHeldFor joint.now puts held.new × FillRun is_reached joint.now openings.now copies.now [] (filled puts))
+        (λ e. OnStuck e (λ slot item. FillRun is_reached joint.now openings.now copies.now [] (stuck slot item))) }
 {
     // Reading the joint makes known what its type keeps.
     let _ = &joint.slots;
     for copy in copies {
         hand.take_one(copy.number);
-        match location_for(joint, copy, spots, hand, held, placed, reached) {
+        match location_for(joint, copy, openings, hand, held, placed, reached) {
             None => return Err(copy.stuck()),
-            Some(spot) => {
-                let put = copy.put_at(&spot);
+            Some(opening) => {
+                let put = copy.put_at(&opening);
                 placed.put(joint, put)?;
-                held[spot.place as usize] = Some(put);
+                held[opening.place as usize] = Some(put);
             }
         }
     }

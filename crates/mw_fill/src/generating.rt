@@ -10,8 +10,8 @@ use crate::error::FillError;
 use crate::group::Group;
 use crate::hand::hand_of;
 use crate::one_try::fill_try;
+use crate::openings::openings_of;
 use crate::seed::{GenerateError, Seed};
-use crate::spots::spots_of;
 use mw_base::Memory;
 use mw_multi::{Joint, Placed, World};
 use mw_reach::{Reached, reach, unmet_goal};
@@ -59,8 +59,8 @@ fn pool_copies(joint: &Joint) -> u64
 fn room_for(alloc: Global, joint: &Joint) -> Result<u64, Memory>
     ensures { IfOk result (λ room. room ≡ room_size joint.now) }
 {
-    let spots = spots_of(alloc, joint)?;
-    Ok(spots.len() as u64)
+    let openings = openings_of(alloc, joint)?;
+    Ok(openings.len() as u64)
 }
 
 /// The placement of the first of 1 to 1,000 tries that gives one, the first try having number 0.

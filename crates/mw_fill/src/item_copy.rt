@@ -1,6 +1,6 @@
 use crate::error::FillError;
 use crate::locality::Locality;
-use crate::spot::Spot;
+use crate::opening::Opening;
 use mw_multi::Put;
 use std::marker::Model;
 
@@ -33,11 +33,11 @@ impl ItemCopy {
     ghost use Rattle.mw_fill.specs.declared.error.FillError.TheVariants.{Stuck};
 
     /// The copy at a location.
-    pub fn put_at(&self, spot: &Spot) -> Put
-        ensures { result ≡ put_of self.now spot.now }
+    pub fn put_at(&self, opening: &Opening) -> Put
+        ensures { result ≡ put_of self.now opening.now }
     {
         Put {
-            place: spot.place,
+            place: opening.place,
             receiver: self.receiver,
             item: self.item,
         }

@@ -14,10 +14,10 @@ mod laws;
 mod lists;
 mod locality;
 mod one_try;
+mod opening;
+mod openings;
 mod placement;
 mod seed;
-mod spot;
-mod spots;
 
 pub use draws::{Words, draw, shuffle};
 pub use error::FillError;

@@ -7,8 +7,8 @@ use crate::copies::copies_of;
 use crate::draws::{Words, shuffle_entries};
 use crate::group::Group;
 use crate::item_copy::ItemCopy;
-use crate::spot::Spot;
-use crate::spots::spots_of;
+use crate::opening::Opening;
+use crate::openings::openings_of;
 use mw_base::{List, Memory};
 use mw_multi::Joint;
 use std::alloc::Global;
@@ -32,7 +32,7 @@ pub(crate) struct Lists {
     /// The copies that rules ask for.
     pub asked: List<ItemCopy>,
     /// The locations with an id.
-    pub spots: List<Spot>,
+    pub openings: List<Opening>,
     /// The useful copies.
     pub helping: List<ItemCopy>,
     /// The filler and trap copies.
@@ -44,7 +44,7 @@ impl Model for Lists {
 
     ghost Value = { plain.Lists };
 
-    ghost view = { λ l. record { asked = l.asked; spots = l.spots; helping = l.helping; filling = l.filling } };
+    ghost view = { λ l. record { asked = l.asked; openings = l.openings; helping = l.helping; filling = l.filling } };
 }
 
 /// The lists of a try; `Memory` where memory ran out.
@@ -59,16 +59,16 @@ pub(crate) fn lists_of(
 {
     let mut words = Words::new(seed, stream);
     let asked = copies_of(alloc, joint, Group::Asked)?;
-    let spots = spots_of(alloc, joint)?;
+    let openings = openings_of(alloc, joint)?;
     let helping = copies_of(alloc, joint, Group::Helping)?;
     let filling = copies_of(alloc, joint, Group::Filling)?;
     let asked = shuffled_list(&mut words, asked);
-    let spots = shuffled_list(&mut words, spots);
+    let openings = shuffled_list(&mut words, openings);
     let helping = shuffled_list(&mut words, helping);
     let filling = shuffled_list(&mut words, filling);
     Ok(Lists {
         asked,
-        spots,
+        openings,
         helping,
         filling,
     })

@@ -1,6 +1,6 @@
 ghost use Rattle.std.specs.Prelude.{◌≡◌};
 ghost use Rattle.mw_fill.specs.Copies.{locality_of};
-ghost use Rattle.mw_fill.specs.Spots.{may_stand};
+ghost use Rattle.mw_fill.specs.Openings.{may_stand};
 
 /// In which slots' worlds an item may stand.
 #[derive(Clone, Copy, Debug, PartialEq, Eq)]

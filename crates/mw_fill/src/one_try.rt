@@ -1,7 +1,7 @@
 ghost use Rattle.std.specs.Prelude.{◌≡◌, ◌<◌, ◌≤◌, [], List, All, IfOk, MatchResult, length};
 ghost use Rattle.mw_multi.specs.Placement.{Put as PlainPut, IsPlacement};
 ghost use Rattle.mw_fill.specs.Fill.{filled, stuck, is_reached, FillRun};
-ghost use Rattle.mw_fill.specs.Kept.{CopyKept, SpotKept, IsHeldFor};
+ghost use Rattle.mw_fill.specs.Kept.{CopyKept, OpeningKept, IsHeldFor};
 ghost use Rattle.mw_fill.specs.ListsKept.{AreKept};
 ghost use Rattle.mw_fill.specs.Try.{IsOutcome, IsFilled, IsStuck, placement_of};
 ghost use Rattle.mw_fill.specs.Answer.{OnStuck};
@@ -12,9 +12,9 @@ use crate::error::FillError;
 use crate::hand::hand_of;
 use crate::item_copy::ItemCopy;
 use crate::lists::{Lists, lists_of};
+use crate::opening::Opening;
+use crate::openings::{all_kinds, openings_of, regular};
 use crate::placement::placement_from;
-use crate::spot::Spot;
-use crate::spots::{all_kinds, regular, spots_of};
 use mw_base::Memory;
 use mw_multi::{Joint, Placed, Placement, Put};
 use mw_reach::Reached;
@@ -33,16 +33,16 @@ fn place_first(
     alloc: Global,
     joint: &Joint,
     copies: &[ItemCopy],
-    spots: &[Spot],
+    openings: &[Opening],
     held: &mut [Option<Put>],
 ) -> Result<(), FillError>
     requires copies { All (CopyKept joint.now.slots) copies.now }
     requires few { length copies.now ≤ 10240000 }
-    requires spots { All (SpotKept joint.now.slots) spots.now }
+    requires openings { All (OpeningKept joint.now.slots) openings.now }
     requires held { IsHeldFor joint.now [] held.old }
     ensures { MatchResult result
-        (λ _. (puts : List PlainPut) × IsHeldFor joint.now puts held.new × FillRun is_reached joint.now spots.now copies.now [] (filled puts))
-        (λ e. OnStuck e (λ slot item. FillRun is_reached joint.now spots.now copies.now [] (stuck slot item))) }
+        (λ _. (puts : List PlainPut) × IsHeldFor joint.now puts held.new × FillRun is_reached joint.now openings.now copies.now [] (filled puts))
+        (λ e. OnStuck e (λ slot item. FillRun is_reached joint.now openings.now copies.now [] (stuck slot item))) }
 {
     let mut hand = hand_of(alloc, joint, copies)?;
     let mut placed = Placed::events(alloc, joint)?;
@@ -50,7 +50,7 @@ fn place_first(
     place_asked(
         joint,
         copies,
-        spots,
+        openings,
         &mut hand,
         held,
         &mut placed,
@@ -71,7 +71,7 @@ fn place_all(
         (λ _. (puts : List PlainPut) × IsHeldFor joint.now puts held.new × IsOutcome joint.now lists.now (filled puts))
         (λ e. OnStuck e (λ slot item. IsOutcome joint.now lists.now (stuck slot item))) }
 {
-    let places = regular(alloc, lists.spots.as_slice())?;
+    let places = regular(alloc, lists.openings.as_slice())?;
     if let Err(error) = place_first(
         alloc,
         joint,
@@ -84,7 +84,7 @@ fn place_all(
     if let Err(error) = place_anywhere(lists.helping.as_slice(), places.as_slice(), held) {
         return Err(error);
     }
-    let places = all_kinds(alloc, lists.spots.as_slice())?;
+    let places = all_kinds(alloc, lists.openings.as_slice())?;
     place_anywhere(lists.filling.as_slice(), places.as_slice(), held)
 }
 
@@ -105,8 +105,8 @@ fn place_lists(
     // Reading the joint makes known what its type keeps.
     let _ = &joint.slots;
     place_all(alloc, joint, lists, held)?;
-    let spots = spots_of(alloc, joint)?;
-    let placement = placement_from(alloc, spots.as_slice(), held)?;
+    let openings = openings_of(alloc, joint)?;
+    let placement = placement_from(alloc, openings.as_slice(), held)?;
     Ok(placement)
 }
 

@@ -8,6 +8,5 @@ pub mod LabelNames
 pub mod Lengths
 pub mod Marks
 pub mod Numbering
-pub mod Samples
 pub mod Sites
 pub mod Standing

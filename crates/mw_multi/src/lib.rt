@@ -38,6 +38,3 @@ pub use refusal::{JointRefusal, OptionName};
 pub use slot::Slot;
 pub use tree_rules::TreeRules;
 pub use world::{PoolEntry, World};
-
-#[cfg(test)]
-mod tests;

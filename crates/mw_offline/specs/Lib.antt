@@ -7,3 +7,11 @@ pub mod Lines
 pub mod Script
 pub mod Tables
 pub mod Reaching
+pub mod Ascending
+pub mod SeedFile
+pub mod SeedKept
+pub mod Played
+pub mod Generating
+pub mod Agreeing
+pub mod FilePuts
+pub mod Checking

@@ -42,7 +42,7 @@ fn counts_of(alloc: Global, joint: &Joint, reached: &Reached) -> Result<List<u32
 }
 
 /// The slot's name in the first team.
-fn first_name<'a>(slot: &Slot<'a>) -> &'a str
+pub(crate) fn first_name<'a>(slot: &Slot<'a>) -> &'a str
     ensures { result.now ≡ first_name_lem slot.now }
 {
     let player = slot.player;

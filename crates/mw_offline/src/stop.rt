@@ -38,7 +38,7 @@ pub enum Stop {
     },
 }
 
-fn seed_file_line(alloc: Global, kind: Kind, path: &Path) -> Result<String, Memory>
+pub(crate) fn seed_file_line(alloc: Global, kind: Kind, path: &Path) -> Result<String, Memory>
     ensures { IfOk result (λ t. string_bytes t ≡ stop_line (SeedFile kind path.now)) }
 {
     let word = kind_word(kind);

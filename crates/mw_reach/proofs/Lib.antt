@@ -4,7 +4,6 @@ pub mod Building
 pub mod Counting
 pub mod Found
 pub mod Items
-pub mod Samples
 pub mod SameLeast
 pub mod Noting
 pub mod Parts

@@ -7,4 +7,3 @@ pub mod Worklist
 pub mod Building
 pub mod Reached
 pub mod Goals
-pub mod Samples

@@ -15,6 +15,3 @@ mod worklist;
 pub use goals::{unmet_goal, unmet_goal_by};
 pub use least::{reach, reach_by, reach_counted};
 pub use reached::Reached;
-
-#[cfg(test)]
-mod tests;

@@ -17,6 +17,3 @@ pub use laws::{none_to_spare, spheres_are_one, spheres_show};
 pub use played::playthrough;
 pub use refusal::CheckRefusal;
 pub use sphere::spheres;
-
-#[cfg(test)]
-mod tests;

@@ -4,7 +4,7 @@ use Rattle.mw_fill.proofs.assumed.place_asked.Given as goal
 
 abbrev pub invariant-loop-copy : goal.invariant-loop-copy
 invariant-loop-copy l = record {
-  so_far : IsPlacedSoFar l.joint l.spots l.copies l.copy-index l.hand l.held l.placed;
+  so_far : IsPlacedSoFar l.joint l.openings l.copies l.copy-index l.hand l.held l.placed;
   made : IsMadeFor l.joint l.reached;
   rules : KeepsRules l.joint l.reached;
 }

@@ -1,0 +1,118 @@
+//! What `generate` writes and prints.
+ghost use Rattle.std.specs.Prelude.{◌≡◌, ◌≤◌, ◌++◌, ℕ, IfOk, IfErr, List, Ok, string_bytes};
+ghost use Rattle.mw_multi.specs.World.{World as PlainWorld};
+ghost use Rattle.mw_multi.specs.JointOf.{joint_of};
+ghost use Rattle.mw_multi.specs.Placement.{IsPlacement, IsPlaced};
+ghost use Rattle.mw_multi.specs.Events.{with_events};
+ghost use Rattle.mw_reach.specs.Goals.{IsBeatable};
+ghost use Rattle.mw_fill.specs.Fill.{what_stands};
+ghost use Rattle.mw_fill.specs.Generated.{GeneratedSeed};
+ghost use Rattle.mw_offline.specs.Played.{played_lines};
+ghost use Rattle.mw_offline.specs.Generating.{generated_line, IsMade, Generates, IsUnmade, IsCauseOf};
+
+use crate::generate_stop::GenerateStop;
+use crate::making::seed_file;
+use crate::played_lines::add_lines;
+use crate::seed_locations::standing;
+use crate::table_stop::TableStop;
+use mw_base::{Bytes, Memory, SphereList};
+use mw_fill::{GenerateError, Seed, generate};
+use mw_multi::{Joint, Placement, Players};
+use mw_multidata::write;
+use mw_spheres::{playthrough, spheres};
+use std::alloc::Global;
+
+/// A seed file's bytes, and the text that is printed beside it.
+#[derive(Drop)]
+pub(crate) struct Made {
+    pub(crate) bytes: Bytes,
+    pub(crate) text: String,
+}
+
+/// The line of a try.
+fn first_line(alloc: Global, seed: u64, stream: u64, many: u64) -> Result<String, Memory>
+    ensures { IfOk result (λ t. string_bytes t ≡ generated_line seed stream many) }
+{
+    Ok(format!(in alloc; "seed {seed} try {stream} spheres {many}\n")?)
+}
+
+/// The line of a try, and those of its playthrough.
+fn text_of(
+    alloc: Global,
+    joint: &Joint,
+    seed: u64,
+    found: &Seed,
+    many: usize,
+    played: &SphereList,
+) -> Result<String, Memory>
+    requires { IsPlacement joint.now found.now.placement }
+    ensures { IfOk result (λ t. string_bytes t ≡ generated_line seed found.now.stream many ++ played_lines joint.now.slots (what_stands found.now.placement) 1 played.now) }
+{
+    let stands = standing(alloc, joint, &found.placement)?;
+    let mut text = first_line(alloc, seed, found.stream, many as u64)?;
+    add_lines(&mut text, joint, stands.as_slice(), played.as_slice())?;
+    Ok(text)
+}
+
+/// The seed file of a placement that can be beaten, and the text beside it.
+fn made_of(
+    alloc: Global,
+    players: &Players,
+    joint: &Joint,
+    seed: u64,
+    found: &Seed,
+) -> Result<Made, Memory>
+    requires joined { (worlds : List PlainWorld) × (joint_of worlds players.now ≡ Ok joint.now) }
+    requires placement { IsPlacement joint.now found.now.placement }
+    requires beatable { (table : List (List ℕ)) → IsPlaced joint.now.slots (with_events joint.now found.now.placement) table → IsBeatable joint.now table }
+    ensures { IfOk result (λ m. IsMade joint.now seed found.now.stream found.now.placement m.bytes (string_bytes m.text)) }
+{
+    // Reading the joint makes known what its type keeps.
+    let _ = &joint.slots;
+    let spheres = spheres(alloc, joint, &found.placement)?;
+    let played = playthrough(alloc, joint, &found.placement, &spheres)?;
+    let file = seed_file(alloc, players, joint, seed, &found.placement, &spheres)?;
+    let bytes = write(alloc, &file)?;
+    let text = text_of(alloc, joint, seed, found, spheres.len(), &played)?;
+    Ok(Made { bytes, text })
+}
+
+/// The cause of a refusal of so many tries.
+fn stop_of(error: GenerateError, tries: u32) -> GenerateStop
+    ensures { IsCauseOf error tries result }
+{
+    match error {
+        GenerateError::NotBeatable { slot } => GenerateStop::NotBeatable { slot },
+        GenerateError::TooManyItems { have, room } => GenerateStop::TooManyItems { have, room },
+        GenerateError::Exhausted => GenerateStop::Exhausted { tries },
+        GenerateError::Memory => GenerateStop::Tables {
+            stop: TableStop::Memory,
+        },
+    }
+}
+
+/// The seed file of the first try that gives a placement, and the text beside it.
+#[tactic(auto, using(crate::proofs::Generated::unmade, crate::proofs::Generated::generates))]
+pub(crate) fn make(
+    alloc: Global,
+    players: &Players,
+    joint: &Joint,
+    seed: u64,
+    tries: u32,
+) -> Result<Made, GenerateStop>
+    requires tries { (1 ≤ tries) × (tries ≤ 1000) }
+    requires joined { (worlds : List PlainWorld) × (joint_of worlds players.now ≡ Ok joint.now) }
+    ensures ok { IfOk result (λ m. Generates joint.now seed tries m.bytes (string_bytes m.text)) }
+    ensures err { IfErr result (IsUnmade joint.now seed tries) }
+{
+    let found = match generate(alloc, joint, seed, tries) {
+        Ok(found) => found,
+        Err(error) => return Err(stop_of(error, tries)),
+    };
+    match made_of(alloc, players, joint, seed, &found) {
+        Ok(made) => Ok(made),
+        Err(_) => Err(GenerateStop::Tables {
+            stop: TableStop::Memory,
+        }),
+    }
+}
