@@ -1,1 +1,5 @@
+pub mod Ends
+pub mod Examples
+pub mod Lines
+pub mod Numbers
 pub mod Words

@@ -1,7 +1,13 @@
 //! The program `multiworld`.
 #![tactic(auto)]
 
+mod arguments;
+mod command_line;
+mod commands;
+mod error;
+mod number;
 mod run;
+mod words;
 
 use crate::run::run;
 use mw_base::Text;
@@ -48,6 +54,12 @@ fn main(rt: HostRuntime) -> ExitCode {
 }
 
 #[cfg(test)]
+mod generate_tests;
+#[cfg(test)]
+mod large_tests;
+#[cfg(test)]
 mod reach_tests;
 #[cfg(test)]
 mod tests;
+#[cfg(test)]
+mod words_tests;

@@ -1,0 +1,46 @@
+use Rattle.std.proofs.Common.{Err, ap, refl, inl, inr}
+use Rattle.std.proofs.KnownBytes.{Keeps-refl}
+use Rattle.mw_offline.specs.declared.stop.Stop.TheVariants as drive
+use Rattle.mw_offline.specs.declared.table_stop.TableStop.TheVariants as tables
+use Rattle.mw_offline.specs.declared.generate_stop.GenerateStop.TheVariants as generate
+use Rattle.mw_offline.specs.declared.check_stop.CheckStop.TheVariants as check
+use Rattle.mw_cli.specs.Lines.{generate_line, check_line, reach_line, drive_line}
+use Rattle.mw_cli.proofs.Asking.{asks_one}
+use Rattle.mw_cli.proofs.run.run.Goals as goal
+
+pub returns-in-Ok-clause-generate : goal.returns-in-Ok-clause-generate
+returns-in-Ok-clause-generate g c = λ wanted is. rw (asks_one c.args.words.now c.in-Ok.line (generate_line wanted) c.in-Ok.ensures.ok is) at c.run_line.ensures.ends
+
+pub returns-in-Ok-clause-check : goal.returns-in-Ok-clause-check
+returns-in-Ok-clause-check g c = λ asked is. rw (asks_one c.args.words.now c.in-Ok.line (check_line asked) c.in-Ok.ensures.ok is) at c.run_line.ensures.ends
+
+pub returns-in-Ok-clause-reach : goal.returns-in-Ok-clause-reach
+returns-in-Ok-clause-reach g c = λ players is. rw (asks_one c.args.words.now c.in-Ok.line (reach_line players) c.in-Ok.ensures.ok is) at c.run_line.ensures.ends
+
+pub returns-in-Ok-clause-drive : goal.returns-in-Ok-clause-drive
+returns-in-Ok-clause-drive g c = λ name is. rw (asks_one c.args.words.now c.in-Ok.line (drive_line name) c.in-Ok.ensures.ok is) at c.run_line.ensures.ends
+
+pub returns-in-Err-BadWords-clause-generate : goal.returns-in-Err-BadWords-clause-generate
+returns-in-Err-BadWords-clause-generate g c = λ wanted is. absurd (c.in-Err-BadWords.ensures.bad (ap Err c.in-Err-BadWords.field-0-is) (generate_line wanted) is)
+
+pub returns-in-Err-BadWords-clause-check : goal.returns-in-Err-BadWords-clause-check
+returns-in-Err-BadWords-clause-check g c = λ asked is. absurd (c.in-Err-BadWords.ensures.bad (ap Err c.in-Err-BadWords.field-0-is) (check_line asked) is)
+
+pub returns-in-Err-BadWords-clause-reach : goal.returns-in-Err-BadWords-clause-reach
+returns-in-Err-BadWords-clause-reach g c = λ players is. absurd (c.in-Err-BadWords.ensures.bad (ap Err c.in-Err-BadWords.field-0-is) (reach_line players) is)
+
+pub returns-in-Err-BadWords-clause-drive : goal.returns-in-Err-BadWords-clause-drive
+returns-in-Err-BadWords-clause-drive g c = λ name is. absurd (c.in-Err-BadWords.ensures.bad (ap Err c.in-Err-BadWords.field-0-is) (drive_line name) is)
+
+pub returns-in-Err-Memory-clause-generate : goal.returns-in-Err-Memory-clause-generate
+returns-in-Err-Memory-clause-generate g c = λ _ _.
+    inr (generate.Tables tables.Memory, record { is_status = refl; cause = tt; left = record { files = λ _ _. refl; put = inl (Keeps-refl _) }; line = c.tell-in-Err-Memory.ensures })
+
+pub returns-in-Err-Memory-clause-check : goal.returns-in-Err-Memory-clause-check
+returns-in-Err-Memory-clause-check g c = λ _ _. inr (check.Tables tables.Memory, record { is_status = refl; cause = tt; put = inl (Keeps-refl _); line = c.tell-in-Err-Memory.ensures })
+
+pub returns-in-Err-Memory-clause-reach : goal.returns-in-Err-Memory-clause-reach
+returns-in-Err-Memory-clause-reach g c = λ _ _. inr (tables.Memory, record { is_status = refl; cause = tt; put = inl (Keeps-refl _); line = c.tell-in-Err-Memory.ensures })
+
+pub returns-in-Err-Memory-clause-drive : goal.returns-in-Err-Memory-clause-drive
+returns-in-Err-Memory-clause-drive g c = λ _ _. inr (drive.Memory, record { is_status = refl; cause = tt; put = inl (Keeps-refl _); line = c.tell-in-Err-Memory.ensures })

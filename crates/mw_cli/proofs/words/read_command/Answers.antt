@@ -1,0 +1,12 @@
+use Rattle.std.proofs.Common.{rules}
+use Rattle.clap.specs.Walk.{texts}
+use Rattle.mw_cli.proofs.Asking.{first_text, only_generate, only_check}
+use Rattle.mw_cli.proofs.words.read_command.Goals as goal
+
+pub returns-in_err-read_generate-in-generate-clause-bad : goal.returns-in_err-read_generate-in-generate-clause-bad
+returns-in_err-read_generate-in-generate-clause-bad c = λ is line.
+    only_generate (texts c.args.words.now) line (first_text c.args.words.now c.in-Some.command.now _ c.in-Some.ensures.value c.in-generate.is) (search rules)
+
+pub returns-in_err-read_check-in-check-clause-bad : goal.returns-in_err-read_check-in-check-clause-bad
+returns-in_err-read_check-in-check-clause-bad c = λ is line.
+    only_check (texts c.args.words.now) line (first_text c.args.words.now c.in-Some.command.now _ c.in-Some.ensures.value c.in-check.is) (search rules)

@@ -1,0 +1,41 @@
+-- A command line, and the words that ask for it.
+use Rattle.std.specs.Prelude.{◌≡◌, ◌≤◌, ℕ, List, ⊤}
+use Rattle.mw_offline.specs.Checking.{Asked}
+use Rattle.mw_offline.specs.Generating.{Wanted}
+use Rattle.mw_cli.specs.Words.{IsGenerate, IsCheck, IsReach, IsDrive}
+use Rattle.mw_cli.specs.declared.command_line.CommandLine.{CommandLine}
+use Rattle.mw_cli.specs.declared.command_line.CommandLine.TheVariants.{Generate, Check, Reach, Drive}
+
+abbrev pub generate_line : Wanted → CommandLine
+generate_line w = Generate (record { players = w.players; out_name = w.out_name; seed = w.seed; tries = w.tries })
+
+abbrev pub check_line : Asked → CommandLine
+check_line a = Check (record { players = a.players; multidata = a.multidata })
+
+abbrev pub reach_line : List ℕ → CommandLine
+reach_line players = Reach (record { players = players })
+
+abbrev pub drive_line : List ℕ → CommandLine
+drive_line multidata = Drive (record { multidata = multidata })
+
+-- the words ask for this
+abbrev pub AsksFor : List (List ℕ) → CommandLine → Type 0
+AsksFor words (Generate w) = IsGenerate words (record { players = w.players; out_name = w.out_name; seed = w.seed; tries = w.tries })
+AsksFor words (Check w) = IsCheck words (record { players = w.players; multidata = w.multidata })
+AsksFor words (Reach w) = IsReach words w.players
+AsksFor words (Drive w) = IsDrive words w.multidata
+
+-- they ask for nothing
+abbrev pub IsNoCommand : List (List ℕ) → Type 0
+IsNoCommand words = (line : CommandLine) → AsksFor words line → ⊥
+
+-- no words ask for two things
+abbrev pub HasOneMeaning : Type 0
+HasOneMeaning = (words : List (List ℕ)) (one other : CommandLine) → AsksFor words one → AsksFor words other → one ≡ other
+
+-- how many tries there are is from 1 to 1,000
+abbrev pub HasTries : CommandLine → Type 0
+HasTries (Generate w) = (1 ≤ w.tries) × (w.tries ≤ 1000)
+HasTries (Check w) = ⊤
+HasTries (Reach w) = ⊤
+HasTries (Drive w) = ⊤

@@ -1,0 +1,14 @@
+use mw_offline::{CheckWords, DriveWords, GenerateWords, ReachWords};
+
+/// What a command line asks for.
+#[derive(Debug, Drop)]
+pub enum CommandLine {
+    /// A seed file is to be made.
+    Generate(GenerateWords),
+    /// A seed file is to be judged.
+    Check(CheckWords),
+    /// What is reached is to be told.
+    Reach(ReachWords),
+    /// A script is to be run on a room.
+    Drive(DriveWords),
+}

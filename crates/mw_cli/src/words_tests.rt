@@ -1,0 +1,114 @@
+//! What words ask for.
+use crate::command_line::CommandLine;
+use crate::error::WordsError;
+use crate::words::read_words;
+use mw_base::Text;
+use std::alloc::Global;
+use std::test::Fail;
+
+/// What words with a blank between them ask for, told in one line.
+fn told(alloc: Global, words: &str) -> Result<String, Fail> {
+    let mut texts = Vec::new(alloc);
+    for word in words.split(' ') {
+        texts.push(Text::of(alloc, word)?)?;
+    }
+    let line = match read_words(alloc, &texts) {
+        Ok(line) => line,
+        Err(WordsError::BadWords) => return Ok(String::from_str(alloc, "bad words")?),
+        Err(WordsError::Memory) => return Ok(String::from_str(alloc, "no memory")?),
+    };
+    Ok(match line {
+        CommandLine::Generate(w) => format!(in alloc;
+            "generate <{}> <{}> {} {}",
+            w.players.as_str(),
+            w.out_name.as_str(),
+            w.seed,
+            w.tries
+        )?,
+        CommandLine::Check(w) => format!(in alloc;
+            "check <{}> <{}>",
+            w.players.as_str(),
+            w.multidata.as_str()
+        )?,
+        CommandLine::Reach(w) => format!(in alloc; "reach <{}>", w.players.as_str())?,
+        CommandLine::Drive(w) => format!(in alloc; "drive <{}>", w.multidata.as_str())?,
+    })
+}
+
+const ROWS: [(&str, &str); 46] = [
+    ("fly", "bad words"),
+    ("", "bad words"),
+    ("generate", "bad words"),
+    ("generate p.json", "bad words"),
+    ("generate p.json o", "bad words"),
+    ("generate p.json --seed 5", "bad words"),
+    ("generate p.json o --seed 5", "generate <p.json> <o> 5 100"),
+    (
+        "generate --seed=5 p.json o --tries 7",
+        "generate <p.json> <o> 5 7",
+    ),
+    (
+        "generate --tries 1000 p --seed 0 o",
+        "generate <p> <o> 0 1000",
+    ),
+    (
+        "generate p o --seed 18446744073709551615 --tries=1",
+        "generate <p> <o> 18446744073709551615 1",
+    ),
+    (
+        "generate --seed 5 -- p.json o",
+        "generate <p.json> <o> 5 100",
+    ),
+    (
+        "generate --seed 5 -- --tries --",
+        "generate <--tries> <--> 5 100",
+    ),
+    ("generate -- p.json o --seed 5", "bad words"),
+    ("generate p o q --seed 5", "bad words"),
+    ("generate p o --seed 5 --seed 6", "bad words"),
+    ("generate p o --seed 5 --tries 1 --tries 1", "bad words"),
+    ("generate p o --seed", "bad words"),
+    ("generate p o --seed=", "bad words"),
+    ("generate p o --seed ", "bad words"),
+    ("generate p o --seed -1", "bad words"),
+    ("generate p o --seed=-1", "bad words"),
+    ("generate p o --seed +1", "bad words"),
+    ("generate p o --seed 05", "bad words"),
+    ("generate p o --seed 00", "bad words"),
+    ("generate p o --seed 5x", "bad words"),
+    ("generate p o --seed 18446744073709551616", "bad words"),
+    ("generate p o --see 5", "bad words"),
+    ("generate p o --seed 5 --tries 0", "bad words"),
+    ("generate p o --seed 5 --tries 1001", "bad words"),
+    ("generate p o --seed 5 --help", "bad words"),
+    ("generate --help", "bad words"),
+    ("generate -h", "bad words"),
+    ("--version", "bad words"),
+    ("drive --version", "bad words"),
+    ("check p m", "check <p> <m>"),
+    ("check p", "bad words"),
+    ("check p m --seed 5", "bad words"),
+    ("reach p", "reach <p>"),
+    ("reach ", "reach <>"),
+    ("reach -", "reach <->"),
+    ("reach -p", "bad words"),
+    ("drive", "bad words"),
+    ("drive A", "drive <A>"),
+    ("drive -- A", "drive <A>"),
+    ("drive A B", "bad words"),
+    ("serve A", "bad words"),
+];
+
+#[test]
+fn each_row_asks_for_this(rt: HostRuntime) -> Result<(), Fail> {
+    for (words, wanted) in ROWS {
+        let told = told(rt.alloc(), words)?;
+        assert_eq!(rt; told.as_str(), wanted, "at {words}");
+    }
+    Ok(())
+}
+
+#[test]
+fn no_words(rt: HostRuntime) {
+    assert!(rt; matches!(read_words(rt.alloc(), &[]), Err(WordsError::BadWords)));
+}
