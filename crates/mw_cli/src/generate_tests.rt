@@ -1,31 +1,8 @@
-use crate::run::run;
-use mw_base::{Bytes, List, Text};
-use mw_edges::{Faults, FileRead, Folder, MemoryFolder, MemorySink, MemorySource};
+use crate::harness::{NEVER, add_file, faults, told, told_with};
+use mw_base::{List, Text};
+use mw_edges::{FileRead, Folder, MemoryFolder};
 use std::alloc::Global;
 use std::test::Fail;
-
-/// The number of a call that never comes.
-const NEVER: u64 = u64::MAX;
-
-fn bytes_of(alloc: Global, text: &str) -> Result<Bytes, Fail> {
-    Ok(Bytes::from_vec(Vec::from_slice(alloc, text.as_bytes())?))
-}
-
-fn faults(alloc: Global, failing: u64) -> Result<Faults, Fail> {
-    let mut list = List::new(alloc);
-    list.push(failing)?;
-    Ok(Faults::at(list))
-}
-
-fn add_file(
-    alloc: Global,
-    files: &mut List<(Text, Bytes)>,
-    name: &str,
-    text: &str,
-) -> Result<(), Fail> {
-    files.push((Text::of(alloc, name)?, bytes_of(alloc, text)?))?;
-    Ok(())
-}
 
 /// A folder with the files `p.json`, `w.json` and `o`, whose call of this number fails.
 fn folder_of(
@@ -36,36 +13,10 @@ fn folder_of(
     failing: u64,
 ) -> Result<MemoryFolder, Fail> {
     let mut files = List::new(alloc);
-    add_file(alloc, &mut files, "p.json", players)?;
-    add_file(alloc, &mut files, "w.json", world)?;
-    add_file(alloc, &mut files, "o", seed)?;
+    add_file(alloc, &mut files, "p.json", players.as_bytes())?;
+    add_file(alloc, &mut files, "w.json", world.as_bytes())?;
+    add_file(alloc, &mut files, "o", seed.as_bytes())?;
     Ok(MemoryFolder::new(files, faults(alloc, failing)?))
-}
-
-/// What a run of words with a blank between them leaves: the status, what was put, and the error line, where the out
-/// sink's call of this number fails.
-fn told_with(
-    alloc: Global,
-    folder: &mut MemoryFolder,
-    words: &str,
-    script: &str,
-    failing: u64,
-) -> Result<String, Fail> {
-    let mut texts = Vec::new(alloc);
-    for word in words.split(' ') {
-        texts.push(Text::of(alloc, word)?)?;
-    }
-    let mut input = MemorySource::new(bytes_of(alloc, script)?, faults(alloc, NEVER)?);
-    let mut out = MemorySink::new(alloc, faults(alloc, failing)?);
-    let mut err = MemorySink::new(alloc, faults(alloc, NEVER)?);
-    let status = run(alloc, &texts, folder, &mut input, &mut out, &mut err);
-    let printed = std::str::from_utf8(out.bytes()).or(Err("no text"))?;
-    let line = std::str::from_utf8(err.bytes()).or(Err("no text"))?;
-    Ok(format!(in alloc; "{status} {printed}{line}")?)
-}
-
-fn told(alloc: Global, folder: &mut MemoryFolder, words: &str) -> Result<String, Fail> {
-    told_with(alloc, folder, words, "", NEVER)
 }
 
 /// What a file of the folder has.

@@ -1,40 +1,8 @@
-use crate::run::run;
+use crate::harness::{NEVER, add_file, faults, told};
 use mw_base::{Bytes, List, Text};
-use mw_edges::{Faults, MemoryFolder, MemorySink, MemorySource};
+use mw_edges::MemoryFolder;
 use std::alloc::Global;
 use std::test::Fail;
-
-fn no_faults(alloc: Global) -> Result<Faults, Fail> {
-    let mut list = List::new(alloc);
-    list.push(u64::MAX)?;
-    Ok(Faults::at(list))
-}
-
-/// What a run on the folder leaves: the status, what was put, and the error line.
-fn told(alloc: Global, folder: &mut MemoryFolder, words: &str) -> Result<String, Fail> {
-    let mut texts = Vec::new(alloc);
-    for word in words.split(' ') {
-        texts.push(Text::of(alloc, word)?)?;
-    }
-    let mut input = MemorySource::new(Bytes::from_vec(Vec::new(alloc)), no_faults(alloc)?);
-    let mut out = MemorySink::new(alloc, no_faults(alloc)?);
-    let mut err = MemorySink::new(alloc, no_faults(alloc)?);
-    let status = run(alloc, &texts, folder, &mut input, &mut out, &mut err);
-    let printed = std::str::from_utf8(out.bytes()).or(Err("no text"))?;
-    let line = std::str::from_utf8(err.bytes()).or(Err("no text"))?;
-    Ok(format!(in alloc; "{status} {printed}{line}")?)
-}
-
-fn add_file(
-    alloc: Global,
-    files: &mut List<(Text, Bytes)>,
-    name: &str,
-    text: &str,
-) -> Result<(), Fail> {
-    let bytes = Bytes::from_vec(Vec::from_slice(alloc, text.as_bytes())?);
-    files.push((Text::of(alloc, name)?, bytes))?;
-    Ok(())
-}
 
 /// Adds so many regions, whose names differ by eight digits.
 fn add_regions(alloc: Global, text: &mut String, many: u32, pad: &str) -> Result<(), Fail> {
@@ -91,30 +59,53 @@ fn add_player(alloc: Global, text: &mut String, number: u32, world: &str) -> Res
     Ok(())
 }
 
-/// Thirteen players of a world with 15,000 places, and one of a world with so many free locations and Menu: the status, and
-/// what the error line is where it isn't 0.
-fn with_places(alloc: Global, locations: u32) -> Result<String, Fail> {
+/// Thirteen players of the world `a`, and one of the world `b`.
+fn fourteen_players(alloc: Global) -> Result<String, Fail> {
     let mut players = String::from_str(alloc, "{\"format\":\"mw-players-1\",\"players\":[")?;
     for number in 0..13 {
         add_player(alloc, &mut players, number, "a")?;
     }
     add_player(alloc, &mut players, 13, "b")?;
     players.push_str("]}")?;
+    Ok(players)
+}
+
+/// Adds the file of a world.
+fn add_world(
+    alloc: Global,
+    files: &mut List<(Text, Bytes)>,
+    name: &str,
+    text: &String,
+) -> Result<(), Fail> {
+    add_file(alloc, files, name, text.as_bytes())
+}
+
+/// Adds a world with Menu and so many regions and free locations more.
+fn add_large(
+    alloc: Global,
+    files: &mut List<(Text, Bytes)>,
+    name: &str,
+    regions: u32,
+    locations: u32,
+    pad: &str,
+) -> Result<(), Fail> {
+    let text = world(alloc, name, regions, locations, pad)?;
+    add_world(alloc, files, name, &text)
+}
+
+/// Their folder: `a` has 15,000 places, `b` so many free locations and Menu.
+fn places_folder(alloc: Global, locations: u32) -> Result<MemoryFolder, Fail> {
+    let players = fourteen_players(alloc)?;
     let mut files = List::new(alloc);
-    add_file(alloc, &mut files, "p", players.as_str())?;
-    add_file(
-        alloc,
-        &mut files,
-        "a",
-        world(alloc, "A", 4_999, 10_000, "")?.as_str(),
-    )?;
-    add_file(
-        alloc,
-        &mut files,
-        "b",
-        world(alloc, "B", 0, locations, "")?.as_str(),
-    )?;
-    let mut folder = MemoryFolder::new(files, no_faults(alloc)?);
+    add_world(alloc, &mut files, "p", &players)?;
+    add_large(alloc, &mut files, "a", 4_999, 10_000, "")?;
+    add_large(alloc, &mut files, "b", 0, locations, "")?;
+    Ok(MemoryFolder::new(files, faults(alloc, NEVER)?))
+}
+
+/// What `reach` tells of them.
+fn with_places(alloc: Global, locations: u32) -> Result<String, Fail> {
+    let mut folder = places_folder(alloc, locations)?;
     told(alloc, &mut folder, "reach p")
 }
 
@@ -134,31 +125,41 @@ fn places_over_all_are_limited(rt: HostRuntime) -> Result<(), Fail> {
 const PAD: &str =
     "xxxxxxxxxxxxxxxxxxxxxxxxxxxxxxxxxxxxxxxxxxxxxxxxxxxxxxxxxxxxxxxxxxxxxxxxxxxxxxxxxxxxxxxxxxxxxxxxxxxxxxxxxxxxxxxxxxxxxxxx";
 
-/// Eight worlds, seven of them with 14,999 names of 128 characters, the eighth with 5,378 and a game of this name: what
-/// is told.
-fn with_text(alloc: Global, game: &str) -> Result<String, Fail> {
+/// Seven players, each of a world of its own, and one of the world `h`.
+fn eight_players(alloc: Global) -> Result<String, Fail> {
     let mut players = String::from_str(alloc, "{\"format\":\"mw-players-1\",\"players\":[")?;
-    let mut files = List::new(alloc);
     for number in 0..7 {
         let name = format!(in alloc; "{number}")?;
         add_player(alloc, &mut players, number, name.as_str())?;
-        add_file(
-            alloc,
-            &mut files,
-            name.as_str(),
-            world(alloc, name.as_str(), 4_999, 10_000, PAD)?.as_str(),
-        )?;
     }
     add_player(alloc, &mut players, 7, "h")?;
     players.push_str("]}")?;
-    add_file(
-        alloc,
-        &mut files,
-        "h",
-        world(alloc, game, 0, 5_379, PAD)?.as_str(),
-    )?;
-    add_file(alloc, &mut files, "p", players.as_str())?;
-    let mut folder = MemoryFolder::new(files, no_faults(alloc)?);
+    Ok(players)
+}
+
+/// Adds seven worlds with 14,999 names of 128 characters.
+fn add_seven(alloc: Global, files: &mut List<(Text, Bytes)>) -> Result<(), Fail> {
+    for number in 0..7 {
+        let name = format!(in alloc; "{number}")?;
+        add_large(alloc, files, name.as_str(), 4_999, 10_000, PAD)?;
+    }
+    Ok(())
+}
+
+/// Their folder: the eighth world has 5,379 such names, and a game of this name.
+fn text_folder(alloc: Global, game: &str) -> Result<MemoryFolder, Fail> {
+    let players = eight_players(alloc)?;
+    let last = world(alloc, game, 0, 5_379, PAD)?;
+    let mut files = List::new(alloc);
+    add_world(alloc, &mut files, "p", &players)?;
+    add_world(alloc, &mut files, "h", &last)?;
+    add_seven(alloc, &mut files)?;
+    Ok(MemoryFolder::new(files, faults(alloc, NEVER)?))
+}
+
+/// What `reach` tells of them.
+fn with_text(alloc: Global, game: &str) -> Result<String, Fail> {
+    let mut folder = text_folder(alloc, game)?;
     told(alloc, &mut folder, "reach p")
 }
 
@@ -212,51 +213,57 @@ fn party_player(alloc: Global, first: &str, second: &str, world: &str) -> Result
     )?)
 }
 
-/// What generating and checking the party tells.
-fn party_told(alloc: Global) -> Result<(String, String), Fail> {
+/// The party's players file.
+fn party_players(alloc: Global) -> Result<String, Fail> {
     let ann = party_player(alloc, "Ann", "Dan", "a")?;
     let bob = party_player(alloc, "Bob", "Eve", "b")?;
     let cat = party_player(alloc, "Cat", "Fay", "c")?;
     let ann = ann.as_str();
     let bob = bob.as_str();
     let cat = cat.as_str();
-    let players = format!(in alloc;
+    Ok(format!(in alloc;
         "{{\"format\":\"mw-players-1\",\"teams\":2,\"room\":{{\"password\":\"pw\",\"hint_cost\":10}},\"players\":[{ann},{bob},{cat}]}}"
-    )?;
+    )?)
+}
+
+/// Adds a world of the party.
+fn add_party(
+    alloc: Global,
+    files: &mut List<(Text, Bytes)>,
+    name: &str,
+    locations: u32,
+) -> Result<(), Fail> {
+    let text = party_world(alloc, name, locations)?;
+    add_world(alloc, files, name, &text)
+}
+
+/// The party's folder.
+fn party_folder(alloc: Global) -> Result<MemoryFolder, Fail> {
+    let players = party_players(alloc)?;
     let mut files = List::new(alloc);
-    add_file(alloc, &mut files, "p", players.as_str())?;
-    add_file(
-        alloc,
-        &mut files,
-        "a",
-        party_world(alloc, "A", 60)?.as_str(),
-    )?;
-    add_file(
-        alloc,
-        &mut files,
-        "b",
-        party_world(alloc, "B", 80)?.as_str(),
-    )?;
-    add_file(
-        alloc,
-        &mut files,
-        "c",
-        party_world(alloc, "C", 40)?.as_str(),
-    )?;
-    let mut folder = MemoryFolder::new(files, no_faults(alloc)?);
+    add_world(alloc, &mut files, "p", &players)?;
+    add_party(alloc, &mut files, "a", 60)?;
+    add_party(alloc, &mut files, "b", 80)?;
+    add_party(alloc, &mut files, "c", 40)?;
+    Ok(MemoryFolder::new(files, faults(alloc, NEVER)?))
+}
+
+/// What generating and checking the party tells.
+fn party_told(alloc: Global) -> Result<String, Fail> {
+    let mut folder = party_folder(alloc)?;
     let made = told(alloc, &mut folder, "generate p o --seed 7")?;
     let found = told(alloc, &mut folder, "check p o")?;
-    Ok((made, found))
+    let made = made.as_str();
+    let found = found.as_str();
+    Ok(format!(in alloc; "{made}{found}")?)
 }
 
 /// Each Key lies at the priority location of its player's own world.
 #[test]
 fn party(rt: HostRuntime) -> Result<(), Fail> {
-    let (made, found) = party_told(rt.alloc())?;
+    let told = party_told(rt.alloc())?;
     let lines = "spheres 1\n1 Ann: L2 -> Ann: Key\n1 Bob: L2 -> Bob: Key\n1 Cat: L2 -> Cat: Key\n";
-    let wanted = format!(in rt.alloc(); "0 seed 7 try 0 {lines}")?;
-    assert_eq!(rt; made.as_str(), wanted.as_str());
-    let wanted = format!(in rt.alloc(); "0 ok {lines}")?;
-    assert_eq!(rt; found.as_str(), wanted.as_str());
+    let wanted = format!(in rt.alloc(); "0 seed 7 try 0 {lines}0 ok {lines}")?;
+    assert_eq!(rt; told.as_str(), wanted.as_str());
     Ok(())
 }

@@ -56,6 +56,8 @@ fn main(rt: HostRuntime) -> ExitCode {
 #[cfg(test)]
 mod generate_tests;
 #[cfg(test)]
+mod harness;
+#[cfg(test)]
 mod large_tests;
 #[cfg(test)]
 mod reach_tests;

@@ -1,11 +1,8 @@
-use crate::run::run;
+use crate::harness::{NEVER, Outcome, add_file, bytes_of, faults, outcome_of, words_of};
 use mw_base::{Bytes, List, Text};
-use mw_edges::{Faults, MemoryFolder, MemorySink, MemorySource};
+use mw_edges::MemoryFolder;
 use std::alloc::Global;
 use std::test::Fail;
-
-/// The number of a call that never comes.
-const NEVER: u64 = u64::MAX;
 
 /// One player, Ann, whose world is `w.json`.
 const ANN: &str = r#"{"format":"mw-players-1","players":[{"names":["Ann"],"world":"w.json"}]}"#;
@@ -42,22 +39,18 @@ const LATE: &str =
 const EVENT: &str =
     r#"{"format":"mw-world-1","game":"G","regions":["Menu"],"items":[{"name":"Sword","id":1,"class":"progression"},{"name":"Won","id":null,"class":"progression"},{"name":"Coin","id":2,"class":"filler"}],"entrances":[],"locations":[{"name":"First","id":1,"region":"Menu","rule":{"has":"Won"}},{"name":"Fight","id":null,"region":"Menu","rule":{"has":"Sword"},"event":"Won"}],"pool":[{"item":"Sword","count":1}],"filler":"Coin","goal":{"has":"Won"}}"#;
 
-fn bytes_of(alloc: Global, text: &str) -> Result<Bytes, Fail> {
-    Ok(Bytes::from_vec(Vec::from_slice(alloc, text.as_bytes())?))
-}
-
-fn faults(alloc: Global, failing: u64) -> Result<Faults, Fail> {
-    let mut list = List::new(alloc);
-    list.push(failing)?;
-    Ok(Faults::at(list))
-}
-
-/// What a run of `reach` leaves: the status, what was put, and what the error sink got.
-#[derive(Drop)]
-struct Outcome {
-    status: u8,
-    out: MemorySink,
-    err: MemorySink,
+/// A folder with the players file `p.json` and the worlds `w.json` and `v.json`, whose call of this number fails.
+fn folder_of(
+    alloc: Global,
+    players: &str,
+    world: Bytes,
+    failing: u64,
+) -> Result<MemoryFolder, Fail> {
+    let mut files = List::new(alloc);
+    add_file(alloc, &mut files, "p.json", players.as_bytes())?;
+    files.push((Text::of(alloc, "w.json")?, world))?;
+    add_file(alloc, &mut files, "v.json", ONE_SWORD.as_bytes())?;
+    Ok(MemoryFolder::new(files, faults(alloc, failing)?))
 }
 
 /// Runs `reach p.json` where the worlds `w.json` and `v.json` are these, and the k-th call of the folder and of the sinks
@@ -68,17 +61,15 @@ fn reach_on(
     world: Bytes,
     failing: [u64; 3],
 ) -> Result<Outcome, Fail> {
-    let mut files = List::new(alloc);
-    files.push((Text::of(alloc, "p.json")?, bytes_of(alloc, players)?))?;
-    files.push((Text::of(alloc, "w.json")?, world))?;
-    files.push((Text::of(alloc, "v.json")?, bytes_of(alloc, ONE_SWORD)?))?;
-    let mut folder = MemoryFolder::new(files, faults(alloc, failing[0])?);
-    let mut input = MemorySource::new(bytes_of(alloc, "")?, faults(alloc, NEVER)?);
-    let mut out = MemorySink::new(alloc, faults(alloc, failing[1])?);
-    let mut err = MemorySink::new(alloc, faults(alloc, failing[2])?);
-    let words = vec![in alloc; Text::of(alloc, "reach")?, Text::of(alloc, "p.json")?]?;
-    let status = run(alloc, &words, &mut folder, &mut input, &mut out, &mut err);
-    Ok(Outcome { status, out, err })
+    let mut folder = folder_of(alloc, players, world, failing[0])?;
+    let words = words_of(alloc, "reach p.json")?;
+    outcome_of(
+        alloc,
+        &words,
+        &mut folder,
+        b"",
+        [NEVER, failing[1], failing[2]],
+    )
 }
 
 /// Each row: the players file, the world file, the status, what is printed, and the error line.
@@ -124,7 +115,7 @@ fn what_reach_says(rt: HostRuntime) -> Result<(), Fail> {
         ),
     ];
     for (players, world, status, printed, line) in rows {
-        let world = bytes_of(rt.alloc(), world)?;
+        let world = bytes_of(rt.alloc(), world.as_bytes())?;
         let outcome = reach_on(rt.alloc(), players, world, [NEVER; 3])?;
         assert_eq!(rt; outcome.status, status, "at {line}");
         assert_eq!(rt; outcome.out.bytes(), printed.as_bytes(), "at {line}");
@@ -143,7 +134,7 @@ fn reach_tells_of_faults(rt: HostRuntime) -> Result<(), Fail> {
         ([NEVER, 0, 0], ""),
     ];
     for (failing, line) in rows {
-        let world = bytes_of(rt.alloc(), ONE_SWORD)?;
+        let world = bytes_of(rt.alloc(), ONE_SWORD.as_bytes())?;
         let outcome = reach_on(rt.alloc(), ANN, world, failing)?;
         assert_eq!(rt; outcome.status, 5);
         assert_eq!(rt; outcome.err.bytes(), line.as_bytes());

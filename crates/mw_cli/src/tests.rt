@@ -1,8 +1,10 @@
 ghost use Rattle.std.specs.Prelude.{None};
 
-use crate::run::run;
-use mw_base::{Bytes, List, SessionId, Text};
-use mw_edges::{Faults, MemoryFolder, MemorySink, MemorySource, Sink, SinkError, Tally};
+use crate::harness::{
+    NEVER, Outcome, add_file, faults, outcome_of, ran, sink_of, source_of, words_of,
+};
+use mw_base::{List, SessionId};
+use mw_edges::{MemoryFolder, Sink, SinkError, Tally};
 use mw_multidata::{RoomTables, read};
 use mw_room::{Event, Room, SessionState};
 use std::alloc::Global;
@@ -11,54 +13,37 @@ use std::test::Fail;
 const ROOM_A: &str =
     r#"{"format":"mw-multidata-1","games":{"G":{"item_name_to_id":{"Boots":5,"Coin":8,"Map":9,"Sword":7},"location_name_to_id":{"A1":101,"A2":102,"B1":201}}},"locations":[[1,101,7,2,1],[1,102,8,1,0],[2,201,9,1,2]],"seed_name":"A","server":{"collect":"goal","hint_cost":10,"location_check_points":1,"password":"","release":"goal","remaining":"goal"},"slots":[{"game":"G","names":["Ann"],"start":[[5,0]]},{"game":"G","names":["Bob"],"start":[]}],"spheres":[],"teams":1}"#;
 
-/// The number of a call that never comes.
-const NEVER: u64 = u64::MAX;
-
-fn bytes_of(alloc: Global, text: &[u8]) -> Result<Bytes, Fail> {
-    Ok(Bytes::from_vec(Vec::from_slice(alloc, text)?))
+/// A folder that has this file as `A`, whose call of this number fails.
+fn folder_of(alloc: Global, file: &[u8], failing: u64) -> Result<MemoryFolder, Fail> {
+    let mut files = List::new(alloc);
+    add_file(alloc, &mut files, "A", file)?;
+    Ok(MemoryFolder::new(files, faults(alloc, failing)?))
 }
 
-fn faults(alloc: Global, failing: u64) -> Result<Faults, Fail> {
-    let mut list = List::new(alloc);
-    list.push(failing)?;
-    Ok(Faults::at(list))
-}
-
-/// What a run leaves: the status, what was put, and what the error sink got.
-#[derive(Drop)]
-struct Outcome {
-    status: u8,
-    out: MemorySink,
-    err: MemorySink,
-}
-
-/// Runs words on a folder that has this file as `A`, where the k-th call of each object fails.
+/// Runs a line of words on a folder that has this file as `A`, where the k-th call of each object fails.
 fn run_words(
     alloc: Global,
-    words: &[&str],
+    line: &str,
     file: &[u8],
     script: &[u8],
     failing: [u64; 4],
 ) -> Result<Outcome, Fail> {
-    let mut files = List::new(alloc);
-    files.push((Text::of(alloc, "A")?, bytes_of(alloc, file)?))?;
-    let mut folder = MemoryFolder::new(files, faults(alloc, failing[0])?);
-    let mut input = MemorySource::new(bytes_of(alloc, script)?, faults(alloc, failing[1])?);
-    let mut out = MemorySink::new(alloc, faults(alloc, failing[2])?);
-    let mut err = MemorySink::new(alloc, faults(alloc, failing[3])?);
-    let mut texts = Vec::new(alloc);
-    for word in words {
-        texts.push(Text::of(alloc, word)?)?;
-    }
-    let status = run(alloc, &texts, &mut folder, &mut input, &mut out, &mut err);
-    Ok(Outcome { status, out, err })
+    let mut folder = folder_of(alloc, file, failing[0])?;
+    let words = words_of(alloc, line)?;
+    outcome_of(
+        alloc,
+        &words,
+        &mut folder,
+        script,
+        [failing[1], failing[2], failing[3]],
+    )
 }
 
 /// What `drive A` prints of a script with ample memory.
 fn printed(alloc: Global, script: &str) -> Result<Outcome, Fail> {
     run_words(
         alloc,
-        &["drive", "A"],
+        "drive A",
         ROOM_A.as_bytes(),
         script.as_bytes(),
         [NEVER; 4],
@@ -187,10 +172,10 @@ fn each_status_has_its_line(rt: HostRuntime) -> Result<(), Fail> {
     let none = [NEVER; 4];
     let script = "open\ntake 1\ntake 1\n";
     let cases = [
-        ("A", ROOM_A, "", none, 0, ""),
-        ("A", ROOM_A, "#\n\ntake 07\n", none, 0, ""),
+        ("drive A", ROOM_A, "", none, 0, ""),
+        ("drive A", ROOM_A, "#\n\ntake 07\n", none, 0, ""),
         (
-            "A",
+            "drive A",
             ROOM_A,
             script,
             [0, NEVER, NEVER, NEVER],
@@ -198,7 +183,7 @@ fn each_status_has_its_line(rt: HostRuntime) -> Result<(), Fail> {
             "device failed\n",
         ),
         (
-            "A",
+            "drive A",
             ROOM_A,
             script,
             [NEVER, 0, NEVER, NEVER],
@@ -206,17 +191,17 @@ fn each_status_has_its_line(rt: HostRuntime) -> Result<(), Fail> {
             "device failed\n",
         ),
         (
-            "A",
+            "drive A",
             ROOM_A,
             script,
             [NEVER, NEVER, 1, NEVER],
             5,
             "device failed\n",
         ),
-        ("B", ROOM_A, script, none, 5, "device failed\n"),
-        ("A", ROOM_A, script, [0, NEVER, NEVER, 0], 5, ""),
+        ("drive B", ROOM_A, script, none, 5, "device failed\n"),
+        ("drive A", ROOM_A, script, [0, NEVER, NEVER, 0], 5, ""),
         (
-            "A",
+            "drive A",
             "7",
             script,
             none,
@@ -224,7 +209,7 @@ fn each_status_has_its_line(rt: HostRuntime) -> Result<(), Fail> {
             "multidata refused: WrongKind /\n",
         ),
         (
-            "A",
+            "drive A",
             "{}",
             script,
             none,
@@ -232,7 +217,7 @@ fn each_status_has_its_line(rt: HostRuntime) -> Result<(), Fail> {
             "multidata refused: MissingField /format\n",
         ),
         (
-            "A",
+            "drive A",
             ROOM_A,
             "open\nopen \n",
             none,
@@ -240,7 +225,7 @@ fn each_status_has_its_line(rt: HostRuntime) -> Result<(), Fail> {
             "script refused: line 2\n",
         ),
         (
-            "A",
+            "drive A",
             ROOM_A,
             "open\nlost 1\nopen x\n",
             none,
@@ -248,19 +233,26 @@ fn each_status_has_its_line(rt: HostRuntime) -> Result<(), Fail> {
             "script refused: line 3\n",
         ),
         (
-            "A",
+            "drive A",
             ROOM_A,
             "open\nlost 1\ncommit\n",
             none,
             7,
             "not built: line 2\n",
         ),
-        ("A", ROOM_A, "text 1 []\n", none, 7, "not built: line 1\n"),
+        (
+            "drive A",
+            ROOM_A,
+            "text 1 []\n",
+            none,
+            7,
+            "not built: line 1\n",
+        ),
     ];
     for (name, file, script, failing, status, line) in cases {
         let outcome = run_words(
             rt.alloc(),
-            &["drive", name],
+            name,
             file.as_bytes(),
             script.as_bytes(),
             failing,
@@ -274,10 +266,10 @@ fn each_status_has_its_line(rt: HostRuntime) -> Result<(), Fail> {
 #[test]
 fn bad_words(rt: HostRuntime) -> Result<(), Fail> {
     let none = [NEVER; 4];
-    let one = run_words(rt.alloc(), &["fly"], b"", b"", none)?;
+    let one = run_words(rt.alloc(), "fly", b"", b"", none)?;
     assert_eq!(rt; one.status, 2);
     assert_eq!(rt; one.err.bytes(), b"bad words\n".as_slice());
-    let three = run_words(rt.alloc(), &["drive", "A", "B"], b"", b"", none)?;
+    let three = run_words(rt.alloc(), "drive A B", b"", b"", none)?;
     assert_eq!(rt; three.status, 2);
     assert_eq!(rt; three.out.bytes(), b"".as_slice());
     Ok(())
@@ -295,13 +287,7 @@ fn gone_where_no_session_is_open(rt: HostRuntime) -> Result<(), Fail> {
 fn cut_seed_file(rt: HostRuntime) -> Result<(), Fail> {
     let whole = ROOM_A.as_bytes();
     for length in 0..whole.len() {
-        let outcome = run_words(
-            rt.alloc(),
-            &["drive", "A"],
-            &whole[..length],
-            b"",
-            [NEVER; 4],
-        )?;
+        let outcome = run_words(rt.alloc(), "drive A", &whole[..length], b"", [NEVER; 4])?;
         assert_eq!(rt; outcome.status, 7, "at {length}");
         assert_eq!(rt;
             outcome.err.bytes(),
@@ -330,21 +316,25 @@ impl Sink for FullSink {
     }
 }
 
-#[test]
-fn no_memory(rt: HostRuntime) -> Result<(), Fail> {
-    let alloc = rt.alloc();
-    let mut files = List::new(alloc);
-    files.push((Text::of(alloc, "A")?, bytes_of(alloc, ROOM_A.as_bytes())?))?;
-    let mut folder = MemoryFolder::new(files, faults(alloc, NEVER)?);
-    let mut input = MemorySource::new(bytes_of(alloc, b"open\n")?, faults(alloc, NEVER)?);
+/// The status and the error line of `drive A` with a sink that has no memory.
+fn without_memory(alloc: Global) -> Result<String, Fail> {
+    let mut folder = folder_of(alloc, ROOM_A.as_bytes(), NEVER)?;
+    let words = words_of(alloc, "drive A")?;
+    let mut input = source_of(alloc, b"open\n", NEVER)?;
     let mut out = FullSink {
         refused: Tally::new(),
     };
-    let mut err = MemorySink::new(alloc, faults(alloc, NEVER)?);
-    let words = vec![in alloc; Text::of(alloc, "drive")?, Text::of(alloc, "A")?]?;
-    let status = run(alloc, &words, &mut folder, &mut input, &mut out, &mut err);
-    assert_eq!(rt; status, 6);
-    assert_eq!(rt; err.bytes(), b"no memory\n".as_slice());
+    let mut err = sink_of(alloc, NEVER)?;
+    let status = ran(alloc, &words, &mut folder, &mut input, &mut out, &mut err);
+    let line = std::str::from_utf8(err.bytes()).or(Err("no text"))?;
+    let status = u64::from(status);
+    Ok(format!(in alloc; "{status} {line}")?)
+}
+
+#[test]
+fn no_memory(rt: HostRuntime) -> Result<(), Fail> {
+    let told = without_memory(rt.alloc())?;
+    assert_eq!(rt; told.as_str(), "6 no memory\n");
     Ok(())
 }
 
