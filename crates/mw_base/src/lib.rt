@@ -16,6 +16,3 @@ pub use memory::Memory;
 pub use options::{Permission, RoomOptions};
 pub use spheres::{SphereList, Spot};
 pub use text::Text;
-
-#[cfg(test)]
-mod tests;

@@ -7,6 +7,3 @@ mod played;
 
 pub use game::{checksum, game_data};
 pub use names::checksum_of_game;
-
-#[cfg(test)]
-mod tests;

@@ -25,6 +25,3 @@ pub use generating::generate;
 pub use laws::has_one_outcome;
 pub use one_try::fill_try;
 pub use seed::{GenerateError, Seed};
-
-#[cfg(test)]
-mod tests;

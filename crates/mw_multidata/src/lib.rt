@@ -30,6 +30,3 @@ pub use reading::read;
 pub use seed::{Game, Held, NamedId, Slot, StartItem};
 pub use tables::RoomTables;
 pub use writing::write;
-
-#[cfg(test)]
-mod tests;

@@ -11,6 +11,3 @@ mod whole;
 pub use message::only_packet;
 pub use packet::{Packet, Version};
 pub use tags::has_tag;
-
-#[cfg(test)]
-mod tests;

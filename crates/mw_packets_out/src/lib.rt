@@ -14,6 +14,3 @@ pub use packet::ServerPacket;
 pub use people::{Connected, NetworkPlayer, NetworkSlot};
 pub use room::{GameSum, RoomInfo};
 pub use write::write_message;
-
-#[cfg(test)]
-mod tests;

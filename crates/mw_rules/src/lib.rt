@@ -16,6 +16,3 @@ pub use named::Named;
 pub use rule::Rule;
 pub use ruling::Ruling;
 pub use steps::{Steps, eval_counted};
-
-#[cfg(test)]
-mod tests;

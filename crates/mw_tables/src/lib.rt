@@ -31,6 +31,3 @@ mod world_shape;
 pub use mw_json::Refusal as TableRefusal;
 pub use players_reading::read_players;
 pub use world_reading::read_world;
-
-#[cfg(test)]
-mod tests;

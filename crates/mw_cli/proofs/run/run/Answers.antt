@@ -44,3 +44,6 @@ returns-in-Err-Memory-clause-reach g c = λ _ _. inr (tables.Memory, record { is
 
 pub returns-in-Err-Memory-clause-drive : goal.returns-in-Err-Memory-clause-drive
 returns-in-Err-Memory-clause-drive g c = λ _ _. inr (drive.Memory, record { is_status = refl; cause = tt; put = inl (Keeps-refl _); line = c.tell-in-Err-Memory.ensures })
+
+pub returns-in-Err-BadWords-clause-other : goal.returns-in-Err-BadWords-clause-other
+returns-in-Err-BadWords-clause-other g c = λ _. (refl, refl, inl (refl, c.tell.ensures))

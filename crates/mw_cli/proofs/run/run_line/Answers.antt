@@ -7,3 +7,15 @@ returns-in-Generate-clause-same g c = λ none.
 
 pub returns-in-Drive-clause-input : goal.returns-in-Drive-clause-input
 returns-in-Drive-clause-input g c = λ none. absurd (none c.in-Drive.words.multidata c.in-Drive.is)
+
+pub returns-in-Generate-clause-ends : goal.returns-in-Generate-clause-ends
+returns-in-Generate-clause-ends g c = rw c.in-Generate.is c.cmd_generate.ensures.ends
+
+pub returns-in-Check-clause-ends : goal.returns-in-Check-clause-ends
+returns-in-Check-clause-ends g c = rw c.in-Check.is c.cmd_check.ensures.ends
+
+pub returns-in-Reach-clause-ends : goal.returns-in-Reach-clause-ends
+returns-in-Reach-clause-ends g c = rw c.in-Reach.is c.cmd_reach.ensures.ends
+
+pub returns-in-Drive-clause-ends : goal.returns-in-Drive-clause-ends
+returns-in-Drive-clause-ends g c = rw c.in-Drive.is c.cmd_drive.ensures.ends

@@ -1,0 +1,23 @@
+//! Tests alone: the worked rows of the crates below the program, and what no clause says of them.
+#![tactic(auto)]
+
+#[cfg(test)]
+mod client_packets;
+#[cfg(test)]
+mod draws;
+#[cfg(test)]
+mod edges;
+#[cfg(test)]
+mod game_names;
+#[cfg(test)]
+mod ids;
+#[cfg(test)]
+mod rules;
+#[cfg(test)]
+mod seed_files;
+#[cfg(test)]
+mod server_packets;
+#[cfg(test)]
+mod tables;
+#[cfg(test)]
+mod trees;

@@ -1,0 +1,158 @@
+ghost use Rattle.std.specs.Prelude.{◌≡◌, ◌<◌, [], ◌∷◌, All, IfOk};
+ghost use Rattle.mw_rules.specs.Rule.{IsWithin, AreWithin};
+ghost use Rattle.mw_rules.specs.Names.{AreNames};
+ghost use Rattle.mw_rules.specs.View.{view, rules_view};
+
+use mw_base::{List, Memory};
+use mw_rules::{Named, Rule, Ruling, Steps, eval, eval_counted};
+use std::alloc::Global;
+use std::marker::Brand;
+use std::sync::ledger::{Blank, Ledger};
+use std::test::Fail;
+
+/// The answer where there are none, one and two of the items 0, 1 and 2, and place 0 of two is in the list.
+fn answer(rule: &Rule) -> bool
+    requires { IsWithin 3 2 (view rule.now) }
+{
+    eval(rule, &[0, 1, 2], &[true, false])
+}
+
+#[test]
+#[tactic(auto, using(mw_rules::proofs::Views::view_of_always, mw_rules::proofs::Views::view_of_never, mw_rules::proofs::Views::view_of_has, mw_rules::proofs::Views::view_of_can_reach))]
+fn forms_without_lists_answer_at_their_edges(rt: HostRuntime) {
+    assert!(rt; answer(&Rule::Always));
+    assert!(rt; !answer(&Rule::Never));
+    assert!(rt; answer(&Rule::Has { item: 1, count: 1 }));
+    assert!(rt; !answer(&Rule::Has { item: 1, count: 2 }));
+    assert!(rt; answer(&Rule::Has { item: 2, count: 2 }));
+    assert!(rt; answer(&Rule::CanReach { place: 0 }));
+    assert!(rt; !answer(&Rule::CanReach { place: 1 }));
+}
+
+/// A list of two of the items.
+fn two(alloc: Global, first: u32, second: u32) -> Result<List<u32>, Memory>
+    requires { (first < 3) × (second < 3) }
+    ensures { IfOk result (λ items. All (λ i. i < 3) items) }
+{
+    let items = vec![in alloc; first, second]?;
+    Ok(List::from_vec(items))
+}
+
+/// A list of two rules.
+fn both(alloc: Global, first: Rule, second: Rule) -> Result<List<Rule>, Memory>
+    requires { IsWithin 3 2 (view first) × IsWithin 3 2 (view second) }
+    ensures { IfOk result (λ rules. AreWithin 3 2 (rules_view rules)) }
+{
+    let rules = vec![in alloc; first, second]?;
+    Ok(List::from_vec(rules))
+}
+
+#[test]
+#[tactic(auto, using(mw_rules::proofs::Views::view_of_has_all, mw_rules::proofs::Views::view_of_has_any, mw_rules::proofs::Views::view_of_count))]
+fn forms_of_items_answer_at_their_edges(rt: HostRuntime) -> Result<(), Fail> {
+    assert!(rt; answer(&Rule::HasAll(List::new(rt.alloc()))));
+    let all = Rule::HasAll(two(rt.alloc(), 1, 2)?);
+    assert!(rt; answer(&all));
+    let all = Rule::HasAll(two(rt.alloc(), 1, 0)?);
+    assert!(rt; !answer(&all));
+    assert!(rt; !answer(&Rule::HasAny(List::new(rt.alloc()))));
+    let any = Rule::HasAny(two(rt.alloc(), 0, 1)?);
+    assert!(rt; answer(&any));
+    let any = Rule::HasAny(two(rt.alloc(), 0, 0)?);
+    assert!(rt; !answer(&any));
+    let items = two(rt.alloc(), 1, 2)?;
+    assert!(rt; answer(&Rule::Count { items, at_least: 3 }));
+    let items = two(rt.alloc(), 1, 2)?;
+    assert!(rt; !answer(&Rule::Count { items, at_least: 4 }));
+    Ok(())
+}
+
+#[test]
+#[tactic(auto, using(mw_rules::proofs::Views::view_of_always, mw_rules::proofs::Views::view_of_never, mw_rules::proofs::Views::view_of_and, mw_rules::proofs::Views::view_of_or))]
+fn forms_of_rules_answer_at_their_edges(rt: HostRuntime) -> Result<(), Fail> {
+    assert!(rt; answer(&Rule::And(List::new(rt.alloc()))));
+    assert!(rt; !answer(&Rule::Or(List::new(rt.alloc()))));
+    let and = Rule::And(both(rt.alloc(), Rule::Always, Rule::Never)?);
+    assert!(rt; !answer(&and));
+    let and = Rule::And(both(rt.alloc(), Rule::Always, Rule::Always)?);
+    assert!(rt; answer(&and));
+    let or = Rule::Or(both(rt.alloc(), Rule::Never, Rule::Always)?);
+    assert!(rt; answer(&or));
+    let or = Rule::Or(both(rt.alloc(), Rule::Never, Rule::Never)?);
+    assert!(rt; !answer(&or));
+    Ok(())
+}
+
+/// Whether the rule holds where there is nothing, counted.
+fn counted<L: Ledger>(blank: Blank, rule: &Rule) -> bool
+    requires name { blank.name ≡ L.name }
+    requires parts { (blank.parts ≡ L.parts) × (blank.parts ≡ 1) }
+    requires within { IsWithin 0 0 (view rule.now) }
+{
+    let mut steps = Steps::<L>::new(blank);
+    eval_counted(rule, &[], &[], &mut steps)
+}
+
+/// The same, with a counter of its own.
+fn answer_counted(rule: &Rule) -> bool
+    requires { IsWithin 0 0 (view rule.now) }
+{
+    counted::<Brand>(Blank::new(1), rule)
+}
+
+#[test]
+#[tactic(auto, using(mw_rules::proofs::Views::view_of_always, mw_rules::proofs::Views::view_of_never))]
+fn a_counted_rule_answers_as_ever(rt: HostRuntime) {
+    assert!(rt; answer_counted(&Rule::Always));
+    assert!(rt; !answer_counted(&Rule::Never));
+}
+
+/// One rule, under the number 0.
+#[derive(Drop)]
+struct OneRule {
+    rule: Rule,
+    named: Named,
+}
+
+impl Ruling for OneRule {
+    ghost stands_for = { λ one rules. (rules ≡ view one.rule ∷ [])
+        × AreNames (view one.rule) one.named.items one.named.places };
+
+    fn count(&self) -> u32 {
+        1
+    }
+
+    fn ask<L: Ledger>(
+        &self,
+        _number: u32,
+        counts: &[u32],
+        places: &[bool],
+        steps: &mut Steps<L>,
+    ) -> bool {
+        eval_counted(&self.rule, counts, places, steps)
+    }
+
+    fn named(&self, _number: u32) -> &Named {
+        &self.named
+    }
+}
+
+#[test]
+#[tactic(auto, using(mw_rules::proofs::Views::view_of_has_all, mw_rules::proofs::Views::view_of_has, mw_rules::proofs::Views::view_of_can_reach, mw_rules::proofs::Views::view_of_and))]
+fn one_rule_tells_its_count_and_its_names(rt: HostRuntime) -> Result<(), Fail> {
+    let rule = Rule::Or(both(
+        rt.alloc(),
+        Rule::HasAll(two(rt.alloc(), 2, 0)?),
+        Rule::And(both(
+            rt.alloc(),
+            Rule::Has { item: 2, count: 3 },
+            Rule::CanReach { place: 1 },
+        )?),
+    )?);
+    let named = Named::of(rt.alloc(), &rule)?;
+    assert_eq!(rt; named.items.as_slice(), [0, 2].as_slice());
+    assert_eq!(rt; named.places.as_slice(), [1].as_slice());
+    let one = OneRule { rule, named };
+    assert_eq!(rt; one.count(), 1);
+    Ok(())
+}

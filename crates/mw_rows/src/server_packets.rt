@@ -1,0 +1,118 @@
+use mw_base::{List, NetItem, Permission, Text};
+use mw_packets_out::{
+    Connected, GameSum, NetworkPlayer, NetworkSlot, RoomInfo, ServerPacket, write_message,
+};
+use std::alloc::Global;
+use std::test::Fail;
+
+fn list<T: Drop>(alloc: Global, item: T) -> Result<List<T>, Fail> {
+    let mut list = List::new(alloc);
+    list.push(item)?;
+    Ok(list)
+}
+
+fn room_info(alloc: Global) -> Result<RoomInfo, Fail> {
+    let sum = GameSum {
+        game: Text::of(alloc, "G")?,
+        checksum: Text::of(alloc, "H")?,
+    };
+    Ok(RoomInfo {
+        password: false,
+        release: Permission::Goal,
+        collect: Permission::Goal,
+        remaining: Permission::Goal,
+        hint_cost: 10,
+        location_check_points: 1,
+        games: list(alloc, sum)?,
+        seed_name: Text::of(alloc, "A")?,
+        time: 0,
+    })
+}
+
+fn connected(alloc: Global) -> Result<Connected, Fail> {
+    let mut players = List::new(alloc);
+    let mut slot_info = List::new(alloc);
+    for (slot, name) in [(1, "Ann"), (2, "Bob")] {
+        players.push(NetworkPlayer {
+            team: 0,
+            slot,
+            name: Text::of(alloc, name)?,
+        })?;
+        slot_info.push(NetworkSlot {
+            slot,
+            name: Text::of(alloc, name)?,
+            game: Text::of(alloc, "G")?,
+        })?;
+    }
+    let mut missing_locations = list(alloc, 101)?;
+    missing_locations.push(102)?;
+    Ok(Connected {
+        team: 0,
+        slot: 1,
+        players,
+        missing_locations,
+        checked_locations: List::new(alloc),
+        slot_info,
+        hint_points: 0,
+    })
+}
+
+#[test]
+fn a_room_presents_itself(rt: HostRuntime) -> Result<(), Fail> {
+    let packets = list(rt.alloc(), ServerPacket::RoomInfo(room_info(rt.alloc())?))?;
+    assert_eq!(rt;
+        write_message(rt.alloc(), &packets)?.as_str(),
+        r#"[{"cmd":"RoomInfo","datapackage_checksums":{"G":"H"},"games":["G"],"generator_version":{"build":0,"class":"Version","major":0,"minor":5},"hint_cost":10,"location_check_points":1,"password":false,"permissions":{"collect":2,"release":2,"remaining":2},"seed_name":"A","tags":[],"time":0,"version":{"build":0,"class":"Version","major":0,"minor":5}}]"#
+    );
+    Ok(())
+}
+
+#[test]
+fn a_session_is_connected(rt: HostRuntime) -> Result<(), Fail> {
+    let boots = NetItem {
+        item: 5,
+        location: -2,
+        player: 0,
+        flags: 0,
+    };
+    let mut packets = list(rt.alloc(), ServerPacket::Connected(connected(rt.alloc())?))?;
+    packets.push(ServerPacket::ReceivedItems {
+        index: 0,
+        items: list(rt.alloc(), boots)?,
+    })?;
+    assert_eq!(rt;
+        write_message(rt.alloc(), &packets)?.as_str(),
+        r#"[{"checked_locations":[],"cmd":"Connected","hint_points":0,"missing_locations":[101,102],"players":[{"alias":"Ann","class":"NetworkPlayer","name":"Ann","slot":1,"team":0},{"alias":"Bob","class":"NetworkPlayer","name":"Bob","slot":2,"team":0}],"slot":1,"slot_data":{},"slot_info":{"1":{"class":"NetworkSlot","game":"G","group_members":[],"name":"Ann","type":1},"2":{"class":"NetworkSlot","game":"G","group_members":[],"name":"Bob","type":1}},"team":0},{"cmd":"ReceivedItems","index":0,"items":[{"class":"NetworkItem","flags":0,"item":5,"location":-2,"player":0}]}]"#
+    );
+    Ok(())
+}
+
+#[test]
+fn a_location_is_checked(rt: HostRuntime) -> Result<(), Fail> {
+    let update = ServerPacket::RoomUpdate {
+        checked_locations: list(rt.alloc(), 101)?,
+        hint_points: 1,
+    };
+    assert_eq!(rt;
+        write_message(rt.alloc(), &list(rt.alloc(), update)?)?.as_str(),
+        r#"[{"checked_locations":[101],"cmd":"RoomUpdate","hint_points":1}]"#
+    );
+    Ok(())
+}
+
+#[test]
+fn slots_stand_in_byte_order(rt: HostRuntime) -> Result<(), Fail> {
+    let mut it = connected(rt.alloc())?;
+    it.slot_info.push(NetworkSlot {
+        slot: 10,
+        name: Text::of(rt.alloc(), "Cy")?,
+        game: Text::of(rt.alloc(), "G")?,
+    })?;
+    let packets = list(rt.alloc(), ServerPacket::Connected(it))?;
+    let text = write_message(rt.alloc(), &packets)?;
+    let first = text.as_str().find(r#""1":{"#);
+    let tenth = text.as_str().find(r#""10":{"#);
+    let second = text.as_str().find(r#""2":{"#);
+    assert!(rt; first < tenth && tenth < second);
+    Ok(())
+}
