@@ -7,9 +7,15 @@ pub record MemoryStream : Type 0 where
   pub bytes : List ℕ
   pub plan : FaultPlan
 
--- a folder's files, each a name and its bytes, and which calls fail
+-- a folder's files, each a name and its bytes, and how often it has refused to write one
+pub record SteadyFiles : Type 0 where
+  pub files : List (List ℕ × List ℕ)
+  pub refused : ℕ
+
+-- the same, and which calls fail
 pub record MemoryFiles : Type 0 where
   pub files : List (List ℕ × List ℕ)
+  pub refused : ℕ
   pub plan : FaultPlan
 
 -- a sink's bytes that were put, and how often memory for more was wanting

@@ -23,3 +23,7 @@ writer_faults s = s.faults
 -- how often a folder of the system has failed
 abbrev pub system_faults : {R F D : Type 0} → SystemFolder R F D → ℕ
 system_faults s = s.faults
+
+-- how often a folder of the system has refused to write a file
+abbrev pub system_refusals : {R F D : Type 0} → SystemFolder R F D → ℕ
+system_refusals s = s.refused

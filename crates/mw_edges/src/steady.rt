@@ -143,42 +143,49 @@ impl Sink for SteadySink {
 }
 
 /// A folder of files in memory, which never fails: a file that was not given is there, and empty.
-/// Contracts see the files, each a name and its bytes; of two with one name the first counts.
+/// Contracts see the files, each a name and its bytes, and how often a write was refused; of two with
+/// one name the first counts.
 #[derive(Drop)]
 pub struct SteadyFolder {
     files: Vec<(Text, Bytes)>,
+    refused: Tally,
 }
 
 impl Model for SteadyFolder {
-    ghost use Rattle.std.specs.Prelude.{ℕ, List};
+    ghost use Rattle.mw_edges.specs.Memory.{SteadyFiles};
 
-    ghost Value = { List (List ℕ × List ℕ) };
+    ghost Value = { SteadyFiles };
 
-    ghost view = { λ s. s.files.items };
+    ghost view = { λ s. record { files = s.files.items; refused = s.refused } };
 }
 
 impl SteadyFolder {
     /// A folder of these files.
     pub fn new(files: List<(Text, Bytes)>) -> SteadyFolder
-        ensures { result ≡ files }
+        ensures files { result.files ≡ files }
+        ensures refused { result.refused ≡ 0 }
     {
         SteadyFolder {
             files: files.into_vec(),
+            refused: Tally::new(),
         }
     }
 }
 
 impl Folder for SteadyFolder {
-    ghost holds = { λ s name. steady_file s name };
+    ghost holds = { λ s name. steady_file s.files name };
 
     ghost faults = { λ _. 0 };
 
+    ghost refusals = { λ s. s.refused };
+
     fn read_file(&mut self, alloc: Global, name: &Text, limit: u64) -> Result<FileRead, FolderError>
-        ensures read { IfOk result (GivesFile (steady_file self.old name.now) limit) }
-        ensures same { (n : List ℕ) → steady_file self.new n ≡ steady_file self.old n }
-        ensures files { self.new ≡ self.old }
+        ensures read { IfOk result (GivesFile (steady_file self.old.files name.now) limit) }
+        ensures same { (n : List ℕ) → steady_file self.new.files n ≡ steady_file self.old.files n }
+        ensures files { self.new.files ≡ self.old.files }
         ensures steady { result ≢ Err FolderError.Failed }
         ensures cause { HasCause 0 0 FolderError.Failed result }
+        ensures unrefused { self.new.refused ≡ self.old.refused }
     {
         let Some(bytes) = find_file(self.files.as_slice(), name.as_str()) else {
             return Ok(FileRead::Whole(Bytes::new(alloc)));
@@ -191,17 +198,22 @@ impl Folder for SteadyFolder {
 
     #[tactic(auto, using(crate::proofs::Replaced::file_there, crate::proofs::Replaced::others_there))]
     fn write_file(&mut self, alloc: Global, name: &Text, bytes: &[u8]) -> Result<(), FolderError>
-        ensures written { OnOk result (IsWritten (steady_file self.old name.now) (steady_file self.new name.now) bytes.now) }
-        ensures untold { steady_file self.old name.now ≡ None → steady_file self.new name.now ≡ None }
-        ensures others { (n : List ℕ) → n ≢ name.now → steady_file self.new n ≡ steady_file self.old n }
-        ensures files { OnOk result (self.new ≡ with_file self.old name.now bytes.now) }
-        ensures same { OnErr result (self.new ≡ self.old) }
+        ensures written { OnOk result (IsWritten (steady_file self.old.files name.now) (steady_file self.new.files name.now) bytes.now) }
+        ensures untold { steady_file self.old.files name.now ≡ None → steady_file self.new.files name.now ≡ None }
+        ensures others { (n : List ℕ) → n ≢ name.now → steady_file self.new.files n ≡ steady_file self.old.files n }
+        ensures files { OnOk result (self.new.files ≡ with_file self.old.files name.now bytes.now) }
+        ensures same { OnErr result (self.new.files ≡ self.old.files) }
         ensures steady { result ≢ Err FolderError.Failed }
         ensures cause { HasCause 0 0 FolderError.Failed result }
+        ensures counted { CountsErr self.old.refused self.new.refused result }
+        ensures refused { HasFault self.old.refused self.new.refused result }
     {
         match write_bytes(alloc, &mut self.files, name.as_str(), bytes) {
             Ok(()) => Ok(()),
-            Err(_) => Err(FolderError::Memory),
+            Err(_) => {
+                self.refused.raise();
+                Err(FolderError::Memory)
+            }
         }
     }
 }
