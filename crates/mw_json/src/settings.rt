@@ -8,9 +8,16 @@ ghost use Rattle.mw_json.specs.declared.refusal.Step.TheVariants.{Name};
 use crate::grammar::{copy_short, refuse, text_of};
 use crate::parts::number_between;
 use crate::refusal::{Kind, Refusal, Step};
+use crate::seen::Seen;
 use crate::tree::Tree;
 use mw_base::{Permission, Text};
 use std::alloc::Global;
+
+impl Seen for Permission {
+    ghost Plain = { ℕ };
+
+    ghost seen = { permission_number };
+}
 
 fn remaining_word(alloc: Global, word: &str) -> Result<Permission, Refusal>
     ensures { GivesBy permission_number result (remaining_of word.now) }
