@@ -12,6 +12,8 @@ mod game_names;
 #[cfg(test)]
 mod ids;
 #[cfg(test)]
+mod reaching;
+#[cfg(test)]
 mod room_a;
 #[cfg(test)]
 mod rooms;
