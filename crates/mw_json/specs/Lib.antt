@@ -5,4 +5,5 @@ pub mod Paths
 pub mod Readers
 pub mod Reading
 pub mod Settings
+pub mod Valid
 pub mod View
