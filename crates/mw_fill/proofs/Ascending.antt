@@ -9,7 +9,7 @@ use Rattle.mw_multi.specs.World.{Location}
 use Rattle.mw_multi.specs.Joint.{Slot, Joint, IsJoint, AreNumbered, slot_places, slot_items, place_total}
 use Rattle.mw_multi.specs.Steps.{location_place}
 use Rattle.mw_multi.specs.Placement.{Put, PutKept, IsPlacement, put_place, stands_at}
-use Rattle.mw_fill.specs.Numbered.{each_numbered}
+use Rattle.mw_multi.specs.Numbered.{each_numbered}
 use Rattle.mw_fill.specs.Openings.{Opening, opening_of, opening_at, slot_openings, openings_of}
 use Rattle.mw_fill.specs.Fill.{what_stands}
 use Rattle.mw_fill.specs.Try.{or_filler, end_put, placement_of}

@@ -1,4 +1,3 @@
-pub mod Numbered
 pub mod Pools
 pub mod Locations
 pub mod Fitting

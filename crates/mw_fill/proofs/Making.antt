@@ -18,7 +18,7 @@ use Rattle.mw_fill.specs.declared.group.Group.TheVariants.{Asked, Helping, Filli
 use Rattle.mw_fill.specs.Copies.{ItemCopy, is_of, item_is_of, copy_of, entry_copies, slot_copies, has_others, copies_of}
 use Rattle.mw_fill.specs.Openings.{Opening, opening_of, opening_at, slot_openings, openings_of}
 use Rattle.mw_fill.specs.Try.{filler_at}
-use Rattle.mw_fill.proofs.Numbered.{numbered_all}
+use Rattle.mw_multi.proofs.Numbered.{numbered_all}
 use Rattle.mw_fill.proofs.Keeping.{IsCounted}
 use Rattle.mw_fill.proofs.Tidy.{IsIdle, is_site}
 

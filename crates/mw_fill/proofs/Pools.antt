@@ -14,7 +14,7 @@ use Rattle.mw_fill.specs.Kept.{CopyKept}
 use Rattle.mw_multi.proofs.Sites.{get_some}
 use Rattle.mw_fill.specs.declared.group.Group.{Group}
 use Rattle.mw_fill.specs.Copies.{is_of, item_is_of, copy_of, entry_copies, slot_copies, copies_of, has_others}
-use Rattle.mw_fill.proofs.Numbered.{numbered_le, numbered_all}
+use Rattle.mw_multi.proofs.Numbered.{numbered_le, numbered_all}
 
 -- what an entry's copies are, by the class of its item
 pub entry_is : (group : Group) (many : Bool) (number : ℕ) (s : Slot) (e : PoolEntry) (items : List Item) (item : Item) (here : Bool) → items ≡ s.world.items → e.item < length items → item ≡ get_or items e.item item

@@ -2,7 +2,7 @@ ghost use Rattle.std.specs.Prelude.{◌≡◌, ◌<◌, ◌≤◌, ◌+◌, ◌-
 ghost use Rattle.mw_rules.specs.Holds.{bag_of};
 ghost use Rattle.mw_multi.specs.WorldKept.{copies};
 ghost use Rattle.mw_multi.specs.Joint.{item_total, slot_items};
-ghost use Rattle.mw_multi.specs.Bags.{entries_count, slot_start, slot_pool, start_count, pool_count, IsBagOf};
+ghost use Rattle.mw_multi.specs.Bags.{entries_count, slot_start, slot_pool, start_count, everything, IsBagOf};
 
 use crate::joint::Joint;
 use crate::slot::Slot;
@@ -79,7 +79,7 @@ impl Bag {
 
     /// What the joint's slots begin with and all that their pools have; `Memory` where memory ran out.
     pub fn everything(alloc: Global, joint: &Joint) -> Result<Bag, Memory>
-        ensures { IfOk result (IsBagOf joint.now.slots (λ n. start_count joint.now.slots n + pool_count joint.now.slots n)) }
+        ensures { IfOk result (IsBagOf joint.now.slots (everything joint.now.slots)) }
     {
         let mut bag = Bag::starting(alloc, joint)?;
         for slot in joint.slots.as_slice() {

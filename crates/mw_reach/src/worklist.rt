@@ -1,4 +1,4 @@
-ghost use Rattle.std.specs.Prelude.{◌≡◌, ◌<◌, ◌≤◌, ◌+◌, ◌^◌, ℕ, [], ◌∷◌, None, false, true, length, All, map, slice_index, slice_index_or, slice_set, sum_by};
+ghost use Rattle.std.specs.Prelude.{◌≡◌, ◌<◌, ◌≤◌, ◌+◌, ◌^◌, ℕ, [], ◌∷◌, None, false, true, length, All, map, slice_index, slice_index_or, slice_set};
 ghost use Rattle.mw_rules.specs.Holds.{Bag, Places, bag_of, places_of, holds as rule_holds};
 ghost use Rattle.mw_rules.specs.Rule.{IsWithin};
 ghost use Rattle.mw_rules.specs.Ruling.{rule_at};
@@ -317,12 +317,13 @@ pub(crate) fn reach_rows<R: Ruling, L: Ledger>(
     requires tables { (length listed.old ≡ length done.old) × (length queue.old ≡ length done.old) × (length placed.now ≡ length done.old) }
     requires counts { length counts.old ≡ length base.now }
     requires items { LiesWithin (length base.now) placed.now }
-    requires few { sum_by length placed.now < 2 ^ 31 }
     requires small { All (λ n. n < 2 ^ 31) base.now }
     ensures steps { steps.new ≤ steps.old + asks_allowed (steps_in joint.now rows.now) placed.now done.new }
     ensures least { IsLeast (steps_in joint.now rows.now) (bag_of base.now) placed.now (places_of done.new) }
     ensures counts { (i : ℕ) → bag_of counts.new i ≡ bag_with (bag_of base.now) placed.now (places_of done.new) i }
 {
+    // Asking for the length makes known what the table keeps.
+    let _ = placed.len();
     done.fill(false);
     listed.fill(false);
     counts.copy_from_slice(base);
