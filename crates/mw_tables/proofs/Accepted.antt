@@ -22,7 +22,7 @@ use Rattle.mw_tables.specs.WorldNames.{item_named, items_named, raw_entrance_nam
 use Rattle.mw_tables.specs.WorldOf.{resolved}
 use Rattle.mw_tables.specs.WorldShape.{entry_count, world_shape_at}
 use Rattle.mw_tables.proofs.Distinct.{FirstAt, FirstIdAt, names_differ, ids_differ}
-use Rattle.mw_tables.proofs.Passing.{after, within}
+use Rattle.mw_json.proofs.Passing.{after, within}
 use Rattle.mw_tables.proofs.RuleResolved.{places, region_within, Passes, such_passes, rule_resolved}
 use Rattle.mw_tables.proofs.Shaped.{RawEntranceKept, EventStands, RawLocationKept, RawEntryKept, IsShaped, world_shaped, shaped_is_small}
 

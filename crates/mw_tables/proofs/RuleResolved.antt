@@ -23,7 +23,7 @@ use Rattle.mw_tables.specs.Raw.{RawWorld, RawRule, always, never, has, has_all, 
 use Rattle.mw_tables.specs.RuleNames.{region_named, known_item, item_such, rule_item, listed_item, listed_items, raw_location_name, location_place, rule_named, rules_named}
 use Rattle.mw_tables.proofs.Distinct.{regroup}
 use Rattle.mw_tables.proofs.Indexing.{index_of-within}
-use Rattle.mw_tables.proofs.Passing.{after, within}
+use Rattle.mw_json.proofs.Passing.{after, within}
 use Rattle.mw_tables.proofs.RawKept.{InLimits, AreInLimits, RawRuleKept}
 
 -- how many places a world has

@@ -77,3 +77,7 @@ abbrev mutual
     first ← under (Index i) (rule_named w r)
     others ← rules_named w (i + 1) rs
     Ok (first ∷ others)
+
+-- the rules under a name
+abbrev pub rules_under : List ℕ → RawWorld → RawRules → Result (List Rule) Breach
+rules_under name w rs = under (Name name) (rules_named w 0 rs)

@@ -4,7 +4,6 @@
 mod format;
 mod index;
 mod item_names;
-mod lift;
 mod named;
 mod names;
 mod once;
