@@ -11,5 +11,6 @@ pub mod Permuting
 pub mod Keeping
 pub mod Tidy
 pub mod Making
+pub mod Everything
 pub mod Beaten
 pub mod Determined

@@ -52,11 +52,11 @@ copies_are_few group joint kept =
 
 -- ---- whose they are
 
-some_item : (o : Option Item) → has_id o ≡ true → is_some o ≡ true
+pub some_item : (o : Option Item) → has_id o ≡ true → is_some o ≡ true
 some_item (Some i) e = refl
 some_item None e = cc
 
-item_within : (items : List Item) (k : ℕ) → is_some (slice_get items k) ≡ true → k < length items
+pub item_within : (items : List Item) (k : ℕ) → is_some (slice_get items k) ≡ true → k < length items
 item_within [] k e = cc
 item_within (i ∷ items) zero e = omega arith
 item_within (i ∷ items) (suc k) e = omega (arith, item_within items k e)

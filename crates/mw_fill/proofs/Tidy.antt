@@ -5,13 +5,14 @@ use Rattle.std.specs.List.{list_any}
 use Rattle.std.proofs.lemmas.Bool.{cases_Bool, cond-true, cond-false}
 use Rattle.std.proofs.lemmas.Bool.Decides.{Decides-eqb}
 use Rattle.mw_multi.specs.Joint.{Slot, Joint}
-use Rattle.mw_multi.specs.Placement.{Put, slot_at, numbers_of, put_numbers, stands_at, standing}
+use Rattle.mw_multi.specs.Placement.{Put, slot_at, numbers_of, put_numbers, stands_at, standing, what_stands}
 use Rattle.mw_multi.proofs.Standing.{standing_push}
 use Rattle.mw_fill.specs.Copies.{ItemCopy}
 use Rattle.mw_fill.specs.Openings.{Opening, accepts}
-use Rattle.mw_fill.specs.Fill.{filled, stuck_with, put_of, first_fit, or_stuck, what_stands, is_reached, FillRun, placed_anywhere}
+use Rattle.mw_fill.specs.Fill.{filled, stuck_with, put_of, first_fit, or_stuck, is_reached, FillRun, placed_anywhere}
 use Rattle.mw_fill.specs.Try.{filler_at, or_filler, end_put}
-use Rattle.mw_fill.proofs.Fitting.{find_all, free_there, stands_more, stands_still}
+use Rattle.mw_multi.proofs.WhatStands.{stands_more, stands_still}
+use Rattle.mw_fill.proofs.Fitting.{find_all, free_there}
 use Rattle.mw_fill.proofs.Ascending.{Rises, place_of, end_place}
 
 -- the numbers of what stands there

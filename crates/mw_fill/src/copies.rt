@@ -47,7 +47,8 @@ fn push_entry(
 ) -> Result<(), Memory>
     requires item { entry.item < slot_items slot.now }
     requires fits { slot.now.first_item + slot_items slot.now < 2 ^ 32 }
-    ensures { OnOk result (copies.new ≡ copies.old ++ entry_copies group many number slot.now entry) }
+    ensures { OnOk result (copies.new ≡ copies.old
+        ++ entry_copies group many number slot.now entry) }
 {
     let world = slot.world;
     let item = &world.items.as_slice()[entry.item as usize];

@@ -49,7 +49,8 @@ fn push_opening(
 ) -> Result<(), Memory>
     requires index { index < length slot.now.world.locations }
     requires fits { slot.now.first_place + slot_places slot.now < 2 ^ 32 }
-    ensures { OnOk result (openings.new ≡ openings.old ++ opening_at number slot.now index location.now) }
+    ensures { OnOk result (openings.new ≡ openings.old
+        ++ opening_at number slot.now index location.now) }
 {
     if location.id.is_some() {
         openings.push(opening_of(number, slot, index, location))?;
