@@ -23,7 +23,7 @@ pub struct Multidata {
 
 impl Model for Multidata {
     ghost use Rattle.mw_model.specs.Seed as plain;
-    ghost use Rattle.mw_multidata.specs.SeedOf.{IsAccepted};
+    ghost use Rattle.mw_multidata.specs.SeedKept.{IsSeed};
 
     ghost Value = { plain.Seed };
 
@@ -37,7 +37,7 @@ impl Model for Multidata {
       spheres = m.spheres;
     } };
 
-    ghost invariant = { λ m. IsAccepted record {
+    ghost invariant = { λ m. IsSeed record {
       seed_name = m.seed_name;
       teams = m.teams;
       server = m.server;
