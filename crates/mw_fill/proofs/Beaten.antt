@@ -29,8 +29,8 @@ use Rattle.mw_fill.proofs.Trying.{regular_all, all_kinds_all}
 use Rattle.mw_fill.proofs.Locations.{openings_kept}
 use Rattle.mw_fill.proofs.Ascending.{end_place, slots_rise}
 use Rattle.mw_fill.proofs.Keeping.{IsCounted, found_same, as_good}
-use Rattle.mw_fill.proofs.Tidy.{IsTidy, IsIdle, numbers_held, is_site, tidy_nothing, tidy_run, tidy_anywhere, placement_stands}
-use Rattle.mw_fill.proofs.Making.{asked_counted, helping_idle, filling_idle, fillers_idle, own_sites}
+use Rattle.mw_fill.proofs.Tidy.{IsTidy, IsIdle, numbers_held, is_opening, tidy_nothing, tidy_run, tidy_anywhere, placement_stands}
+use Rattle.mw_fill.proofs.Making.{asked_counted, helping_idle, filling_idle, fillers_idle, own_openings}
 
 -- ---- what stands where
 
@@ -48,10 +48,10 @@ no_events joint kept puts =
     (All-map (λ put. is_at_no_event joint.slots put ≡ true) (end_put puts) (openings_of joint)
     (λ i d l. ap (λ p. has_no_event (site_at joint.slots p)) (end_place puts (get_or (openings_of joint) i d)) ∙ (openings_kept joint kept i d l).no_event))
 
-nothing_else : (slots : List Slot) (sites : List Opening) (puts : List Put) (place : ℕ) (b : Bool) → is_site sites place ≡ b → IsTidy slots sites puts
+nothing_else : (slots : List Slot) (whole : List Opening) (puts : List Put) (place : ℕ) (b : Bool) → is_opening whole place ≡ b → IsTidy slots whole puts
     → cond b (numbers_held slots (what_stands puts place)) [] ≡ numbers_held slots (what_stands puts place)
-nothing_else slots sites puts place true e tidy = refl
-nothing_else slots sites puts place false e tidy = sym (ap (numbers_held slots) (tidy.sited place e))
+nothing_else slots whole puts place true e tidy = refl
+nothing_else slots whole puts place false e tidy = sym (ap (numbers_held slots) (tidy.elsewhere place e))
 
 -- where the copies that rules ask for were put first, and others that no rule asks for
 pub stands_alike : (joint : Joint) → IsJoint joint → (first puts : List Put) → IsTidy joint.slots (openings_of joint) puts → ((place : ℕ) → standing joint.slots puts place ≡ standing joint.slots first place)
@@ -63,7 +63,7 @@ stands_alike joint kept first puts tidy same place =
     ∙ ap (λ ps. standing slots (events_of joint) place ++ standing slots ps place) (no_events joint kept puts)
     ∙ ap (λ ns. standing slots (events_of joint) place ++ ns)
     (placement_stands slots puts openings 0 (0 + place_total slots) place (slots_rise 1 0 0 slots kept.numbered) (fillers_idle joint kept)
-    ∙ nothing_else slots openings puts place (is_site openings place) refl tidy ∙ sym (tidy.alone place) ∙ same place)
+    ∙ nothing_else slots openings puts place (is_opening openings place) refl tidy ∙ sym (tidy.alone place) ∙ same place)
     ∙ sym (standing_on slots (events_of joint) first place)
 
 -- ---- a try that gives a placement
@@ -100,25 +100,25 @@ module _ (joint : Joint) (kept : IsJoint joint) (seed stream : ℕ) (puts : List
   abbrev lists : Lists
   lists = lists_of joint seed stream
 
-  abbrev sites : List Opening
-  sites = openings_of joint
+  abbrev whole : List Opening
+  whole = openings_of joint
 
-  openings_are : (P : Opening → Type 0) → All P sites → All P lists.openings
-  openings_are P h = shuffled_all P words (openings_begin (stock_of joint)) sites h
+  openings_are : (P : Opening → Type 0) → All P whole → All P lists.openings
+  openings_are P h = shuffled_all P words (openings_begin (stock_of joint)) whole h
 
-  first_tidy : IsTidy joint.slots sites parts.first
+  first_tidy : IsTidy joint.slots whole parts.first
   first_tidy =
-      tidy_run joint sites (regular lists.openings) lists.asked [] parts.first (regular_all (λ s. is_site sites s.place ≡ true) lists.openings (openings_are (λ s. is_site sites s.place ≡ true) (own_sites sites)))
-      (tidy_nothing joint.slots sites) parts.run
+      tidy_run joint whole (regular lists.openings) lists.asked [] parts.first (regular_all (λ s. is_opening whole s.place ≡ true) lists.openings (openings_are (λ s. is_opening whole s.place ≡ true) (own_openings whole)))
+      (tidy_nothing joint.slots whole) parts.run
 
   pub alike : (place : ℕ) → standing joint.slots (with_events joint (placement_of joint puts)) place ≡ standing joint.slots (events_of joint ++ parts.first) place
   alike =
-      let there = openings_are (λ s. is_site sites s.place ≡ true) (own_sites sites) in
+      let there = openings_are (λ s. is_opening whole s.place ≡ true) (own_openings whole) in
       let two =
-      tidy_anywhere joint.slots sites (regular lists.openings) lists.helping parts.first parts.second (regular_all (λ s. is_site sites s.place ≡ true) lists.openings there)
+      tidy_anywhere joint.slots whole (regular lists.openings) lists.helping parts.first parts.second (regular_all (λ s. is_opening whole s.place ≡ true) lists.openings there)
       (shuffled_all (IsIdle joint.slots) words (helping_begin (stock_of joint)) (copies_of Helping joint) (helping_idle joint)) first_tidy parts.helping in
       let three =
-      tidy_anywhere joint.slots sites (all_kinds lists.openings) lists.filling parts.second puts (all_kinds_all (λ s. is_site sites s.place ≡ true) lists.openings there)
+      tidy_anywhere joint.slots whole (all_kinds lists.openings) lists.filling parts.second puts (all_kinds_all (λ s. is_opening whole s.place ≡ true) lists.openings there)
       (shuffled_all (IsIdle joint.slots) words (filling_begin (stock_of joint)) (copies_of Filling joint) (filling_idle joint)) two.tidy parts.filling in
       stands_alike joint kept parts.first puts three.tidy (λ place. three.same place ∙ two.same place)
 

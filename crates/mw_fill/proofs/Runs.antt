@@ -69,9 +69,6 @@ module _ (joint : Joint) (kept : IsJoint joint) (openings : List Opening) (copie
   pub has_number_here : copy.number < length hand
   has_number_here = omega (arith, so_far.hand_is.size, copy_kept.number)
 
-  pub some_in_hand : 1 ≤ get_or hand copy.number 0
-  some_in_hand = omega (arith, before copy.number, count_more copy later copy.number true ((Decides-eqb copy.number copy.number).1 refl))
-
   pub hand_after : IsBagOf joint.slots (in_hand joint later) less
   hand_after = record {
     size = length-set hand copy.number (get_or hand copy.number 0 - 1) ∙ so_far.hand_is.size;

@@ -1,7 +1,8 @@
 ghost use Rattle.std.specs.Prelude.{◌≡◌, ◌<◌, ◌≤◌, ◌&&◌, [], None, List, All, MatchResult, find, length, replicate};
 ghost use Rattle.mw_rules.specs.Holds.{Places, bag_of};
 ghost use Rattle.mw_multi.specs.Joint.{place_total};
-ghost use Rattle.mw_multi.specs.Placement.{Put as PlainPut, IsPlaced};
+ghost use Rattle.mw_multi.specs.Placement as plain;
+ghost use Rattle.mw_multi.specs.Placement.{IsPlaced};
 ghost use Rattle.mw_multi.specs.Steps.{steps_of};
 ghost use Rattle.mw_multi.specs.Events.{events_of};
 ghost use Rattle.mw_multi.specs.Bags.{IsBagOf};
@@ -85,7 +86,7 @@ pub(crate) fn place_asked(
     ensures kept { IsMadeFor joint.now reached.new }
     ensures rules { KeepsRules joint.now reached.new }
     ensures answer { MatchResult result
-        (λ _. (puts : List PlainPut) × IsHeldFor joint.now puts held.new
+        (λ _. (puts : List plain.Put) × IsHeldFor joint.now puts held.new
         × FillRun is_reached joint.now openings.now copies.now [] (filled puts))
         (λ e. OnStuck e (λ slot item. FillRun is_reached joint.now openings.now copies.now []
         (stuck slot item))) }

@@ -1,8 +1,9 @@
 ghost use Rattle.std.specs.Prelude.{◌≡◌, ◌<◌, ◌^◌, List, IfOk, OnOk, length};
-ghost use Rattle.mw_multi.specs.Joint.{Slot as PlainSlot};
+ghost use Rattle.mw_multi.specs.Joint.{Slot};
 ghost use Rattle.mw_fill.specs.ListsKept.{AreKept, AreShort};
 ghost use Rattle.mw_fill.specs.Draws.{start_of, words_of, at_place, shuffled, place_after};
-ghost use Rattle.mw_fill.specs.Try.{stock_of as plain_stock, shuffled_lists};
+ghost use Rattle.mw_fill.specs.Try as plain;
+ghost use Rattle.mw_fill.specs.Try.{shuffled_lists};
 
 use crate::copies::copies_of;
 use crate::draws::{Words, shuffle_entries};
@@ -38,7 +39,7 @@ impl Model for Lists {
 
 /// The copies and the locations of a joint, in the order of its tables; `Memory` where memory ran out.
 pub(crate) fn stock_of(alloc: Global, joint: &Joint) -> Result<Lists, Memory>
-    ensures lists { IfOk result (λ stock. stock ≡ plain_stock joint.now) }
+    ensures lists { IfOk result (λ stock. stock ≡ plain.stock_of joint.now) }
     ensures kept { IfOk result (AreKept joint.now.slots) }
     ensures short { IfOk result AreShort }
 {
@@ -81,7 +82,7 @@ pub(crate) fn lists_of(
     requires { AreShort stock.now }
     ensures lists { IfOk result (λ lists. lists
         ≡ shuffled_lists stock.now (words_of (start_of seed stream))) }
-    ensures kept { IfOk result (λ lists. (slots : List PlainSlot) → AreKept slots stock.now
+    ensures kept { IfOk result (λ lists. (slots : List Slot) → AreKept slots stock.now
         → AreKept slots lists) }
 {
     let mut words = Words::new(seed, stream);

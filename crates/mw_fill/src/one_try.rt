@@ -1,5 +1,6 @@
 ghost use Rattle.std.specs.Prelude.{◌≡◌, ◌<◌, ◌≤◌, [], List, All, IfOk, MatchResult, length};
-ghost use Rattle.mw_multi.specs.Placement.{Put as PlainPut, IsPlacement};
+ghost use Rattle.mw_multi.specs.Placement as plain;
+ghost use Rattle.mw_multi.specs.Placement.{IsPlacement};
 ghost use Rattle.mw_fill.specs.Fill.{filled, stuck, is_reached, FillRun};
 ghost use Rattle.mw_fill.specs.Kept.{CopyKept, OpeningKept, IsHeldFor};
 ghost use Rattle.mw_reach.specs.Reached.{IsMadeFor, KeepsRules};
@@ -48,7 +49,7 @@ fn place_first(
     ensures kept { IsMadeFor joint.now reached.new }
     ensures rules { KeepsRules joint.now reached.new }
     ensures answer { MatchResult result
-        (λ _. (puts : List PlainPut) × IsHeldFor joint.now puts held.new
+        (λ _. (puts : List plain.Put) × IsHeldFor joint.now puts held.new
         × FillRun is_reached joint.now openings.now copies.now [] (filled puts))
         (λ e. OnStuck e (λ slot item. FillRun is_reached joint.now openings.now copies.now []
         (stuck slot item))) }
@@ -81,7 +82,7 @@ fn place_all(
     ensures kept { IsMadeFor joint.now reached.new }
     ensures rules { KeepsRules joint.now reached.new }
     ensures answer { MatchResult result
-        (λ _. (puts : List PlainPut) × IsHeldFor joint.now puts held.new
+        (λ _. (puts : List plain.Put) × IsHeldFor joint.now puts held.new
         × IsOutcome joint.now lists.now (filled puts))
         (λ e. OnStuck e (λ slot item. IsOutcome joint.now lists.now (stuck slot item))) }
 {
@@ -121,7 +122,7 @@ fn place_lists(
     ensures kept { IsMadeFor joint.now reached.new }
     ensures rules { KeepsRules joint.now reached.new }
     ensures answer { MatchResult result
-        (λ placement. (puts : List PlainPut) × IsOutcome joint.now lists.now (filled puts)
+        (λ placement. (puts : List plain.Put) × IsOutcome joint.now lists.now (filled puts)
         × (placement ≡ placement_of joint.now puts))
         (λ e. OnStuck e (λ slot item. IsOutcome joint.now lists.now (stuck slot item))) }
     ensures placement { IfOk result (IsPlacement joint.now) }

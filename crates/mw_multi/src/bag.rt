@@ -33,7 +33,8 @@ fn add_entries(bag: &mut Bag, first_item: u32, entries: &[PoolEntry])
     requires within { All (λ e. first_item + e.item < length bag.old) entries.now }
     requires room { (n : ℕ) → bag_of bag.old n + sum_by copies entries.now < 2 ^ 31 }
     ensures size { length bag.new ≡ length bag.old }
-    ensures counts { (n : ℕ) → bag_of bag.new n ≡ bag_of bag.old n + entries_count first_item entries.now n }
+    ensures counts { (n : ℕ) → bag_of bag.new n ≡ bag_of bag.old n
+        + entries_count first_item entries.now n }
 {
     for entry in entries {
         bag.add(first_item + entry.item, entry.count);

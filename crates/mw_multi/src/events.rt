@@ -45,8 +45,9 @@ fn put_events(placed: &mut Placed, joint: &Joint, before: usize) -> Result<(), M
     requires slot { before < length joint.now.slots }
     requires room { sum_by length placed.old + 10000 < 2 ^ 31 }
     ensures more { OnOk result (sum_by length placed.new ≤ sum_by length placed.old + 10000) }
-    ensures put { OnOk result ((puts : List PlainPut) (s : PlainSlot) → slice_get joint.now.slots before ≡ Some s
-        → IsPlaced joint.now.slots puts placed.old → IsPlaced joint.now.slots (puts ++ slot_events (before + 1) s) placed.new) }
+    ensures put { OnOk result ((puts : List PlainPut) (s : PlainSlot)
+        → slice_get joint.now.slots before ≡ Some s → IsPlaced joint.now.slots puts placed.old
+        → IsPlaced joint.now.slots (puts ++ slot_events (before + 1) s) placed.new) }
 {
     let slot = &joint.slots.as_slice()[before];
     let world = slot.world;

@@ -64,7 +64,9 @@ pub type NameIndex<'a> = HashMap<&'a str, u32>;
 
 /// Notes a name at a place, unless it stands at an earlier one.
 pub(crate) fn note_name<'a>(index: &mut NameIndex<'a>, name: &'a str, at: u32) -> Result<(), Memory>
-    ensures { OnOk result ((q : List ℕ) → hash.get_by (λ k. bytes_eq q k.now) index.new ≡ or_here (hash.get_by (λ k. bytes_eq q k.now) index.old) (bytes_eq name.now q) at) }
+    ensures { OnOk result ((q : List ℕ)
+        → hash.get_by (λ k. bytes_eq q k.now) index.new
+        ≡ or_here (hash.get_by (λ k. bytes_eq q k.now) index.old) (bytes_eq name.now q) at) }
 {
     if !index.contains_key(name) {
         index.insert(name, at)?;
@@ -75,7 +77,8 @@ pub(crate) fn note_name<'a>(index: &mut NameIndex<'a>, name: &'a str, at: u32) -
 /// The first place of each name of a table with at most 10,000 entries; `Memory` where memory ran out.
 pub fn index_names<'a, T: Named>(alloc: Global, table: &'a [T]) -> Result<NameIndex<'a>, Memory>
     requires { length table.now ≤ 10000 }
-    ensures { IfOk result (λ index. (q : List ℕ) → hash.get_by (λ k. bytes_eq q k.now) index ≡ index_of_name (map T.name_of table.now) q) }
+    ensures { IfOk result (λ index. (q : List ℕ)
+        → hash.get_by (λ k. bytes_eq q k.now) index ≡ index_of_name (map T.name_of table.now) q) }
 {
     let mut index = HashMap::new(alloc);
     for (i, entry) in table.iter().enumerate() {
@@ -89,7 +92,8 @@ pub type IdIndex = HashMap<i64, u32>;
 
 /// Notes an id, if there is one, at a place, unless it stands at an earlier one.
 fn note_id(index: &mut IdIndex, id: Option<i64>, at: u32) -> Result<(), Memory>
-    ensures { OnOk result ((q : ℤ) → hash.get int_eq index.new q ≡ or_its_place (hash.get int_eq index.old q) id q at) }
+    ensures { OnOk result ((q : ℤ) → hash.get int_eq index.new q
+        ≡ or_its_place (hash.get int_eq index.old q) id q at) }
 {
     if let Some(id) = id {
         if !index.contains_key(&id) {
@@ -102,7 +106,8 @@ fn note_id(index: &mut IdIndex, id: Option<i64>, at: u32) -> Result<(), Memory>
 /// The first place of each id of a table with at most 10,000 entries; `Memory` where memory ran out.
 pub fn index_ids<T: HasId>(alloc: Global, table: &[T]) -> Result<IdIndex, Memory>
     requires { length table.now ≤ 10000 }
-    ensures { IfOk result (λ index. (q : ℤ) → hash.get int_eq index q ≡ index_of_id (map T.id_of table.now) q) }
+    ensures { IfOk result (λ index. (q : ℤ)
+        → hash.get int_eq index q ≡ index_of_id (map T.id_of table.now) q) }
 {
     let mut index = HashMap::new(alloc);
     for (i, entry) in table.iter().enumerate() {

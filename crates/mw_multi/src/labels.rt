@@ -61,7 +61,9 @@ impl<'a> Model for Labels<'a> {
 
 /// Notes the index of a label's name, unless the name has one.
 fn note_label<'a>(places: &mut NameIndex<'a>, label: &Label<'a>, at: u32) -> Result<(), Memory>
-    ensures { OnOk result ((q : List ℕ) → hashed.get_by (λ k. bytes_eq q k.now) places.new ≡ or_here (hashed.get_by (λ k. bytes_eq q k.now) places.old) (is_called q label.now) at) }
+    ensures { OnOk result ((q : List ℕ)
+        → hashed.get_by (λ k. bytes_eq q k.now) places.new
+        ≡ or_here (hashed.get_by (λ k. bytes_eq q k.now) places.old) (is_called q label.now) at) }
 {
     match label.name {
         Some(name) => note_name(places, name, at),
@@ -72,7 +74,8 @@ fn note_label<'a>(places: &mut NameIndex<'a>, label: &Label<'a>, at: u32) -> Res
 /// The index of each name.
 fn places_of<'a>(alloc: Global, labels: &[Label<'a>]) -> Result<NameIndex<'a>, Memory>
     requires { length labels.now ≤ 10000 }
-    ensures { IfOk result (λ places. (q : List ℕ) → hashed.get_by (λ k. bytes_eq q k.now) places ≡ index_of labels.now q) }
+    ensures { IfOk result (λ places. (q : List ℕ)
+        → hashed.get_by (λ k. bytes_eq q k.now) places ≡ index_of labels.now q) }
 {
     let mut places = HashMap::new(alloc);
     for (i, label) in labels.iter().enumerate() {

@@ -59,7 +59,8 @@ fn number_in(slot: &Slot, item: u32) -> Option<u32>
 /// One number more at a place. After `Memory` the table is as before.
 fn push_number(table: &mut Vec<List<u32>>, place: u32, number: u32) -> Result<(), Memory>
     requires { place < vec_len table.old }
-    ensures ok { OnOk result (table.new.items ≡ slice_set table.old.items place (numbers_at table.old.items place ++ number ∷ [])) }
+    ensures ok { OnOk result (table.new.items
+        ≡ slice_set table.old.items place (numbers_at table.old.items place ++ number ∷ [])) }
     ensures err { OnErr result (table.new.items ≡ table.old.items) }
 {
     table[place as usize].push(number)
@@ -102,7 +103,8 @@ impl Placed {
         requires size { length self.old ≡ place_total joint.now.slots }
         requires kept { PutKept joint.now.slots put }
         requires room { sum_by length self.old + 1 < 2 ^ 31 }
-        ensures ok { OnOk result ((puts : List PlainPut) → IsPlaced joint.now.slots puts self.old → IsPlaced joint.now.slots (puts ++ put ∷ []) self.new) }
+        ensures ok { OnOk result ((puts : List PlainPut) → IsPlaced joint.now.slots puts self.old
+            → IsPlaced joint.now.slots (puts ++ put ∷ []) self.new) }
         ensures err { OnErr result (self.new ≡ self.old) }
         ensures more { sum_by length self.new ≤ sum_by length self.old + 1 }
     {
@@ -133,7 +135,8 @@ impl Placed {
         requires room { sum_by length self.old + length numbers.old < 2 ^ 31 }
         ensures table { self.new ≡ slice_set self.old place numbers.old }
         ensures numbers { numbers.new ≡ numbers_at self.old place }
-        ensures total { sum_by length self.new + length numbers.new ≡ sum_by length self.old + length numbers.old }
+        ensures total { sum_by length self.new + length numbers.new ≡ sum_by length self.old
+            + length numbers.old }
     {
         mem::swap(&mut self.table[place as usize], numbers);
     }

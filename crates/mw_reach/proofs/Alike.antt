@@ -1,16 +1,16 @@
 -- Bags that have as many of each progression item come to the same, since rules ask for no other.
-use Rattle.std.proofs.Common.{◌≡◌, ℕ, zero, suc, ◌+◌, ◌<◌, Bool, true, false, eqb, List, [], ◌∷◌, ◌++◌, Option, Some, None, length, get_or, map, All, refl, sym, ap, ap₂, subst, ◌∙◌, inl, inr, arith}
+use Rattle.std.proofs.Common.{◌≡◌, ℕ, suc, ◌+◌, true, eqb, List, [], ◌∷◌, ◌++◌, Some, get_or, map, All, refl, sym, ap, ap₂, subst, ◌∙◌, inl, inr, arith}
 use Rattle.std.specs.Prelude.{◌&&◌, flat_map, slice_get, if◌then◌else◌}
 use Rattle.std.proofs.lemmas.Bool.{false≢true, or_cases, eqb-true}
 use Rattle.std.proofs.lemmas.List.Concat.{flat_map-cons}
 use Rattle.std.proofs.lemmas.List.Elements.{All-nil, All-cons, All-append, All-map}
-use Rattle.mw_rules.specs.Rule.{Rule, always}
+use Rattle.mw_rules.specs.Rule.{Rule}
 use Rattle.mw_rules.specs.Names.{is_among, items_in, names_item}
 use Rattle.mw_rules.specs.Holds.{Bag, Places}
 use Rattle.mw_rules.proofs.Naming.{hangs_on_names}
-use Rattle.mw_multi.specs.World.{Item, Entrance, Location, place_count}
+use Rattle.mw_multi.specs.World.{Location, place_count}
 use Rattle.mw_multi.specs.RulesKept.{is_progression_item, IsProgressionAt, RuleKept}
-use Rattle.mw_multi.specs.WorldKept.{IsWorld, EntranceKept, LocationKept}
+use Rattle.mw_multi.specs.WorldKept.{IsWorld, LocationKept}
 use Rattle.mw_multi.specs.Joint.{Slot, Joint, SlotKept, IsJoint}
 use Rattle.mw_multi.specs.Steps.{Step, entrance_step, location_step, location_steps, origin_step, slot_steps, steps_of}
 use Rattle.mw_reach.specs.Reach.{Placed, found, bag_with, starts_in, is_open, Closed, IsLeast}
