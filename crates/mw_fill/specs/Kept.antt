@@ -1,4 +1,4 @@
--- What copies and locations of a joint keep, and what is put in the midst of a fill.
+-- For proofs alone: what copies and locations of a joint keep, and what is put in the midst of a fill.
 use Rattle.std.specs.Prelude.{◌≡◌, ◌<◌, List, Option, None, Bool, true, ◌&&◌, All, is_none, is_some, length, slice_index_or}
 use Rattle.mw_multi.specs.Joint.{Slot, Joint, place_total, item_total}
 use Rattle.mw_multi.specs.Placement.{Put, PutKept, AreStanding, site_at, item_at}

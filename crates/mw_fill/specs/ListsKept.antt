@@ -1,4 +1,4 @@
--- What the lists of a try keep.
+-- For proofs alone: what the lists of a try keep.
 use Rattle.std.specs.Prelude.{◌≤◌, List, All, length}
 use Rattle.mw_multi.specs.Joint.{Slot}
 use Rattle.mw_fill.specs.Kept.{CopyKept, OpeningKept}

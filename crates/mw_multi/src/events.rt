@@ -1,6 +1,7 @@
 ghost use Rattle.std.specs.Prelude.{◌≡◌, ◌<◌, ◌+◌, ◌++◌, ◌≤◌, ◌^◌, List, Some, true, IfOk, OnOk, All, length, map, replicate, slice_get, sum_by};
-ghost use Rattle.mw_multi.specs.Joint.{Slot as PlainSlot};
-ghost use Rattle.mw_multi.specs.Placement.{Put as PlainPut, PutKept, IsPlacement, IsPlaced};
+ghost use Rattle.mw_multi.specs.Joint as joined;
+ghost use Rattle.mw_multi.specs.Placement as plain;
+ghost use Rattle.mw_multi.specs.Placement.{PutKept, IsPlacement, IsPlaced};
 ghost use Rattle.mw_multi.specs.Events.{event_at, slot_events, events_of, with_events, lacks_event, slot_flags, event_free, put_where};
 
 use crate::joint::Joint;
@@ -19,11 +20,11 @@ fn put_event(
     place: u32,
     event: Option<u32>,
 ) -> Result<(), Memory>
-    requires placed { (puts : List PlainPut) × IsPlaced joint.now.slots puts placed.old }
+    requires placed { (puts : List plain.Put) × IsPlaced joint.now.slots puts placed.old }
     requires kept { All (PutKept joint.now.slots) (event_at receiver place event) }
     requires room { sum_by length placed.old + 1 < 2 ^ 31 }
     ensures more { sum_by length placed.new ≤ sum_by length placed.old + 1 }
-    ensures put { OnOk result ((puts : List PlainPut) → IsPlaced joint.now.slots puts placed.old
+    ensures put { OnOk result ((puts : List plain.Put) → IsPlaced joint.now.slots puts placed.old
         → IsPlaced joint.now.slots (puts ++ event_at receiver place event) placed.new) }
 {
     match event {
@@ -41,11 +42,11 @@ fn put_event(
 
 /// Puts the events of the slot at an index, which counts from 0, into a table of the joint.
 fn put_events(placed: &mut Placed, joint: &Joint, before: usize) -> Result<(), Memory>
-    requires placed { (puts : List PlainPut) × IsPlaced joint.now.slots puts placed.old }
+    requires placed { (puts : List plain.Put) × IsPlaced joint.now.slots puts placed.old }
     requires slot { before < length joint.now.slots }
     requires room { sum_by length placed.old + 10000 < 2 ^ 31 }
     ensures more { OnOk result (sum_by length placed.new ≤ sum_by length placed.old + 10000) }
-    ensures put { OnOk result ((puts : List PlainPut) (s : PlainSlot)
+    ensures put { OnOk result ((puts : List plain.Put) (s : joined.Slot)
         → slice_get joint.now.slots before ≡ Some s → IsPlaced joint.now.slots puts placed.old
         → IsPlaced joint.now.slots (puts ++ slot_events (before + 1) s) placed.new) }
 {
@@ -102,11 +103,11 @@ fn flags_of(alloc: Global, joint: &Joint) -> Result<Vec<bool>, Memory>
 
 /// Puts an item into a table of the joint, where it is to stand there.
 fn put_if(placed: &mut Placed, joint: &Joint, put: Put, free: bool) -> Result<(), Memory>
-    requires placed { (puts : List PlainPut) × IsPlaced joint.now.slots puts placed.old }
+    requires placed { (puts : List plain.Put) × IsPlaced joint.now.slots puts placed.old }
     requires kept { PutKept joint.now.slots put }
     requires room { sum_by length placed.old + 1 < 2 ^ 31 }
     ensures more { sum_by length placed.new ≤ sum_by length placed.old + 1 }
-    ensures put { OnOk result ((puts : List PlainPut) → IsPlaced joint.now.slots puts placed.old
+    ensures put { OnOk result ((puts : List plain.Put) → IsPlaced joint.now.slots puts placed.old
         → IsPlaced joint.now.slots (puts ++ put_where free put) placed.new) }
 {
     if free { placed.put(joint, put) } else { Ok(()) }

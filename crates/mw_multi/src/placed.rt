@@ -1,6 +1,7 @@
 ghost use Rattle.std.specs.Prelude.{◌≡◌, ◌<◌, ◌≤◌, ◌+◌, ◌^◌, ◌++◌, ◌∷◌, [], List, IfOk, OnOk, OnErr, length, option_copied, option_to_list, slice_index_or, slice_set, sum_by, replicate, vec_len};
 ghost use Rattle.mw_multi.specs.Joint.{slot_items, place_total};
-ghost use Rattle.mw_multi.specs.Placement.{Put as PlainPut, slot_at, PutKept, IsPlacement, numbers_in, put_numbers, numbers_at, IsPlaced};
+ghost use Rattle.mw_multi.specs.Placement as plain;
+ghost use Rattle.mw_multi.specs.Placement.{slot_at, PutKept, IsPlacement, numbers_in, put_numbers, numbers_at, IsPlaced};
 
 use crate::joint::Joint;
 use crate::placement::{Placement, Put};
@@ -103,7 +104,7 @@ impl Placed {
         requires size { length self.old ≡ place_total joint.now.slots }
         requires kept { PutKept joint.now.slots put }
         requires room { sum_by length self.old + 1 < 2 ^ 31 }
-        ensures ok { OnOk result ((puts : List PlainPut) → IsPlaced joint.now.slots puts self.old
+        ensures ok { OnOk result ((puts : List plain.Put) → IsPlaced joint.now.slots puts self.old
             → IsPlaced joint.now.slots (puts ++ put ∷ []) self.new) }
         ensures err { OnErr result (self.new ≡ self.old) }
         ensures more { sum_by length self.new ≤ sum_by length self.old + 1 }
