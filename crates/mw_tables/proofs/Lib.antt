@@ -1,6 +1,5 @@
 pub mod Accepted
 pub mod Distinct
-pub mod Indexing
 pub mod PlayersAccepted
 pub mod RawKept
 pub mod Read

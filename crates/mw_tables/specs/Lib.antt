@@ -1,5 +1,4 @@
 pub mod Names
-pub mod Noting
 pub mod PlayersOf
 pub mod PlayersShape
 pub mod Raw
@@ -10,6 +9,7 @@ pub mod RuleNames
 pub mod RuleShape
 pub mod Sizes
 pub mod Small
+pub mod Tables
 pub mod WorldNames
 pub mod WorldOf
 pub mod WorldShape

@@ -44,7 +44,8 @@ fn rules_under(
     members: &[Member],
     name: &str,
 ) -> Result<Option<List<RawRule>>, Refusal>
-    ensures { GivesBy (option_map (map raw_view)) result (rules_under_name name.now (members_view members.now)) }
+    ensures { GivesBy (option_map (map raw_view)) result
+        (rules_under_name name.now (members_view members.now)) }
 {
     for member in members {
         if member.name.as_str() == name {

@@ -1,6 +1,6 @@
 ghost use Rattle.std.specs.Prelude.{◌≡◌};
 ghost use Rattle.mw_json.specs.Grammar.{Gives};
-ghost use Rattle.mw_tables.specs.WorldNames.{entrance_named, entrances_named, known_event, event_named, location_named, locations_named, entry_named, entries_named, world_names};
+ghost use Rattle.mw_tables.specs.WorldNames.{entrance_named, entrances_named, event_named, location_named, locations_named, entry_named, entries_named, world_names};
 
 use crate::item_names::{event_item_in, filler_item_in, pool_item_in, region_in};
 use crate::named::NamedWorld;
@@ -57,18 +57,11 @@ fn entrances_in(alloc: Global, tables: &Tables) -> Result<List<Entrance>, Refusa
     Ok(entrances)
 }
 
-#[tactic(auto, unfolding(crate::specs::WorldNames::known_event))]
-fn known_event_in(alloc: Global, tables: &Tables, name: &str) -> Result<Option<u32>, Refusal>
-    ensures { Gives result (known_event tables.now name.now) }
-{
-    Ok(Some(event_item_in(alloc, tables, name)?))
-}
-
 fn event_in(alloc: Global, tables: &Tables, location: &RawLocation) -> Result<Option<u32>, Refusal>
     ensures { Gives result (event_named tables.now location.now.event) }
 {
     match &location.event {
-        Some(name) => known_event_in(alloc, tables, name.as_str()),
+        Some(name) => Ok(Some(event_item_in(alloc, tables, name.as_str())?)),
         None => Ok(None),
     }
 }
