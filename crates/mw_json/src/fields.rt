@@ -20,7 +20,8 @@ pub fn field_in<T: Drop, F: FnOnce(Global, &Tree) -> Result<T, Refusal>>(
     read: F,
 ) -> Result<T, Refusal>
     requires { F.IsAlwaysCallable read }
-    ensures { (at : Json → Result T Breach) (called : List ℕ) → called ≡ name.now → ReadsAs F.FnOnce read at → Gives result (field_at called at (members_view members.now)) }
+    ensures { (at : Json → Result T Breach) (called : List ℕ) → called ≡ name.now
+        → ReadsAs F.FnOnce read at → Gives result (field_at called at (members_view members.now)) }
 {
     let found = member_of(alloc, members, name)?;
     at_name(alloc, read(alloc, found), name)
@@ -36,7 +37,8 @@ pub fn field_or<T: Drop, F: FnOnce(Global, &Tree) -> Result<T, Refusal>>(
     read: F,
 ) -> Result<T, Refusal>
     requires { F.IsAlwaysCallable read }
-    ensures { (at : Json → Result T Breach) (called : List ℕ) (usual : T) → called ≡ name.now → usual ≡ absent → ReadsAs F.FnOnce read at
+    ensures { (at : Json → Result T Breach) (called : List ℕ) (usual : T) → called ≡ name.now
+        → usual ≡ absent → ReadsAs F.FnOnce read at
         → Gives result (field_or_at called usual at (members_view members.now)) }
 {
     match find(members, name) {
@@ -54,7 +56,9 @@ pub fn field_if<T: Drop, F: FnOnce(Global, &Tree) -> Result<T, Refusal>>(
     read: F,
 ) -> Result<Option<T>, Refusal>
     requires { F.IsAlwaysCallable read }
-    ensures { (at : Json → Result T Breach) (called : List ℕ) → called ≡ name.now → ReadsAs F.FnOnce read at → Gives result (field_if_at called at (members_view members.now)) }
+    ensures { (at : Json → Result T Breach) (called : List ℕ) → called ≡ name.now
+        → ReadsAs F.FnOnce read at
+        → Gives result (field_if_at called at (members_view members.now)) }
 {
     match find(members, name) {
         Some(found) => Ok(Some(at_name(alloc, read(alloc, found), name)?)),

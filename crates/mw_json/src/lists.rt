@@ -17,7 +17,8 @@ pub fn each<T: Drop, F: Fn(Global, &Tree) -> Result<T, Refusal>>(
     read: F,
 ) -> Result<List<T>, Refusal>
     requires { F.IsAlwaysCallable read }
-    ensures { (at : Json → Result T Breach) → ReadsEach F.Fn read at → Gives result (each_from at 0 (items_view items.now)) }
+    ensures { (at : Json → Result T Breach) → ReadsEach F.Fn read at
+        → Gives result (each_from at 0 (items_view items.now)) }
 {
     let mut found = List::new(alloc);
     for (i, item) in items.iter().enumerate() {
@@ -36,7 +37,8 @@ pub fn list<T: Drop, F: Fn(Global, &Tree) -> Result<T, Refusal>>(
     read: F,
 ) -> Result<List<T>, Refusal>
     requires { F.IsAlwaysCallable read }
-    ensures { (at : Json → Result T Breach) → ReadsEach F.Fn read at → Gives result (list_of_at most at (view tree.now)) }
+    ensures { (at : Json → Result T Breach) → ReadsEach F.Fn read at
+        → Gives result (list_of_at most at (view tree.now)) }
 {
     let items = list_of_at_most(alloc, tree, most)?;
     each(alloc, items, read)

@@ -31,7 +31,8 @@ pub fn each_member<T: Drop, F: Fn(Global, &str, &Tree) -> Result<T, Refusal>>(
     read: F,
 ) -> Result<List<T>, Refusal>
     requires { F.IsAlwaysCallable read }
-    ensures { (at : List ℕ → Json → Result T Breach) → ReadsNamed F.Fn read at → Gives result (each_member_at at (members_view members.now)) }
+    ensures { (at : List ℕ → Json → Result T Breach) → ReadsNamed F.Fn read at
+        → Gives result (each_member_at at (members_view members.now)) }
 {
     let mut found = List::new(alloc);
     for member in members {

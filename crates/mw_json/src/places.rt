@@ -21,7 +21,8 @@ pub fn element_in<T: Drop, F: FnOnce(Global, &Tree) -> Result<T, Refusal>>(
 ) -> Result<T, Refusal>
     requires within { index < length items.now }
     requires callable { F.IsAlwaysCallable read }
-    ensures { (at : Json → Result T Breach) → ReadsAs F.FnOnce read at → Gives result (element_at index at (items_view items.now)) }
+    ensures { (at : Json → Result T Breach) → ReadsAs F.FnOnce read at
+        → Gives result (element_at index at (items_view items.now)) }
 {
     at_index(read(alloc, element(items, index)), index as u64)
 }
@@ -33,7 +34,8 @@ pub fn null_or<T: Drop, F: FnOnce(Global, &Tree) -> Result<T, Refusal>>(
     read: F,
 ) -> Result<Option<T>, Refusal>
     requires { F.IsAlwaysCallable read }
-    ensures { (at : Json → Result T Breach) → ReadsAs F.FnOnce read at → Gives result (null_or_at at (view tree.now)) }
+    ensures { (at : Json → Result T Breach) → ReadsAs F.FnOnce read at
+        → Gives result (null_or_at at (view tree.now)) }
 {
     match tree {
         Tree::Null => Ok(None),

@@ -26,7 +26,8 @@ impl<T: Seen> Seen for Values<T> {
 }
 
 fn lift_seen<T: Seen>(answer: Result<T, Refusal>, step: Step) -> Result<T, Refusal>
-    ensures { (read : Result T.Plain Breach) → GivesBy T.seen answer read → GivesBy T.seen result (under step read) }
+    ensures { (read : Result T.Plain Breach) → GivesBy T.seen answer read
+        → GivesBy T.seen result (under step read) }
 {
     match answer {
         Ok(value) => Ok(value),
@@ -44,7 +45,8 @@ pub fn at_name_seen<T: Seen>(
     answer: Result<T, Refusal>,
     name: &str,
 ) -> Result<T, Refusal>
-    ensures { (read : Result T.Plain Breach) → GivesBy T.seen answer read → GivesBy T.seen result (under (Name name.now) read) }
+    ensures { (read : Result T.Plain Breach) → GivesBy T.seen answer read
+        → GivesBy T.seen result (under (Name name.now) read) }
 {
     match answer {
         Ok(value) => Ok(value),
@@ -57,7 +59,8 @@ pub fn at_name_seen<T: Seen>(
 
 /// The answer for an element as seen from its list.
 pub fn at_index_seen<T: Seen>(answer: Result<T, Refusal>, index: u64) -> Result<T, Refusal>
-    ensures { (read : Result T.Plain Breach) → GivesBy T.seen answer read → GivesBy T.seen result (under (Index index) read) }
+    ensures { (read : Result T.Plain Breach) → GivesBy T.seen answer read
+        → GivesBy T.seen result (under (Index index) read) }
 {
     lift_seen(answer, Step::Index(index))
 }
@@ -71,7 +74,9 @@ pub fn field_seen<T: Seen + Drop, F: FnOnce(Global, &Tree) -> Result<T, Refusal>
     read: F,
 ) -> Result<T, Refusal>
     requires { F.IsAlwaysCallable read }
-    ensures { (at : Json → Result T.Plain Breach) (called : List ℕ) → called ≡ name.now → SeesAs F.FnOnce read T.seen at → GivesBy T.seen result (field_at called at (members_view members.now)) }
+    ensures { (at : Json → Result T.Plain Breach) (called : List ℕ) → called ≡ name.now
+        → SeesAs F.FnOnce read T.seen at
+        → GivesBy T.seen result (field_at called at (members_view members.now)) }
 {
     let found = member_of(alloc, members, name)?;
     at_name_seen(alloc, read(alloc, found), name)
@@ -87,7 +92,8 @@ pub fn field_or_seen<T: Seen + Drop, F: FnOnce(Global, &Tree) -> Result<T, Refus
     read: F,
 ) -> Result<T, Refusal>
     requires { F.IsAlwaysCallable read }
-    ensures { (at : Json → Result T.Plain Breach) (called : List ℕ) (usual : T.Plain) → called ≡ name.now → usual ≡ T.seen absent → SeesAs F.FnOnce read T.seen at
+    ensures { (at : Json → Result T.Plain Breach) (called : List ℕ) (usual : T.Plain)
+        → called ≡ name.now → usual ≡ T.seen absent → SeesAs F.FnOnce read T.seen at
         → GivesBy T.seen result (field_or_at called usual at (members_view members.now)) }
 {
     match find(members, name) {

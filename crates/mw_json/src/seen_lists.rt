@@ -18,7 +18,8 @@ pub fn each_seen<T: Seen + Drop, F: Fn(Global, &Tree) -> Result<T, Refusal>>(
     read: F,
 ) -> Result<List<T>, Refusal>
     requires { F.IsAlwaysCallable read }
-    ensures { (at : Json → Result T.Plain Breach) → SeesEach F.Fn read T.seen at → GivesBy (map T.seen) result (each_from at 0 (items_view items.now)) }
+    ensures { (at : Json → Result T.Plain Breach) → SeesEach F.Fn read T.seen at
+        → GivesBy (map T.seen) result (each_from at 0 (items_view items.now)) }
 {
     let mut found = List::new(alloc);
     for (i, item) in items.iter().enumerate() {
@@ -37,7 +38,8 @@ pub fn list_seen<T: Seen + Drop, F: Fn(Global, &Tree) -> Result<T, Refusal>>(
     read: F,
 ) -> Result<List<T>, Refusal>
     requires { F.IsAlwaysCallable read }
-    ensures { (at : Json → Result T.Plain Breach) → SeesEach F.Fn read T.seen at → GivesBy (map T.seen) result (list_of_at most at (view tree.now)) }
+    ensures { (at : Json → Result T.Plain Breach) → SeesEach F.Fn read T.seen at
+        → GivesBy (map T.seen) result (list_of_at most at (view tree.now)) }
 {
     let items = list_of_at_most(alloc, tree, most)?;
     each_seen(alloc, items, read)

@@ -1,5 +1,5 @@
 -- What keeps the rules of a seed's parts is read as it is written.
-use Rattle.std.proofs.Common.{◌≡◌, ◌≤◌, ◌<◌, ◌+◌, ◌==◌, ◌||◌, ℕ, ℤ, pos, negsuc, List, [], ◌∷◌, Bool, true, false, Some, Result, Ok, length, map, refl, subst, sym, arith}
+use Rattle.std.proofs.Common.{◌≡◌, ◌≤◌, ◌<◌, ◌+◌, ◌==◌, ℕ, ℤ, pos, negsuc, List, [], ◌∷◌, true, false, Some, Result, Ok, length, map, refl, subst, sym, arith}
 use Rattle.std.specs.Prelude.{All, codes, chars, nat_lt}
 use Rattle.std.proofs.lemmas.Grind.{common_steps}
 use Rattle.std.proofs.lemmas.Int.{ints}
@@ -16,6 +16,7 @@ use Rattle.mw_multidata.specs.Parts.{slot_number_at, flags_at}
 use Rattle.mw_multidata.specs.SeedKept.{IsName, IsId, is_class, is_remaining, is_permission, ServerKept, EntryKept, GameKept}
 use Rattle.mw_multidata.specs.Shape.{server_at, named_id_at, ids_at, game_at, games_at, names_at, start_item_at, slot_at, slots_at, held_at, spot_at, sphere_at, spheres_at}
 use Rattle.mw_multidata.specs.Written.{number_json, permission_json, server_json, game_member, games_json, start_json, slot_json, held_json, spot_json, sphere_json}
+use Rattle.mw_multidata.proofs.Bools.{by_two, both_false}
 
 -- it is read again
 abbrev pub IsAgain : {A : Type 0} → (Json → Result A Breach) → (A → Json) → A → Type 0
@@ -34,11 +35,6 @@ id_again : (id : ℤ) → IsId id → id_at (whole id) ≡ Ok id
 id_again (pos n) h = id_number n (omega (arith, ints, h.low)) (omega (arith, ints, h.high))
 id_again (negsuc n) h = absurd (omega (arith, ints, h.low))
 
--- one of two tests holds
-by_two : (a b : Bool) (P : Type 0) → (a ≡ true → P) → (b ≡ true → P) → (a || b) ≡ true → P
-by_two true b P f g e = f refl
-by_two false b P f g e = g e
-
 equal : (n k : ℕ) → (n == k) ≡ true → n ≡ k
 equal n k e = grind (arith, common_steps, e)
 
@@ -53,16 +49,12 @@ flags_again n =
 
 -- ---- texts
 
-neither : (a b : Bool) → a ≡ false → b ≡ false → (a || b) ≡ false
-neither true b e f = e
-neither false b e f = f
-
 no_control : (s : List ℕ) → All (λ byte. 32 ≤ byte) s → has_control s ≡ false
 no_control [] h = refl
 no_control (b ∷ bs) h =
     let plain : 32 ≤ b = All-head (λ byte. 32 ≤ byte) b bs h in
     let first : nat_lt b 32 ≡ false = grind (arith, plain) in
-    neither (nat_lt b 32) (has_control bs) first (no_control bs (All-tail (λ byte. 32 ≤ byte) b bs h))
+    both_false (nat_lt b 32) (has_control bs) first (no_control bs (All-tail (λ byte. 32 ≤ byte) b bs h))
 
 pub short_again : (most : ℕ) (s : List ℕ) → length (chars s) ≤ most → short_text most s ≡ Ok s
 short_again most s h = grind arith

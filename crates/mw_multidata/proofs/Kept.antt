@@ -1,5 +1,5 @@
 -- What the readers of numbers, names and lists give keeps their rules.
-use Rattle.std.proofs.Common.{◌≡◌, ◌≤◌, ◌<◌, ◌+◌, ◌==◌, ◌||◌, ℕ, List, [], ◌∷◌, Bool, true, false, Some, Result, Ok, Less, nat_cmp, length, map, refl, sym, subst, arith}
+use Rattle.std.proofs.Common.{◌≡◌, ◌≤◌, ◌<◌, ◌+◌, ◌==◌, ℕ, List, [], ◌∷◌, Bool, true, false, Some, Result, Ok, Less, nat_cmp, length, map, refl, sym, subst, arith}
 use Rattle.std.specs.Prelude.{All, IfOk, chars, codes, bytes_eq, nat_lt, if◌then◌else◌}
 use Rattle.std.specs.Cmp.Lexicographic.{slice_cmp}
 use Rattle.std.proofs.lemmas.Grind.{common_steps}
@@ -21,6 +21,7 @@ use Rattle.mw_multidata.specs.Ascending.{ComesBefore, NamesAscend}
 use Rattle.mw_multidata.specs.Parts.{flags_at}
 use Rattle.mw_multidata.specs.SeedKept.{IsName, IsId, is_class, is_remaining, is_permission}
 use Rattle.mw_multidata.specs.Shape.{seed_name_of, seed_name_at}
+use Rattle.mw_multidata.proofs.Bools.{or_else, neither}
 
 module _ {A : Type 0} (P : A → Type 0) where
   -- of two readings one
@@ -46,10 +47,6 @@ id_kept j =
     after (IsBetween 1 9007199254740991) IsId (number_at 1 9007199254740991 j) _ (number_kept 1 9007199254740991 j) (λ n h.
     record { low = omega (arith, ints, h.0); high = omega (arith, ints, h.1) })
 
-or_else : (a b : Bool) → (a ≡ false → b ≡ true) → (a || b) ≡ true
-or_else true b h = refl
-or_else false b h = h refl
-
 four : (n : ℕ) → n ≤ 4 → (n == 3) ≡ false → is_class n ≡ true
 four n h e = or_else (n == 0) _ (λ a. or_else (n == 1) _ (λ b. or_else (n == 2) (n == 4) (λ c. grind (arith, common_steps, a, b, c, e, h))))
 
@@ -62,10 +59,6 @@ unfolding flags_at
 flags_kept j = after (IsBetween 0 4) IsClass (number_at 0 4 j) _ (number_kept 0 4 j) (λ n h. unless IsClass (n == 3) WrongKind (Ok n) (λ e. four n h.1 e))
 
 -- ---- texts
-
-neither : (a b : Bool) → (a || b) ≡ false → (a ≡ false) × (b ≡ false)
-neither true b e = cc
-neither false b e = (refl, e)
 
 plain : (s : List ℕ) → has_control s ≡ false → All (λ byte. 32 ≤ byte) s
 plain [] e = All-nil (λ byte. 32 ≤ byte)

@@ -1,5 +1,5 @@
 -- The names of a seed whose parts know each other have nothing to refuse.
-use Rattle.std.proofs.Common.{◌≡◌, ◌+◌, ◌||◌, ℕ, ℤ, List, [], ◌∷◌, ◌++◌, Bool, true, false, Option, Some, None, Ok, map, refl, sym, ap, subst, ◌∙◌, arith, append_assoc}
+use Rattle.std.proofs.Common.{◌≡◌, ◌+◌, ℕ, ℤ, List, [], ◌∷◌, ◌++◌, true, false, Option, Some, None, Ok, map, refl, sym, ap, subst, ◌∙◌, arith, append_assoc}
 use Rattle.std.specs.Prelude.{All, bytes_eq}
 use Rattle.std.specs.List.{IsDistinct, AllByRecursion}
 use Rattle.std.specs.Ordering.{int_eq}
@@ -9,6 +9,7 @@ use Rattle.mw_model.specs.Seed.{Seed, Slot, StartItem, Game, NamedId, Held, Spot
 use Rattle.mw_multidata.specs.Ascending.{Ascend}
 use Rattle.mw_multidata.specs.Names.{known, has_id, ids_differ, game_named, games_named, find_game, has_name, names_differ, start_named, all_names, slot_named, slots_named, played_by, comes_after, held_named, locations_named, spot_named, sphere_named, spheres_named, names_named}
 use Rattle.mw_multidata.specs.SeedKept.{entry_id, GameKept, StartKept, has_item, has_location, held_cmp}
+use Rattle.mw_multidata.proofs.Bools.{both_false}
 use Rattle.mw_multidata.proofs.NamesKept.{IsKnown}
 use Rattle.mw_multidata.proofs.Plays.{PlayAll}
 
@@ -17,10 +18,6 @@ NamesDiffer ns = IsDistinct bytes_eq ns
 
 -- ---- what stands before differs
 
-neither : (a b : Bool) → a ≡ false → b ≡ false → (a || b) ≡ false
-neither true b e f = e
-neither false b e f = f
-
 id_apart : (id : ℤ) (before : List NamedId) (n : NamedId) (ns : List NamedId) → AllByRecursion (λ y. int_eq id y ≡ false) (map entry_id (before ++ n ∷ ns)) → int_eq id n.id ≡ false
 id_apart id [] n ns h = h.0
 id_apart id (b ∷ before) n ns h = id_apart id before n ns h.1
@@ -28,7 +25,7 @@ id_apart id (b ∷ before) n ns h = id_apart id before n ns h.1
 new_id : (before : List NamedId) (n : NamedId) (ns : List NamedId) → IsDistinct int_eq (map entry_id (before ++ n ∷ ns)) → has_id before n.id ≡ false
 unfolding IsDistinct
 new_id [] n ns h = refl
-new_id (b ∷ before) n ns h = neither (int_eq b.id n.id) (has_id before n.id) (id_apart b.id before n ns h.0) (new_id before n ns h.1)
+new_id (b ∷ before) n ns h = both_false (int_eq b.id n.id) (has_id before n.id) (id_apart b.id before n ns h.0) (new_id before n ns h.1)
 
 ids_pass : (before ns : List NamedId) → IsDistinct int_eq (map entry_id (before ++ ns)) → ids_differ before ns ≡ Ok tt
 ids_pass before [] h = refl
@@ -56,7 +53,7 @@ name_apart name (b ∷ before) n ns h = name_apart name before n ns h.1
 new_name : (before : List (List ℕ)) (n : List ℕ) (ns : List (List ℕ)) → NamesDiffer (before ++ n ∷ ns) → has_name before n ≡ false
 unfolding IsDistinct
 new_name [] n ns h = refl
-new_name (b ∷ before) n ns h = neither (bytes_eq b n) (has_name before n) (name_apart b before n ns h.0) (new_name before n ns h.1)
+new_name (b ∷ before) n ns h = both_false (bytes_eq b n) (has_name before n) (name_apart b before n ns h.0) (new_name before n ns h.1)
 
 names_pass : (before : List (List ℕ)) (i : ℕ) (ns rest : List (List ℕ)) → NamesDiffer (before ++ (ns ++ rest)) → names_differ before i ns ≡ Ok tt
 names_pass before i [] rest h = refl

@@ -1,5 +1,5 @@
 -- A seed whose names have nothing to refuse keeps the rules on them.
-use Rattle.std.proofs.Common.{◌≡◌, ◌≤◌, ◌<◌, ◌+◌, ◌||◌, ℕ, ℤ, zero, suc, List, [], ◌∷◌, ◌++◌, Bool, true, false, Option, Some, None, length, map, is_some, get_or, refl, sym, ap, subst, ◌∙◌, arith, append-nil, append_assoc}
+use Rattle.std.proofs.Common.{◌≡◌, ◌≤◌, ◌<◌, ◌+◌, ℕ, ℤ, zero, suc, List, [], ◌∷◌, ◌++◌, Bool, true, false, Option, Some, None, length, map, is_some, get_or, refl, sym, ap, subst, ◌∙◌, arith, append-nil, append_assoc}
 use Rattle.std.specs.Prelude.{All, IfOk, bytes_eq, codes, not, slice_get}
 use Rattle.std.specs.List.{IsDistinct, AllByRecursion}
 use Rattle.std.specs.Ordering.{int_eq}
@@ -17,13 +17,10 @@ use Rattle.mw_json.proofs.Passing.{after, within}
 use Rattle.mw_multidata.specs.Ascending.{Ascend, ComesBefore}
 use Rattle.mw_multidata.specs.Names.{demand, known, has_id, ids_differ, game_named, games_named, find_game, has_name, names_differ, start_named, all_names, slot_named, slots_named, played_by, comes_after, held_named, locations_named, spot_named, sphere_named, spheres_named, names_named}
 use Rattle.mw_multidata.specs.SeedKept.{entry_id, has_item, has_location, held_cmp}
+use Rattle.mw_multidata.proofs.Bools.{neither}
 use Rattle.mw_multidata.proofs.Ids.{has_id_push}
 use Rattle.mw_multidata.proofs.Names.{has_name_append}
 use Rattle.mw_multidata.proofs.Plays.{PlayAll}
-
-neither : (a b : Bool) → (a || b) ≡ false → (a ≡ false) × (b ≡ false)
-neither true b e = cc
-neither false b e = (refl, e)
 
 not_false : (kind : Kind) (b : Bool) → IfOk (demand kind (not b)) (λ _. b ≡ false)
 not_false kind true = tt

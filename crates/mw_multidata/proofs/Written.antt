@@ -1,5 +1,5 @@
 -- The text that is written of a seed stands for that very seed.
-use Rattle.std.proofs.Common.{◌≡◌, ◌≤◌, ◌<◌, ◌||◌, ℕ, ℤ, zero, suc, List, [], ◌∷◌, Bool, true, false, nat_cmp, Option, Some, None, Result, Ok, Err, inr, length, map, is_some, refl, sym, ap, subst, ◌∙◌, arith}
+use Rattle.std.proofs.Common.{◌≡◌, ◌≤◌, ◌<◌, ℕ, ℤ, zero, suc, List, [], ◌∷◌, Bool, true, false, nat_cmp, Option, Some, None, Result, Ok, Err, inr, length, map, is_some, refl, sym, ap, subst, ◌∙◌, arith}
 use Rattle.std.specs.Prelude.{All, IfOk, IsUtf8, bytes_eq, chars, codes, slice_get, slice_index_or, if◌then◌else◌}
 use Rattle.std.specs.Cmp.Lexicographic.{slice_cmp}
 use Rattle.std.specs.Ordering.{int_eq}
@@ -19,9 +19,10 @@ use Rattle.mw_multidata.specs.SeedKept.{IsName, IsId, EntryKept, GameKept, SlotK
 use Rattle.mw_multidata.specs.SeedOf.{seed_at, SeedOf}
 use Rattle.mw_multidata.specs.Shape.{format_at, seed_name_of, seed_name_at, server_at, games_at, slots_at, held_at, spheres_at, members_at, shape_at}
 use Rattle.mw_multidata.specs.Written.{number_json, server_json, game_member, games_json, slot_json, held_json, sphere_json, seed_json, seed_text}
+use Rattle.mw_multidata.proofs.Bools.{by_two}
 use Rattle.mw_multidata.proofs.Again.{members_in, field_again, number_again, short_again, server_again, games_again, SlotShape, slots_again, HeldShape, held_again, list_again, SpotShape, SphereShape, spheres_again}
 use Rattle.mw_multidata.proofs.NamesAgain.{IsPlayedSlot, names_pass_all}
-use Rattle.mw_multidata.proofs.NamesKept.{IsKnown}
+use Rattle.mw_multidata.proofs.NamesKept.{IsKnown, IsWithin}
 use Rattle.mw_multidata.proofs.Orders.{seed_ordered, seed_shallow}
 use Rattle.mw_multidata.proofs.Plays.{PlayAll, played_same, plays}
 
@@ -42,10 +43,6 @@ found_kept (g ∷ gs) name h = pick name g (find_game gs name) (bytes_eq g.name 
 found_name : (name : List ℕ) (found : Option Game) → IsFound name found → is_some found ≡ true → IsName 128 name
 found_name name (Some g) h e = h.1
 found_name name None h e = cc
-
-by_two : (a b : Bool) (P : Type 0) → (a ≡ true → P) → (b ≡ true → P) → (a || b) ≡ true → P
-by_two true b P f g e = f refl
-by_two false b P f g e = g e
 
 equal_id : (a id : ℤ) → int_eq a id ≡ true → a ≡ id
 equal_id a id e = grind (arith, e)
@@ -89,10 +86,6 @@ within : (ss : List Slot) (n : ℕ) → is_some (slice_get ss n) ≡ true → n 
 within [] n e = cc
 within (s ∷ ss) zero e = omega arith
 within (s ∷ ss) (suc n) e = omega (arith, within ss n e)
-
--- a number from 1 to this
-abbrev IsWithin : ℕ → ℕ → Type 0
-IsWithin count n = (1 ≤ n) × (n ≤ count)
 
 number_within : (seed : Seed) (n : ℕ) → is_some (played seed n) ≡ true → IsWithin (length seed.slots) n
 number_within seed zero e = cc

@@ -2,7 +2,7 @@ use crate::seed::{Game, Held, Slot};
 use mw_base::{List, RoomOptions, SphereList, Text};
 use std::marker::Model;
 
-/// A seed: what some seed file stands for.
+/// A seed, which keeps the rules of its file's format. What keeps them is written and read again.
 #[derive(Debug, Drop)]
 pub struct Multidata {
     /// 1 to 128 characters.
