@@ -17,9 +17,12 @@ pub(crate) fn parse<'a>(
     words: &'a [&'a str],
 ) -> Result<ArgMatches<'a>, WordsError>
     requires { is_simple_and_free (app_of command) ≡ true }
-    ensures faultless { IfOk result (λ _. faults (app_of command.entry) (texts words.entry.now) ≡ []) }
-    ensures values { IfOk result (λ m. (id : List ℕ) → first_value (found_of m) id ≡ given (app_of command.entry) (texts words.entry.now) id) }
-    ensures bad { result ≡ Err WordsError.BadWords → faults (app_of command.entry) (texts words.entry.now) ≢ [] }
+    ensures faultless { IfOk result (λ _. faults (app_of command.entry) (texts words.entry.now)
+        ≡ []) }
+    ensures values { IfOk result (λ m. (id : List ℕ) → first_value (found_of m) id
+        ≡ given (app_of command.entry) (texts words.entry.now) id) }
+    ensures bad { result ≡ Err WordsError.BadWords
+        → faults (app_of command.entry) (texts words.entry.now) ≢ [] }
 {
     match command.try_get_matches_from(words) {
         Ok(matches) => Ok(matches),
@@ -33,7 +36,8 @@ pub(crate) fn parse<'a>(
 /// What was given for an argument.
 pub(crate) fn text(alloc: Global, matches: &ArgMatches, id: &str) -> Result<Text, WordsError>
     ensures ok { IfOk result (λ t. first_value (found_of matches.now) id.now ≡ Some t) }
-    ensures bad { result ≡ Err WordsError.BadWords → first_value (found_of matches.now) id.now ≡ None }
+    ensures bad { result ≡ Err WordsError.BadWords → first_value (found_of matches.now) id.now
+        ≡ None }
 {
     match matches.get_str(id) {
         Some(value) => Ok(Text::of(alloc, value)?),
@@ -50,7 +54,8 @@ pub(crate) fn number(
 ) -> Result<u64, WordsError>
     ensures ok { IfOk result (λ n. first_value (found_of matches.now) id.now ≡ Some (decimal n)) }
     ensures range { IfOk result (λ n. (least ≤ n) × (n ≤ most)) }
-    ensures bad { result ≡ Err WordsError.BadWords → (n : ℕ) → least ≤ n → n ≤ most → first_value (found_of matches.now) id.now ≢ Some (decimal n) }
+    ensures bad { result ≡ Err WordsError.BadWords → (n : ℕ) → least ≤ n → n ≤ most
+        → first_value (found_of matches.now) id.now ≢ Some (decimal n) }
 {
     let Some(value) = matches.get_str(id) else {
         return Err(WordsError::BadWords);

@@ -1,27 +1,21 @@
 ghost use Rattle.std.specs.Prelude.{◌≡◌, ◌⊎◌, ℕ, List};
-ghost use Rattle.mw_edges.specs.Causes.{Rose, Tells};
-ghost use Rattle.mw_offline.specs.Endings.{DriveEnds};
+ghost use Rattle.mw_edges.specs.Causes.{Rose};
+ghost use Rattle.mw_offline.specs.Ends.{told_by};
+ghost use Rattle.mw_offline.specs.Driving.{DriveEnds};
 ghost use Rattle.mw_offline.specs.Reaching.{ReachEnds};
-ghost use Rattle.mw_offline.specs.Generating.{Wanted, GenerateEnds};
+ghost use Rattle.mw_offline.specs.Generating.{Wanted, wrote_by, GenerateEnds};
 ghost use Rattle.mw_offline.specs.Checking.{Asked, CheckEnds};
 ghost use Rattle.mw_cli.specs.Words.{IsGenerate, IsCheck, IsReach, IsDrive};
 ghost use Rattle.mw_cli.specs.Lines.{IsNoCommand, HasTries, generate_line, drive_line};
-ghost use Rattle.mw_cli.specs.Ends.{LineEnds, RefusalEnds};
+ghost use Rattle.mw_cli.specs.Ends.{around, LineEnds, RefusalEnds};
 
 use crate::command_line::CommandLine;
 use crate::error::WordsError;
 use crate::words::read_words;
 use mw_base::Text;
 use mw_edges::{Folder, Sink, Source};
-use mw_offline::{cmd_check, cmd_drive, cmd_generate, cmd_reach};
+use mw_offline::{cmd_check, cmd_drive, cmd_generate, cmd_reach, end_without_memory, tell};
 use std::alloc::Global;
-
-/// Puts a line, or a front of it where the sink refuses.
-fn tell<E: Sink>(err: &mut E, line: &str)
-    ensures { Tells (E.held err.old) (E.held err.new) (E.refusals err.old) (E.refusals err.new) line.now }
-{
-    let _ = err.put(line.as_bytes());
-}
 
 /// Does what a command line asks for.
 fn run_line<F: Folder, S: Source, O: Sink, E: Sink>(
@@ -34,19 +28,16 @@ fn run_line<F: Folder, S: Source, O: Sink, E: Sink>(
 ) -> u8
     requires tries { HasTries line.now }
     ensures ends { LineEnds line.now result
-        record {
-          before = F.holds folder.old;
-          after = F.holds folder.new;
-          input = S.left input.old;
-          input_left = S.left input.new;
-          old = O.held out.old;
-          new = O.held out.new;
-          told = record { old = E.held err.old; new = E.held err.new; before = E.refusals err.old; now = E.refusals err.new };
-        } }
-    ensures input { ((multidata : List ℕ) → line.now ≡ drive_line multidata → ⊥) → input.new ≡ input.old }
+        (around (wrote_by F.holds F.refusals folder.old folder.new)
+        S.left input.old input.new (O.held out.old) (O.held out.new)
+        (told_by E.held E.refusals err.old err.new)) }
+    ensures input { ((multidata : List ℕ) → line.now ≡ drive_line multidata → ⊥) → input.new
+        ≡ input.old }
     ensures fault { result ≡ 5 → Rose (F.faults folder.old) (F.faults folder.new)
-        ⊎ (Rose (S.faults input.old) (S.faults input.new) ⊎ Rose (O.faults out.old) (O.faults out.new)) }
-    ensures same { ((wanted : Wanted) → line.now ≡ generate_line wanted → ⊥) → (name : List ℕ) → F.holds folder.new name ≡ F.holds folder.old name }
+        ⊎ (Rose (S.faults input.old) (S.faults input.new)
+        ⊎ Rose (O.faults out.old) (O.faults out.new)) }
+    ensures same { ((wanted : Wanted) → line.now ≡ generate_line wanted → ⊥) → (name : List ℕ)
+        → F.holds folder.new name ≡ F.holds folder.old name }
 {
     match line {
         CommandLine::Generate(words) => cmd_generate(alloc, words, folder, out, err),
@@ -64,8 +55,9 @@ fn run_line<F: Folder, S: Source, O: Sink, E: Sink>(
 /// ran out. 7: the seed file or the script is refused. With a status other than 0 the error sink gets that status's line, or
 /// a front of it where it refuses.
 ///
-/// Of the folder's files `generate` alone changes one, the seed file that its words name: with 0 it is written, with 5 or 6
-/// it may be written or hold what a refused write left, and else it isn't touched. `drive` alone reads the input.
+/// Of the folder's files `generate` alone changes one, the seed file that its words name: with 0 it is written; with 5 or 6
+/// it is as it was or is written, or the folder refused to write it; and else it isn't touched. `drive` alone reads the
+/// input, and not where the seed file is refused.
 #[tactic(auto, using(crate::proofs::Asking::has_tries))]
 pub fn run<F: Folder, S: Source, O: Sink, E: Sink>(
     alloc: Global,
@@ -76,26 +68,28 @@ pub fn run<F: Folder, S: Source, O: Sink, E: Sink>(
     err: &mut E,
 ) -> u8
     ensures generate { (wanted : Wanted) → IsGenerate words.now wanted
-        → GenerateEnds result (F.holds folder.old) (F.holds folder.new) wanted (O.held out.old) (O.held out.new)
-        record { old = E.held err.old; new = E.held err.new; before = E.refusals err.old; now = E.refusals err.new } }
+        → GenerateEnds result (wrote_by F.holds F.refusals folder.old folder.new) wanted
+        (O.held out.old) (O.held out.new) (told_by E.held E.refusals err.old err.new) }
     ensures check { (asked : Asked) → IsCheck words.now asked
         → CheckEnds result (F.holds folder.old) asked (O.held out.old) (O.held out.new)
-        record { old = E.held err.old; new = E.held err.new; before = E.refusals err.old; now = E.refusals err.new } }
+        (told_by E.held E.refusals err.old err.new) }
     ensures reach { (players : List ℕ) → IsReach words.now players
         → ReachEnds result (F.holds folder.old) players (O.held out.old) (O.held out.new)
-        record { old = E.held err.old; new = E.held err.new; before = E.refusals err.old; now = E.refusals err.new } }
+        (told_by E.held E.refusals err.old err.new) }
     ensures drive { (name : List ℕ) → IsDrive words.now name
-        → DriveEnds result (F.holds folder.old name) (S.left input.old) (S.left input.new) (O.held out.old) (O.held out.new)
-        record { old = E.held err.old; new = E.held err.new; before = E.refusals err.old; now = E.refusals err.new } }
+        → DriveEnds S.left result (F.holds folder.old name) input.old input.new
+        (O.held out.old) (O.held out.new) (told_by E.held E.refusals err.old err.new) }
 
     // Memory may run out before words are seen to be no command.
     ensures other { IsNoCommand words.now → (out.new ≡ out.old) × (folder.new ≡ folder.old)
-        × RefusalEnds result record { old = E.held err.old; new = E.held err.new; before = E.refusals err.old; now = E.refusals err.new } }
+        × RefusalEnds result (told_by E.held E.refusals err.old err.new) }
 
     ensures input { ((name : List ℕ) → IsDrive words.now name → ⊥) → input.new ≡ input.old }
     ensures fault { result ≡ 5 → Rose (F.faults folder.old) (F.faults folder.new)
-        ⊎ (Rose (S.faults input.old) (S.faults input.new) ⊎ Rose (O.faults out.old) (O.faults out.new)) }
-    ensures same { ((wanted : Wanted) → IsGenerate words.now wanted → ⊥) → (name : List ℕ) → F.holds folder.new name ≡ F.holds folder.old name }
+        ⊎ (Rose (S.faults input.old) (S.faults input.new)
+        ⊎ Rose (O.faults out.old) (O.faults out.new)) }
+    ensures same { ((wanted : Wanted) → IsGenerate words.now wanted → ⊥) → (name : List ℕ)
+        → F.holds folder.new name ≡ F.holds folder.old name }
 {
     match read_words(alloc, words) {
         Ok(line) => run_line(alloc, &line, folder, input, out, err),
@@ -103,9 +97,6 @@ pub fn run<F: Folder, S: Source, O: Sink, E: Sink>(
             tell(err, "bad words\n");
             2
         }
-        Err(WordsError::Memory) => {
-            tell(err, "no memory\n");
-            6
-        }
+        Err(WordsError::Memory) => end_without_memory(err),
     }
 }

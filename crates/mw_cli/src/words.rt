@@ -27,8 +27,12 @@ fn borrowed<'a>(alloc: Global, words: &'a [Text]) -> Result<Vec<&'a str>, AllocE
 /// The words of `generate`.
 fn read_generate(alloc: Global, words: &[&str]) -> Result<GenerateWords, WordsError>
     requires { slice_get (texts words.now) 0 ≡ Some (codes "generate") }
-    ensures ok { IfOk result (λ w. IsGenerate (texts words.now) record { players = w.players; out_name = w.out_name; seed = w.seed; tries = w.tries }) }
-    ensures bad { result ≡ Err WordsError.BadWords → (wanted : Wanted) → IsGenerate (texts words.now) wanted → ⊥ }
+    ensures ok { IfOk result
+        (λ w. IsGenerate
+        (texts words.now)
+        record { players = w.players; out_name = w.out_name; seed = w.seed; tries = w.tries }) }
+    ensures bad { result ≡ Err WordsError.BadWords → (wanted : Wanted)
+        → IsGenerate (texts words.now) wanted → ⊥ }
 {
     let matches = parse(generate_command(alloc)?, words)?;
     Ok(GenerateWords {
@@ -42,8 +46,10 @@ fn read_generate(alloc: Global, words: &[&str]) -> Result<GenerateWords, WordsEr
 /// The words of `check`.
 fn read_check(alloc: Global, words: &[&str]) -> Result<CheckWords, WordsError>
     requires { slice_get (texts words.now) 0 ≡ Some (codes "check") }
-    ensures ok { IfOk result (λ w. IsCheck (texts words.now) record { players = w.players; multidata = w.multidata }) }
-    ensures bad { result ≡ Err WordsError.BadWords → (asked : Asked) → IsCheck (texts words.now) asked → ⊥ }
+    ensures ok { IfOk result
+        (λ w. IsCheck (texts words.now) record { players = w.players; multidata = w.multidata }) }
+    ensures bad { result ≡ Err WordsError.BadWords → (asked : Asked)
+        → IsCheck (texts words.now) asked → ⊥ }
 {
     let matches = parse(check_command(alloc)?, words)?;
     Ok(CheckWords {
@@ -56,7 +62,8 @@ fn read_check(alloc: Global, words: &[&str]) -> Result<CheckWords, WordsError>
 fn read_reach(alloc: Global, words: &[&str]) -> Result<ReachWords, WordsError>
     requires { slice_get (texts words.now) 0 ≡ Some (codes "reach") }
     ensures ok { IfOk result (λ w. IsReach (texts words.now) w.players) }
-    ensures bad { result ≡ Err WordsError.BadWords → (players : List ℕ) → IsReach (texts words.now) players → ⊥ }
+    ensures bad { result ≡ Err WordsError.BadWords → (players : List ℕ)
+        → IsReach (texts words.now) players → ⊥ }
 {
     let matches = parse(reach_command(alloc)?, words)?;
     Ok(ReachWords {
@@ -68,7 +75,8 @@ fn read_reach(alloc: Global, words: &[&str]) -> Result<ReachWords, WordsError>
 fn read_drive(alloc: Global, words: &[&str]) -> Result<DriveWords, WordsError>
     requires { slice_get (texts words.now) 0 ≡ Some (codes "drive") }
     ensures ok { IfOk result (λ w. IsDrive (texts words.now) w.multidata) }
-    ensures bad { result ≡ Err WordsError.BadWords → (multidata : List ℕ) → IsDrive (texts words.now) multidata → ⊥ }
+    ensures bad { result ≡ Err WordsError.BadWords → (multidata : List ℕ)
+        → IsDrive (texts words.now) multidata → ⊥ }
 {
     let matches = parse(drive_command(alloc)?, words)?;
     Ok(DriveWords {

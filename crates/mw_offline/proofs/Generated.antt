@@ -1,16 +1,12 @@
--- What `generate` makes, and how it ends.
-use Rattle.std.proofs.Common.{◌≡◌, ◌≢◌, ◌⊎◌, ◌≤◌, ◌<◌, ◌==◌, ℕ, List, [], ◌∷◌, Bool, true, false, Option, Result, Ok, Err, All, filter, flat_map, map, get_or, inl, inr, refl, sym, ap, subst, ◌∙◌, arith}
-use Rattle.std.specs.Prelude.{IfOk, OnErr, codes}
+-- What `generate` makes.
+use Rattle.std.proofs.Common.{◌≡◌, ◌≢◌, ◌⊎◌, ◌≤◌, ◌<◌, ◌==◌, ℕ, List, [], ◌∷◌, Bool, true, false, Result, Ok, All, filter, flat_map, map, get_or, inl, inr, refl, sym, ap, subst, ◌∙◌, arith}
+use Rattle.std.specs.Prelude.{IfErr, IsErrAnd}
 use Rattle.std.specs.List.{range_with_len}
-use Rattle.std.specs.Io.KnownBytes.{Appends, Keeps}
-use Rattle.std.proofs.KnownBytes.{Keeps-refl}
 use Rattle.std.proofs.lemmas.Bool.{cases_lt}
 use Rattle.std.proofs.lemmas.Bool.Decides.{Decides-eqb}
 use Rattle.std.proofs.lemmas.List.{get_or_past}
 use Rattle.std.proofs.lemmas.List.Elements.{All-head, All-tail}
 use Rattle.std.proofs.lemmas.List.FromFn.{length-map-range_with_len, get_or-map-range_with_len}
-use Rattle.mw_edges.specs.Causes.{PutsFront, Tells}
-use Rattle.mw_edges.specs.Folders.{IsWritten}
 use Rattle.mw_multi.specs.World.{World}
 use Rattle.mw_multi.specs.Players.{Players}
 use Rattle.mw_multi.specs.Joint.{Joint, IsJoint, place_total}
@@ -21,17 +17,19 @@ use Rattle.mw_multi.proofs.Standing.{site_within}
 use Rattle.mw_reach.specs.Goals.{IsBeatable}
 use Rattle.mw_fill.specs.declared.seed.GenerateError.{GenerateError}
 use Rattle.mw_fill.specs.declared.seed.GenerateError.TheVariants as refused
-use Rattle.mw_fill.specs.Generated.{IsFirst, IsRefused}
+use Rattle.mw_fill.specs.Generated.{CanBeTried, IsFirst, IsRefused}
 use Rattle.mw_spheres.specs.Spots.{placement_table}
 use Rattle.mw_spheres.proofs.Reaching.{with_events_kept}
-use Rattle.mw_offline.specs.Told.{Told}
-use Rattle.mw_offline.specs.Tables.{Files, TablesOf, TablesEnded}
-use Rattle.mw_offline.specs.Generating.{Wanted, IsMade, Generates, IsGenerated, GeneratedText, HasGenerateCause, IsUnmade, IsCauseOf, IsTextOf, IsUntext, SameBut, Same, Stopped, HasLeft, generate_status, generate_stop_line, GenerateEnded, StopsGenerate}
-use Rattle.mw_offline.specs.declared.table_stop.TableStop.{TableStop}
-use Rattle.mw_offline.specs.declared.table_stop.TableStop.TheVariants as tables
-use Rattle.mw_offline.specs.declared.generate_stop.GenerateStop.{GenerateStop}
-use Rattle.mw_offline.specs.declared.generate_stop.GenerateStop.TheVariants.{Tables, NotBeatable, TooManyItems, Exhausted}
-use Rattle.mw_offline.proofs.TableCauses.{unjoined_cause}
+use Rattle.mw_offline.specs.Ends.{stop_with}
+use Rattle.mw_offline.specs.Tables.{Files, TablesOf, JointIn, AreUnjoined, HasTableCause}
+use Rattle.mw_offline.specs.Generating.{Wanted, IsMade, Generates, IsTextFor, GeneratedText, IsRefusedFor, IsUntextFor, HasGenerateCause, generate_stop}
+use Rattle.mw_offline.specs.declared.stop.Stop.{Stop}
+use Rattle.mw_offline.specs.declared.stop.Stop.TheVariants.{Fault, Memory, Refused}
+use Rattle.mw_offline.specs.declared.table_cause.TableCause.{TableCause}
+use Rattle.mw_offline.specs.declared.generate_cause.GenerateCause.{GenerateCause}
+use Rattle.mw_offline.specs.declared.generate_cause.GenerateCause.TheVariants.{Tables, NotBeatable, TooManyItems, Exhausted}
+use Rattle.mw_offline.proofs.Endings.{at_exit}
+use Rattle.mw_offline.proofs.TableCauses.{unjoined_cause, joint_in}
 
 -- ---- the table of a placement
 
@@ -68,109 +66,63 @@ pub beatable_table : (joint : Joint) (puts : List Put) → IsJoint joint → IsP
     → IsBeatable joint (placement_table joint puts)
 beatable_table joint puts kept placement h = h (placement_table joint puts) (placed_table joint puts kept placement)
 
--- ---- causes
+-- the first try's placement with what is made of it
+pub generates : (joint : Joint) (seed tries stream : ℕ) (placement : List Put) (bytes text : List ℕ) → IsJoint joint → CanBeTried joint × IsFirst joint seed tries stream placement → IsMade joint seed stream placement bytes text → Generates joint seed tries bytes text
+generates joint seed tries stream placement bytes text kept h made = record { kept = kept; can = h.0; stream = stream; placement = placement; first = h.1; made = made }
 
-pub unmade : (joint : Joint) (seed tries : ℕ) (error : GenerateError) (stop : GenerateStop) → IsRefused joint seed tries error → IsCauseOf error tries stop → IsUnmade joint seed tries stop
-unmade joint seed tries (refused.NotBeatable slot) stop h is = subst (IsUnmade joint seed tries) (sym is) h
-unmade joint seed tries (refused.TooManyItems have room) stop h is = subst (IsUnmade joint seed tries) (sym is) h
-unmade joint seed tries refused.Exhausted stop h is = subst (IsUnmade joint seed tries) (sym is) (refl, h)
-unmade joint seed tries refused.Memory stop h is = subst (IsUnmade joint seed tries) (sym is) refl
+-- ---- why there is none
 
--- what a joint doesn't give its tables don't
-pub untext : (worlds : List World) (players : Players) (joint : Joint) (seed tries : ℕ) (stop : GenerateStop) → joint_of worlds players ≡ Ok joint → IsUnmade joint seed tries stop → IsUntext worlds players seed tries stop
-untext worlds players joint seed tries (Tables tables.Fault) joined h = cc
-untext worlds players joint seed tries (Tables tables.Memory) joined h = tt
-untext worlds players joint seed tries (Tables (tables.TooLong file)) joined h = cc
-untext worlds players joint seed tries (Tables (tables.File file kind path)) joined h = cc
-untext worlds players joint seed tries (Tables (tables.Joined refusal)) joined h = cc
-untext worlds players joint seed tries (NotBeatable slot) joined h = (joint, joined, h)
-untext worlds players joint seed tries (TooManyItems have room) joined h = (joint, joined, h)
-untext worlds players joint seed tries (Exhausted times) joined h = (joint, joined, h)
+-- a refusal is no fault
+pub refused_late : (tries : ℕ) (error : GenerateError) → generate_stop tries error ≡ Fault → ⊥
+refused_late tries (refused.NotBeatable slot) e = cc
+refused_late tries (refused.TooManyItems have room) e = cc
+refused_late tries refused.Exhausted e = cc
+refused_late tries refused.Memory e = cc
+
+module _ (joined : Joint → Type 0) (unjoined : Stop TableCause → Type 0) (wanted : Wanted) where
+  -- there is no such joint
+  unjoined_by : (stop : Stop TableCause) → unjoined stop → IsUntextFor joined unjoined wanted (stop_with Tables stop)
+  unjoined_by Fault h = h
+  unjoined_by Memory h = tt
+  unjoined_by (Refused cause) h = h
+
+  pub unjoined_for : {T : Type 0} (answer : Result T (Stop GenerateCause)) (stop : Stop TableCause) → unjoined stop → IsErrAnd answer (λ e. e ≡ stop_with Tables stop) → IfErr answer (IsUntextFor joined unjoined wanted)
+  unjoined_for answer stop h is = at_exit answer (λ e. e ≡ stop_with Tables stop) (IsUntextFor joined unjoined wanted) is (λ e same. subst (IsUntextFor joined unjoined wanted) (sym same) (unjoined_by stop h))
+
+  module _ (joint : Joint) (is_joined : joined joint) where
+    -- it is refused
+    refused_by : (error : GenerateError) → IsRefused joint wanted.seed wanted.tries error → IsUntextFor joined unjoined wanted (generate_stop wanted.tries error)
+    refused_by (refused.NotBeatable slot) h = record { joint = joint; is_joined = is_joined; is = h }
+    refused_by (refused.TooManyItems have room) h = record { joint = joint; is_joined = is_joined; is = h }
+    refused_by refused.Exhausted h = (refl, record { joint = joint; is_joined = is_joined; is = h })
+    refused_by refused.Memory h = tt
+
+    pub refused_for : (error : GenerateError) (named : Stop GenerateCause) → IsRefused joint wanted.seed wanted.tries error → named ≡ generate_stop wanted.tries error → IsUntextFor joined unjoined wanted named
+    refused_for error named h is = subst (IsUntextFor joined unjoined wanted) (sym is) (refused_by error h)
+
+    -- it isn't
+    pub text_for : (bytes text : List ℕ) → Generates joint wanted.seed wanted.tries bytes text → IsTextFor joined wanted bytes text
+    text_for bytes text made = record { joint = joint; is_joined = is_joined; made = made }
+
+-- tables that aren't read
+pub table_cause : {T : Type 0} (files : Files) (wanted : Wanted) (answer : Result T (Stop GenerateCause)) (stop : Stop TableCause) → HasTableCause files wanted.players stop → IsErrAnd answer (λ e. e ≡ stop_with Tables stop)
+    → IfErr answer (HasGenerateCause files wanted)
+table_cause files wanted answer stop h is = unjoined_for (JointIn files wanted.players) (HasTableCause files wanted.players) wanted answer stop h is
 
 module _ (files : Files) (wanted : Wanted) (players : Players) (worlds : List World) (t : TablesOf files wanted.players players worlds) where
-  pub text_there : (bytes text : List ℕ) → IsTextOf worlds players wanted.seed wanted.tries bytes text → GeneratedText files wanted bytes text
-  text_there bytes text (joint, joined, made) = record { joint = joint; joined = record { players = players; worlds = worlds; tables = t; joined = joined }; made = made }
+  abbrev joined_so : Joint → Type 0
+  joined_so joint = joint_of worlds players ≡ Ok joint
 
-  pub cause_there : (stop : GenerateStop) → IsUntext worlds players wanted.seed wanted.tries stop → HasGenerateCause stop files wanted
-  cause_there (Tables stop) h = unjoined_cause files wanted.players players worlds stop t h
-  cause_there (NotBeatable slot) (joint, joined, h) = (joint, record { players = players; worlds = worlds; tables = t; joined = joined }, h)
-  cause_there (TooManyItems have room) (joint, joined, h) = (joint, record { players = players; worlds = worlds; tables = t; joined = joined }, h)
-  cause_there (Exhausted times) (joint, joined, h) = (h.0, (joint, record { players = players; worlds = worlds; tables = t; joined = joined }, h.1))
+  pub generated_text : (bytes text : List ℕ) → IsTextFor joined_so wanted bytes text → GeneratedText files wanted bytes text
+  generated_text bytes text h = record { joint = h.joint; is_joined = joint_in files wanted.players players worlds t h.joint h.is_joined; made = h.made }
 
--- the first try's placement with what is made of it
-pub generates : (joint : Joint) (seed tries stream : ℕ) (placement : List Put) (bytes text : List ℕ) → IsFirst joint seed tries stream placement → IsMade joint seed stream placement bytes text → Generates joint seed tries bytes text
-generates joint seed tries stream placement bytes text first made = record { stream = stream; placement = placement; first = first; made = made }
+  refused_there : (error : GenerateError) → IsRefusedFor joined_so wanted error → IsRefusedFor (JointIn files wanted.players) wanted error
+  refused_there error h = record { joint = h.joint; is_joined = joint_in files wanted.players players worlds t h.joint h.is_joined; is = h.is }
 
--- ---- what is left
-
-module _ (before mid after : Files) (wanted : Wanted) (same : (n : List ℕ) → mid n ≡ before n) (others : (n : List ℕ) → n ≢ wanted.out_name → after n ≡ mid n) where
-  but : SameBut wanted.out_name before after
-  but n other = others n other ∙ same n
-
-  -- a write that is refused
-  pub write_left : (held : Option (List ℕ)) → Stopped before after wanted held held
-  write_left held = record { files = but; put = inl (Keeps-refl held) }
-
-  module _ (old new : Option (List ℕ)) (bytes text : List ℕ) (g : GeneratedText before wanted bytes text) where
-    -- a put that is refused
-    pub put_left : PutsFront old new text → Stopped before after wanted old new
-    put_left front = record { files = but; put = inr (bytes, text, g, front) }
-
-    pub generated : IsWritten (mid wanted.out_name) (after wanted.out_name) bytes → Appends old new text → IsGenerated before after wanted old new
-    generated written put = record { bytes = bytes; text = text; generated = g; written = subst (λ h. IsWritten h (after wanted.out_name) bytes) (same wanted.out_name) written; others = but; put = put }
-
-module _ (before after : Files) (wanted : Wanted) (old new : Option (List ℕ)) where
-  -- nothing is touched before the text is there
-  pub nothing_left : (stop : GenerateStop) → Same before after → Keeps old new → HasLeft stop before after wanted old new
-  nothing_left (Tables tables.Fault) h k = record { files = λ n other. h n; put = inl k }
-  nothing_left (Tables tables.Memory) h k = record { files = λ n other. h n; put = inl k }
-  nothing_left (Tables (tables.TooLong file)) h k = record { files = h; put = k }
-  nothing_left (Tables (tables.File file kind path)) h k = record { files = h; put = k }
-  nothing_left (Tables (tables.Joined refusal)) h k = record { files = h; put = k }
-  nothing_left (NotBeatable slot) h k = record { files = h; put = k }
-  nothing_left (TooManyItems have room) h k = record { files = h; put = k }
-  nothing_left (Exhausted tries) h k = record { files = h; put = k }
-
-  at_memory : (stop : GenerateStop) → HasLeft stop before after wanted old new → Stopped before after wanted old new
-  at_memory (Tables tables.Fault) h = h
-  at_memory (Tables tables.Memory) h = h
-  at_memory (Tables (tables.TooLong file)) h = record { files = λ n other. h.files n; put = inl h.put }
-  at_memory (Tables (tables.File file kind path)) h = record { files = λ n other. h.files n; put = inl h.put }
-  at_memory (Tables (tables.Joined refusal)) h = record { files = λ n other. h.files n; put = inl h.put }
-  at_memory (NotBeatable slot) h = record { files = λ n other. h.files n; put = inl h.put }
-  at_memory (TooManyItems have room) h = record { files = λ n other. h.files n; put = inl h.put }
-  at_memory (Exhausted tries) h = record { files = λ n other. h.files n; put = inl h.put }
-
-  named_cause : (stop named : GenerateStop) → (named ≡ stop) ⊎ (named ≡ Tables tables.Memory) → HasGenerateCause stop before wanted → HasGenerateCause named before wanted
-  named_cause stop named (inl e) cause = subst (λ s. HasGenerateCause s before wanted) (sym e) cause
-  named_cause stop named (inr e) cause = subst (λ s. HasGenerateCause s before wanted) (sym e) tt
-
-  named_left : (stop named : GenerateStop) → (named ≡ stop) ⊎ (named ≡ Tables tables.Memory) → HasLeft stop before after wanted old new → HasLeft named before after wanted old new
-  named_left stop named (inl e) left = subst (λ s. HasLeft s before after wanted old new) (sym e) left
-  named_left stop named (inr e) left = subst (λ s. HasLeft s before after wanted old new) (sym e) (at_memory stop left)
-
-  -- a cause told by its own line, or want of memory in its place, is a cause
-  pub generate_ended_for : (stop : GenerateStop) (status : ℕ) (told : Told) → GenerateEnded stop status told → HasGenerateCause stop before wanted → HasLeft stop before after wanted old new
-      → (s : GenerateStop) × StopsGenerate s status before after wanted old new told
-  generate_ended_for stop status told h cause left =
-      (h.named, record { is_status = h.is_status; cause = named_cause stop h.named h.is cause; left = named_left stop h.named h.is left; line = h.line })
-
--- a cause of the tables ends as theirs do
-pub tables_ended : (stop : TableStop) (status : ℕ) (told : Told) → TablesEnded stop status told → GenerateEnded (Tables stop) status told
-tables_ended stop status told h = record {
-  named = Tables h.named;
-  is = elim h.is [ inl e ↦ inl (ap Tables e) | inr e ↦ inr (ap Tables e) ];
-  is_status = h.is_status;
-  line = h.line;
-}
-
--- a cause with a line of its own ends with its status, or with want of memory
-pub line_ended : {S E : Type 0} (bytes : S → List ℕ) (stop : GenerateStop) (line : Result S E) (status : ℕ) (told : Told) → IfOk line (λ t. bytes t ≡ generate_stop_line stop)
-    → IfOk line (λ t. (status ≡ generate_status stop) × Tells told.old told.new told.before told.now (bytes t))
-    → OnErr line ((status ≡ 6) × Tells told.old told.new told.before told.now (codes "no memory\n")) → GenerateEnded stop status told
-line_ended bytes stop (Ok t) status told is h k = record { named = stop; is = inl refl; is_status = h.0; line = subst (Tells told.old told.new told.before told.now) is h.1 }
-line_ended bytes stop (Err e) status told is h k = record { named = Tables tables.Memory; is = inr refl; is_status = k.0; line = k.1 }
-
--- nothing is left before anything is written
-pub none_left : (before after : Files) (wanted : Wanted) (held : Option (List ℕ)) (stop : GenerateStop) → Same before after → HasLeft stop before after wanted held held
-none_left before after wanted held stop h = nothing_left before after wanted held held stop h (Keeps-refl held)
+  pub generate_cause : (stop : Stop GenerateCause) → IsUntextFor joined_so (AreUnjoined worlds players) wanted stop → HasGenerateCause files wanted stop
+  generate_cause Fault h = absurd h
+  generate_cause Memory h = tt
+  generate_cause (Refused (Tables cause)) h = unjoined_cause files wanted.players players worlds t (Refused cause) h
+  generate_cause (Refused (NotBeatable slot)) h = refused_there (refused.NotBeatable slot) h
+  generate_cause (Refused (TooManyItems have room)) h = refused_there (refused.TooManyItems have room) h
+  generate_cause (Refused (Exhausted tries)) h = (h.0, refused_there refused.Exhausted h.1)

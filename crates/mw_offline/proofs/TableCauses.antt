@@ -1,74 +1,53 @@
--- Causes of tables, and what `reach` has put.
-use Rattle.std.proofs.Common.{◌≡◌, ◌⊎◌, ℕ, List, Option, Ok, sym, subst, inl, inr}
-use Rattle.std.proofs.KnownBytes.{Keeps-refl}
-use Rattle.std.specs.Io.KnownBytes.{Appends}
+-- Causes of tables that are a part of a command.
+use Rattle.std.proofs.Common.{◌≡◌, ◌≢◌, ℕ, List, Result, Ok, Err, sym, subst}
+use Rattle.std.specs.Prelude.{IfErr, IsErrAnd}
 use Rattle.mw_multi.specs.World.{World}
 use Rattle.mw_multi.specs.Players.{Players}
 use Rattle.mw_multi.specs.Joint.{Joint}
 use Rattle.mw_multi.specs.JointOf.{joint_of}
-use Rattle.mw_offline.specs.Told.{Told}
-use Rattle.mw_offline.specs.Tables.{Files, TablesOf, AreUnjoined, HasTableCause, TablesEnded}
-use Rattle.mw_offline.specs.Reaching.{ReachLines, ReachText, Prints, HasReachPut, StopsReach}
-use Rattle.mw_offline.specs.declared.table_stop.TableStop.{TableStop}
-use Rattle.mw_offline.specs.declared.table_stop.TableStop.TheVariants.{Fault, Memory, TooLong, File, Joined}
+use Rattle.mw_multi.specs.declared.refusal.JointRefusal.{JointRefusal}
+use Rattle.mw_multi.specs.declared.refusal.JointRefusal.TheVariants as refused
+use Rattle.mw_offline.specs.Tables.{Files, TablesOf, JointIn, AreUnjoined, HasTableCause, joint_stop}
+use Rattle.mw_offline.specs.Reaching.{ReachLines, ReachText}
+use Rattle.mw_offline.specs.declared.stop.Stop.{Stop}
+use Rattle.mw_offline.specs.declared.stop.Stop.TheVariants.{Fault, Memory, Refused}
+use Rattle.mw_offline.specs.declared.table_cause.TableCause.{TableCause}
+use Rattle.mw_offline.specs.declared.table_cause.TableCause.TheVariants.{TooLong, File, Joined}
+use Rattle.mw_offline.proofs.Endings.{at_exit}
 
-pub unjoined_cause : (files : Files) (name : List ℕ) (players : Players) (worlds : List World) (stop : TableStop) → TablesOf files name players worlds → AreUnjoined worlds players stop
-    → HasTableCause stop files name
-unjoined_cause files name players worlds Fault t h = absurd h
-unjoined_cause files name players worlds Memory t h = tt
-unjoined_cause files name players worlds (TooLong file) t h = absurd h
-unjoined_cause files name players worlds (File file kind path) t h = absurd h
-unjoined_cause files name players worlds (Joined refusal) t h = (players, worlds, t, h)
+-- a joint that is refused is no fault
+pub joint_late : (refusal : JointRefusal) → joint_stop refusal ≡ Fault → ⊥
+joint_late (refused.GameTwice world) e = cc
+joint_late (refused.UnknownName slot option place) e = cc
+joint_late (refused.TooManyPlaces have) e = cc
+joint_late (refused.TooMuchText have) e = cc
+joint_late refused.Memory e = cc
 
--- the lines of a joint are those of the tables that it joins
-pub joined_text : (files : Files) (name text : List ℕ) (players : Players) (worlds : List World) → TablesOf files name players worlds
-    → (joint : Joint) × (joint_of worlds players ≡ Ok joint) × ReachLines joint text → ReachText files name text
-joined_text files name text players worlds t h = record {
-  joint = h.0;
-  joined = record { players = players; worlds = worlds; tables = t; joined = h.1 };
-  lines = h.2;
-}
+-- a joint that is refused gives none
+unjoined_by : (worlds : List World) (players : Players) (refusal : JointRefusal) → (refusal ≢ refused.Memory → joint_of worlds players ≡ Err refusal) → AreUnjoined worlds players (joint_stop refusal)
+unjoined_by worlds players (refused.GameTwice world) h = h (λ e. cc)
+unjoined_by worlds players (refused.UnknownName slot option place) h = h (λ e. cc)
+unjoined_by worlds players (refused.TooManyPlaces have) h = h (λ e. cc)
+unjoined_by worlds players (refused.TooMuchText have) h = h (λ e. cc)
+unjoined_by worlds players refused.Memory h = tt
 
-pub prints : (files : Files) (name text : List ℕ) (old new : Option (List ℕ)) → ReachText files name text → Appends old new text → Prints files name old new
-prints files name text old new reach put = record { text = text; reach = reach; put = put }
+pub unjoined_exit : {T : Type 0} (worlds : List World) (players : Players) (answer : Result T (Stop TableCause)) (refusal : JointRefusal) → (refusal ≢ refused.Memory → joint_of worlds players ≡ Err refusal) → IsErrAnd answer (λ e. e ≡ joint_stop refusal)
+    → IfErr answer (AreUnjoined worlds players)
+unjoined_exit worlds players answer refusal h is =
+    at_exit answer (λ e. e ≡ joint_stop refusal) (AreUnjoined worlds players) is (λ e same. subst (AreUnjoined worlds players) (sym same) (unjoined_by worlds players refusal h))
 
--- ---- what was put
+module _ (files : Files) (name : List ℕ) (players : Players) (worlds : List World) (t : TablesOf files name players worlds) where
+  -- tables that aren't joined give no joint
+  pub unjoined_cause : (stop : Stop TableCause) → AreUnjoined worlds players stop → HasTableCause files name stop
+  unjoined_cause Fault h = absurd h
+  unjoined_cause Memory h = tt
+  unjoined_cause (Refused (TooLong file)) h = absurd h
+  unjoined_cause (Refused (File file kind path)) h = absurd h
+  unjoined_cause (Refused (Joined refusal)) h = (players, worlds, t, h)
 
--- nothing is put before the text is there
-pub nothing_printed : (stop : TableStop) (files : Files) (name : List ℕ) (held : Option (List ℕ)) → HasReachPut stop files name held held
-nothing_printed Fault files name held = inl (Keeps-refl held)
-nothing_printed Memory files name held = inl (Keeps-refl held)
-nothing_printed (TooLong file) files name held = Keeps-refl held
-nothing_printed (File file kind path) files name held = Keeps-refl held
-nothing_printed (Joined refusal) files name held = Keeps-refl held
+  -- those that are give theirs
+  pub joint_in : (joint : Joint) → joint_of worlds players ≡ Ok joint → JointIn files name joint
+  joint_in joint h = record { players = players; worlds = worlds; tables = t; joined = h }
 
-printed_at_memory : (stop : TableStop) (files : Files) (name : List ℕ) (old new : Option (List ℕ)) → HasReachPut stop files name old new → HasReachPut Memory files name old new
-printed_at_memory Fault files name old new h = h
-printed_at_memory Memory files name old new h = h
-printed_at_memory (TooLong file) files name old new h = inl h
-printed_at_memory (File file kind path) files name old new h = inl h
-printed_at_memory (Joined refusal) files name old new h = inl h
-
--- ---- ends
-
-named_cause : (stop named : TableStop) (files : Files) (name : List ℕ) → (named ≡ stop) ⊎ (named ≡ Memory) → HasTableCause stop files name → HasTableCause named files name
-named_cause stop named files name (inl e) cause = subst (λ s. HasTableCause s files name) (sym e) cause
-named_cause stop named files name (inr e) cause = subst (λ s. HasTableCause s files name) (sym e) tt
-
-named_put : (stop named : TableStop) (files : Files) (name : List ℕ) (old new : Option (List ℕ)) → (named ≡ stop) ⊎ (named ≡ Memory) → HasReachPut stop files name old new → HasReachPut named files name old new
-named_put stop named files name old new (inl e) put = subst (λ s. HasReachPut s files name old new) (sym e) put
-named_put stop named files name old new (inr e) put = subst (λ s. HasReachPut s files name old new) (sym e) (printed_at_memory stop files name old new put)
-
--- a cause told by its own line, or want of memory in its place, is a cause
-pub reach_ended_for : (stop : TableStop) (status : ℕ) (files : Files) (name : List ℕ) (old new : Option (List ℕ)) (told : Told)
-    → TablesEnded stop status told → HasTableCause stop files name → HasReachPut stop files name old new
-    → (s : TableStop) × StopsReach s status files name old new told
-reach_ended_for stop status files name old new told h cause put = (
-  h.named,
-  record {
-    is_status = h.is_status;
-    cause = named_cause stop h.named files name h.is cause;
-    put = named_put stop h.named files name old new h.is put;
-    line = h.line;
-  },
-)
+  pub reach_text : (joint : Joint) (text : List ℕ) → joint_of worlds players ≡ Ok joint → ReachLines joint text → ReachText files name text
+  reach_text joint text h lines = record { joint = joint; joined = joint_in joint h; lines = lines }

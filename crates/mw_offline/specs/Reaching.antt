@@ -1,7 +1,7 @@
 -- What `reach` prints, and how it ends.
-use Rattle.std.specs.Prelude.{◌≡◌, ◌⊎◌, ◌++◌, ℕ, zero, suc, ◌+◌, List, [], ◌∷◌, Option, codes, decimal, length, slice_index_or}
+use Rattle.std.specs.Prelude.{◌≡◌, ◌++◌, ℕ, zero, suc, ◌+◌, List, [], ◌∷◌, Option, codes, decimal, length}
 use Rattle.std.specs.Io.KnownBytes.{Keeps, Appends}
-use Rattle.mw_edges.specs.Causes.{PutsFront, Tells}
+use Rattle.mw_edges.specs.Causes.{PutsFront}
 use Rattle.mw_rules.specs.Holds.{Places, bag_of}
 use Rattle.mw_multi.specs.Joint.{Slot, Joint}
 use Rattle.mw_multi.specs.Steps.{steps_of, location_place}
@@ -9,10 +9,9 @@ use Rattle.mw_multi.specs.Bags.{start_count, pool_count, IsBagOf}
 use Rattle.mw_multi.specs.Placement.{IsPlaced}
 use Rattle.mw_multi.specs.Events.{events_of}
 use Rattle.mw_reach.specs.Reach.{one_if, IsLeast}
-use Rattle.mw_offline.specs.Told.{Told}
+use Rattle.mw_seeds.specs.Played.{first_name}
+use Rattle.mw_offline.specs.Ends.{Told, Ends}
 use Rattle.mw_offline.specs.Tables.{Files, JointIn, HasTableCause, table_status, table_line}
-use Rattle.mw_offline.specs.declared.table_stop.TableStop.{TableStop}
-use Rattle.mw_offline.specs.declared.table_stop.TableStop.TheVariants.{Fault, Memory, TooLong, File, Joined}
 
 -- the least list of places for these counts, with the events alone placed
 pub record Reaches (joint : Joint) (count : ℕ → ℕ) (w : Places) : Type 0 where
@@ -35,10 +34,6 @@ location_count s = length s.world.locations
 
 abbrev pub reached_in : Slot → Places → ℕ
 reached_in s w = reached_from w (location_place s 0) (location_count s)
-
--- the slot's name in the first team
-abbrev pub first_name : Slot → List ℕ
-first_name s = slice_index_or s.names 0 []
 
 -- a slot's line: its number, its name in the first team, and how many of its locations are reached, of all of them
 abbrev pub count_line : ℕ → Slot → ℕ → ℕ → List ℕ
@@ -73,27 +68,12 @@ pub record Prints (files : Files) (name : List ℕ) (old new : Option (List ℕ)
   pub reach : ReachText files name text
   pub put : Appends old new text
 
--- nothing was put, or a front of its text
+-- a front of its text was put
 abbrev pub PutsFrontOfReach : Files → List ℕ → Option (List ℕ) → Option (List ℕ) → Type 0
-PutsFrontOfReach files name old new = Keeps old new ⊎ ((text : List ℕ) × ReachText files name text × PutsFront old new text)
+PutsFrontOfReach files name old new = (text : List ℕ) × ReachText files name text × PutsFront old new text
 
--- what was put before it stopped: at a refusal nothing
-abbrev pub HasReachPut : TableStop → Files → List ℕ → Option (List ℕ) → Option (List ℕ) → Type 0
-HasReachPut Fault files name old new = PutsFrontOfReach files name old new
-HasReachPut Memory files name old new = PutsFrontOfReach files name old new
-HasReachPut (TooLong file) files name old new = Keeps old new
-HasReachPut (File file kind path) files name old new = Keeps old new
-HasReachPut (Joined refusal) files name old new = Keeps old new
-
--- it stopped for this cause: its status, what was read and put, and its line on the error sink, or a front of the line
--- where that sink refused
-pub record StopsReach (stop : TableStop) (status : ℕ) (files : Files) (name : List ℕ) (old new : Option (List ℕ)) (told : Told) : Type 0 where
-  pub is_status : status ≡ table_status stop
-  pub cause : HasTableCause stop files name
-  pub put : HasReachPut stop files name old new
-  pub line : Tells told.old told.new told.before told.now (table_line stop)
-
--- how `reach` ended with a status: with all done and the error sink as it was, or stopped for a cause
+-- how `reach` ended with a status
 abbrev pub ReachEnds : ℕ → Files → List ℕ → Option (List ℕ) → Option (List ℕ) → Told → Type 0
 ReachEnds status files name old new told =
-    ((status ≡ 0) × Prints files name old new × Keeps told.old told.new) ⊎ ((stop : TableStop) × StopsReach stop status files name old new told)
+    Ends table_status table_line (HasTableCause files name) (Keeps old new) (PutsFrontOfReach files name old new)
+    (Prints files name old new) status told

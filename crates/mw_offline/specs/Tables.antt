@@ -11,12 +11,13 @@ use Rattle.mw_multi.specs.JointOf.{joint_of}
 use Rattle.mw_multi.specs.OptionNames.{option_text}
 use Rattle.mw_multi.specs.declared.refusal.OptionName.{OptionName}
 use Rattle.mw_multi.specs.declared.refusal.JointRefusal.{JointRefusal}
-use Rattle.mw_multi.specs.declared.refusal.JointRefusal.TheVariants as Refused
+use Rattle.mw_multi.specs.declared.refusal.JointRefusal.TheVariants as refused
 use Rattle.mw_tables.specs.WorldOf.{WorldOf}
 use Rattle.mw_tables.specs.PlayersOf.{PlayersOf}
-use Rattle.mw_offline.specs.Told.{Told, Ended}
-use Rattle.mw_offline.specs.declared.table_stop.TableStop.{TableStop}
-use Rattle.mw_offline.specs.declared.table_stop.TableStop.TheVariants.{Fault, Memory, TooLong, File, Joined}
+use Rattle.mw_offline.specs.declared.stop.Stop.{Stop}
+use Rattle.mw_offline.specs.declared.stop.Stop.TheVariants.{Fault, Memory, Refused}
+use Rattle.mw_offline.specs.declared.table_cause.TableCause.{TableCause}
+use Rattle.mw_offline.specs.declared.table_cause.TableCause.TheVariants.{TooLong, File, Joined}
 
 -- what a folder tells of each name
 abbrev pub Files : Type 0
@@ -53,46 +54,49 @@ pub record TablesOf (files : Files) (name : List ℕ) (players : Players) (world
 -- ---- why there are none
 
 -- no file of this name could be read, or it is longer than this
-abbrev pub IsUnread : Option (Option (List ℕ)) → ℕ → List ℕ → TableStop → Type 0
+abbrev pub IsUnread : Option (Option (List ℕ)) → ℕ → List ℕ → Stop TableCause → Type 0
 IsUnread told limit name Fault = ⊤
 IsUnread told limit name Memory = ⊤
-IsUnread told limit name (TooLong file) = (file ≡ name) × GivesFile told limit Longer
-IsUnread told limit name (File file kind path) = ⊥
-IsUnread told limit name (Joined refusal) = ⊥
+IsUnread told limit name (Refused (TooLong file)) = (file ≡ name) × GivesFile told limit Longer
+IsUnread told limit name (Refused (File file kind path)) = ⊥
+IsUnread told limit name (Refused (Joined refusal)) = ⊥
 
 -- a world file that was read is refused
-abbrev pub IsRefusedWorld : List ℕ → List ℕ → TableStop → Type 0
+abbrev pub IsRefusedWorld : List ℕ → List ℕ → Stop TableCause → Type 0
 IsRefusedWorld name bytes Fault = ⊥
 IsRefusedWorld name bytes Memory = ⊤
-IsRefusedWorld name bytes (TooLong file) = ⊥
-IsRefusedWorld name bytes (File file kind path) = (file ≡ name) × WorldOf bytes (Err record { kind = kind; path = path })
-IsRefusedWorld name bytes (Joined refusal) = ⊥
+IsRefusedWorld name bytes (Refused (TooLong file)) = ⊥
+IsRefusedWorld name bytes (Refused (File file kind path)) = (file ≡ name) × WorldOf bytes (Err record { kind = kind; path = path })
+IsRefusedWorld name bytes (Refused (Joined refusal)) = ⊥
 
 -- the same of a players file
-abbrev pub ArePlayersRefused : List ℕ → List ℕ → TableStop → Type 0
+abbrev pub ArePlayersRefused : List ℕ → List ℕ → Stop TableCause → Type 0
 ArePlayersRefused name bytes Fault = ⊥
 ArePlayersRefused name bytes Memory = ⊤
-ArePlayersRefused name bytes (TooLong file) = ⊥
-ArePlayersRefused name bytes (File file kind path) = (file ≡ name) × PlayersOf bytes (Err record { kind = kind; path = path })
-ArePlayersRefused name bytes (Joined refusal) = ⊥
+ArePlayersRefused name bytes (Refused (TooLong file)) = ⊥
+ArePlayersRefused name bytes (Refused (File file kind path)) = (file ≡ name) × PlayersOf bytes (Err record { kind = kind; path = path })
+ArePlayersRefused name bytes (Refused (Joined refusal)) = ⊥
 
 -- a world file gives no world
-abbrev pub IsWorldStopped : Option (Option (List ℕ)) → ℕ → List ℕ → TableStop → Type 0
-IsWorldStopped told limit name stop = IsUnread told limit name stop ⊎ ((bytes : List ℕ) × GivesFile told limit (Whole bytes) × IsRefusedWorld name bytes stop)
+abbrev pub IsWorldStopped : Option (Option (List ℕ)) → ℕ → List ℕ → Stop TableCause → Type 0
+IsWorldStopped told limit name stop =
+    IsUnread told limit name stop ⊎ ((bytes : List ℕ) × GivesFile told limit (Whole bytes) × IsRefusedWorld name bytes stop)
 
 -- a players file gives no players
-abbrev pub ArePlayersStopped : Option (Option (List ℕ)) → ℕ → List ℕ → TableStop → Type 0
-ArePlayersStopped told limit name stop = IsUnread told limit name stop ⊎ ((bytes : List ℕ) × GivesFile told limit (Whole bytes) × ArePlayersRefused name bytes stop)
+abbrev pub ArePlayersStopped : Option (Option (List ℕ)) → ℕ → List ℕ → Stop TableCause → Type 0
+ArePlayersStopped told limit name stop =
+    IsUnread told limit name stop ⊎ ((bytes : List ℕ) × GivesFile told limit (Whole bytes) × ArePlayersRefused name bytes stop)
 
 -- the first of these world files that gives no world
-abbrev pub AreWorldsStopped : Files → ℕ → List (List ℕ) → TableStop → Type 0
+abbrev pub AreWorldsStopped : Files → ℕ → List (List ℕ) → Stop TableCause → Type 0
 AreWorldsStopped files left [] stop = ⊥
 AreWorldsStopped files left (name ∷ names) stop =
     IsWorldStopped (files name) (world_limit left) name stop
-    ⊎ ((bytes : List ℕ) × (w : World) × GivesFile (files name) (world_limit left) (Whole bytes) × WorldOf bytes (Ok w) × AreWorldsStopped files (left - length bytes) names stop)
+    ⊎ ((bytes : List ℕ) × (w : World) × GivesFile (files name) (world_limit left) (Whole bytes) × WorldOf bytes (Ok w)
+    × AreWorldsStopped files (left - length bytes) names stop)
 
 -- the players file gives no players, or a world file that they name gives no world
-abbrev pub AreTablesStopped : Files → List ℕ → TableStop → Type 0
+abbrev pub AreTablesStopped : Files → List ℕ → Stop TableCause → Type 0
 AreTablesStopped files name stop =
     ArePlayersStopped (files name) max_table_file name stop
     ⊎ ((bytes : List ℕ) × (players : Players) × GivesFile (files name) max_table_file (Whole bytes) × PlayersOf bytes (Ok players)
@@ -109,29 +113,33 @@ abbrev pub IsJointRefused : Files → List ℕ → JointRefusal → Type 0
 IsJointRefused files name refusal = (players : Players) × (worlds : List World) × TablesOf files name players worlds × (joint_of worlds players ≡ Err refusal)
 
 -- why tables give no joint
-abbrev pub AreUnjoined : List World → Players → TableStop → Type 0
+abbrev pub AreUnjoined : List World → Players → Stop TableCause → Type 0
 AreUnjoined worlds players Fault = ⊥
 AreUnjoined worlds players Memory = ⊤
-AreUnjoined worlds players (TooLong file) = ⊥
-AreUnjoined worlds players (File file kind path) = ⊥
-AreUnjoined worlds players (Joined refusal) = joint_of worlds players ≡ Err refusal
+AreUnjoined worlds players (Refused (TooLong file)) = ⊥
+AreUnjoined worlds players (Refused (File file kind path)) = ⊥
+AreUnjoined worlds players (Refused (Joined refusal)) = joint_of worlds players ≡ Err refusal
 
--- why there is no joint, as far as what was read says
-abbrev pub HasTableCause : TableStop → Files → List ℕ → Type 0
-HasTableCause Fault files name = ⊤
-HasTableCause Memory files name = ⊤
-HasTableCause (TooLong file) files name = AreTablesStopped files name (TooLong file)
-HasTableCause (File file kind path) files name = AreTablesStopped files name (File file kind path)
-HasTableCause (Joined refusal) files name = IsJointRefused files name refusal
+-- why there is no joint: the first file that gives none of the tables, with all files before it accepted, or the joint
+abbrev pub HasTableCause : Files → List ℕ → Stop TableCause → Type 0
+HasTableCause files name Fault = AreTablesStopped files name Fault
+HasTableCause files name Memory = ⊤
+HasTableCause files name (Refused (TooLong file)) = AreTablesStopped files name (Refused (TooLong file))
+HasTableCause files name (Refused (File file kind path)) = AreTablesStopped files name (Refused (File file kind path))
+HasTableCause files name (Refused (Joined refusal)) = IsJointRefused files name refusal
+
+-- a refusal of a joint as a stop
+abbrev pub joint_stop : JointRefusal → Stop TableCause
+joint_stop (refused.GameTwice world) = Refused (Joined (refused.GameTwice world))
+joint_stop (refused.UnknownName slot option place) = Refused (Joined (refused.UnknownName slot option place))
+joint_stop (refused.TooManyPlaces have) = Refused (Joined (refused.TooManyPlaces have))
+joint_stop (refused.TooMuchText have) = Refused (Joined (refused.TooMuchText have))
+joint_stop refused.Memory = Memory
 
 -- ---- statuses and lines
 
-abbrev pub table_status : TableStop → ℕ
-table_status Fault = 5
-table_status Memory = 6
-table_status (TooLong file) = 3
-table_status (File file kind path) = 3
-table_status (Joined refusal) = 3
+abbrev pub table_status : TableCause → ℕ
+table_status cause = 3
 
 -- a name that an option of a slot gives, and that nothing has
 abbrev pub unknown_text : ℕ → OptionName → List ℕ
@@ -139,19 +147,13 @@ unknown_text slot option = codes "UnknownName " ++ (decimal slot ++ (codes " " +
 
 -- a refusal's name, and its fields in order
 abbrev pub joint_text : JointRefusal → List ℕ
-joint_text (Refused.GameTwice world) = codes "GameTwice " ++ decimal world
-joint_text (Refused.UnknownName slot option place) = unknown_text slot option ++ (codes " " ++ decimal place)
-joint_text (Refused.TooManyPlaces have) = codes "TooManyPlaces " ++ decimal have
-joint_text (Refused.TooMuchText have) = codes "TooMuchText " ++ decimal have
-joint_text Refused.Memory = codes "no memory"
+joint_text (refused.GameTwice world) = codes "GameTwice " ++ decimal world
+joint_text (refused.UnknownName slot option place) = unknown_text slot option ++ (codes " " ++ decimal place)
+joint_text (refused.TooManyPlaces have) = codes "TooManyPlaces " ++ decimal have
+joint_text (refused.TooMuchText have) = codes "TooMuchText " ++ decimal have
+joint_text refused.Memory = codes "no memory"
 
-abbrev pub table_line : TableStop → List ℕ
-table_line Fault = codes "device failed\n"
-table_line Memory = codes "no memory\n"
+abbrev pub table_line : TableCause → List ℕ
 table_line (TooLong file) = codes "refused: " ++ file ++ codes " TooLong /\n"
 table_line (File file kind path) = codes "refused: " ++ file ++ codes " " ++ kind_text kind ++ codes " " ++ path_text path ++ codes "\n"
 table_line (Joined refusal) = codes "refused: " ++ joint_text refusal ++ codes "\n"
-
--- it ended for this cause, or for want of memory for its line
-abbrev pub TablesEnded : TableStop → ℕ → Told → Type 0
-TablesEnded stop status told = Ended Memory table_status table_line stop status told

@@ -80,7 +80,8 @@ fn command_by(
     session: u64,
     message: &str,
 ) -> Result<Option<Command>, Unbuilt>
-    ensures { GivesBuilt result (built_packet seed.now before.now.keys session (message_packet message.now)) }
+    ensures { GivesBuilt result
+        (built_packet seed.now before.now.keys session (message_packet message.now)) }
 {
     match packet_in(alloc, message)? {
         Some(packet) if is_built(seed, before, session, &packet) => {
@@ -128,7 +129,8 @@ fn add_command(
     command: Command,
 ) -> Result<(), Memory>
     ensures commands { OnOk result (commands.new ≡ commands.old ++ command ∷ []) }
-    ensures sessions { OnOk result (HaveSame sessions.new.keys (sessions.old.keys ++ connected_by (command_view command))) }
+    ensures sessions { OnOk result
+        (HaveSame sessions.new.keys (sessions.old.keys ++ connected_by (command_view command))) }
 {
     if let Some(session) = connected_session(&command) {
         add_session(sessions, session)?;
@@ -145,9 +147,12 @@ pub(crate) fn add_line(
     line: &[u8],
 ) -> Result<(), Unbuilt>
     requires { HaveSame sessions.old.keys (connected (map command_view commands.old)) }
-    ensures sessions { OnOk result (HaveSame sessions.new.keys (connected (map command_view commands.new))) }
-    ensures ok { OnOk result (IsAdded (built_line seed.now sessions.old.keys (line_of_lem line.now)) (map command_view commands.old) (map command_view commands.new)) }
-    ensures not_built { result ≡ Err Unbuilt.NotBuilt → built_line seed.now sessions.old.keys (line_of_lem line.now) ≡ None }
+    ensures sessions { OnOk result
+        (HaveSame sessions.new.keys (connected (map command_view commands.new))) }
+    ensures ok { OnOk result (IsAdded (built_line seed.now sessions.old.keys (line_of_lem line.now))
+        (map command_view commands.old) (map command_view commands.new)) }
+    ensures not_built { result ≡ Err Unbuilt.NotBuilt → built_line seed.now sessions.old.keys
+        (line_of_lem line.now) ≡ None }
 {
     if let Some(command) = command_in(alloc, seed, sessions, line)? {
         add_command(commands, sessions, command)?;

@@ -35,7 +35,8 @@ fn act(room: &mut Room, event: &Event) -> Result<(), Memory>
 
 /// Adds a message on a line of its own.
 fn add_message(out: &mut String, session: u64, text: &Text) -> Result<(), Memory>
-    ensures { OnOk result (string_bytes out.new ≡ string_bytes out.old ++ message_line session text.now) }
+    ensures { OnOk result (string_bytes out.new ≡ string_bytes out.old
+        ++ message_line session text.now) }
 {
     let text = text.as_str();
     write!(out, "{session} {text}\n")?;
@@ -44,7 +45,8 @@ fn add_message(out: &mut String, session: u64, text: &Text) -> Result<(), Memory
 
 /// Adds messages, each on a line of its own.
 fn add_messages(out: &mut String, session: u64, texts: &List<Text>) -> Result<(), Memory>
-    ensures { OnOk result (string_bytes out.new ≡ string_bytes out.old ++ message_lines session texts.now) }
+    ensures { OnOk result (string_bytes out.new ≡ string_bytes out.old
+        ++ message_lines session texts.now) }
 {
     for text in texts.as_slice() {
         add_message(out, session, text)?;
@@ -61,8 +63,10 @@ fn gone(alloc: Global, session: u64) -> Result<String, Memory>
 
 /// Does a command, and answers what it prints.
 fn do_command(alloc: Global, room: &mut Room, command: Command) -> Result<String, Memory>
-    ensures text { IfOk result (λ t. string_bytes t ≡ piece (room_view room.old) (command_view command)) }
-    ensures room { OnOk result (room_view room.new ≡ after (room_view room.old) (command_view command)) }
+    ensures text { IfOk result
+        (λ t. string_bytes t ≡ piece (room_view room.old) (command_view command)) }
+    ensures room { OnOk result
+        (room_view room.new ≡ after (room_view room.old) (command_view command)) }
 {
     match command {
         Command::Open { time } => {
@@ -103,8 +107,12 @@ pub(crate) fn run_commands<O: Sink>(
     commands: List<Command>,
     out: &mut O,
 ) -> Result<(), Halt>
-    ensures done { OnOk result (Appends (O.held out.old) (O.held out.new) (drive_text (room_view room.old) (map command_view commands))) }
-    ensures stopped { OnErr result (PutsFront (O.held out.old) (O.held out.new) (drive_text (room_view room.old) (map command_view commands))) }
+    ensures done { OnOk result
+        (Appends (O.held out.old) (O.held out.new)
+        (drive_text (room_view room.old) (map command_view commands))) }
+    ensures stopped { OnErr result
+        (PutsFront (O.held out.old) (O.held out.new)
+        (drive_text (room_view room.old) (map command_view commands))) }
     ensures fault { result ≡ Err Halt.Fault → Rose (O.faults out.old) (O.faults out.new) }
     ensures later { O.faults out.old ≤ O.faults out.new }
 {

@@ -6,19 +6,15 @@ ghost use Rattle.mw_multi.specs.Placement.{IsPlacement, IsPlaced};
 ghost use Rattle.mw_multi.specs.Events.{with_events};
 ghost use Rattle.mw_reach.specs.Goals.{IsBeatable};
 ghost use Rattle.mw_fill.specs.Fill.{what_stands};
-ghost use Rattle.mw_fill.specs.Generated.{GeneratedSeed};
-ghost use Rattle.mw_offline.specs.Played.{played_lines};
-ghost use Rattle.mw_offline.specs.Generating.{generated_line, IsMade, Generates, IsUnmade, IsCauseOf};
+ghost use Rattle.mw_fill.specs.Generated.{IsRefused};
+ghost use Rattle.mw_seeds.specs.Played.{played_lines};
+ghost use Rattle.mw_offline.specs.Generating.{generated_line, IsMade, Generates};
 
-use crate::generate_stop::GenerateStop;
-use crate::making::seed_file;
-use crate::played_lines::add_lines;
-use crate::seed_locations::standing;
-use crate::table_stop::TableStop;
 use mw_base::{Bytes, Memory, SphereList};
 use mw_fill::{GenerateError, Seed, generate};
 use mw_multi::{Joint, Placement, Players};
 use mw_multidata::write;
+use mw_seeds::{add_played, seed_file};
 use mw_spheres::{playthrough, spheres};
 use std::alloc::Global;
 
@@ -46,11 +42,11 @@ fn text_of(
     played: &SphereList,
 ) -> Result<String, Memory>
     requires { IsPlacement joint.now found.now.placement }
-    ensures { IfOk result (λ t. string_bytes t ≡ generated_line seed found.now.stream many ++ played_lines joint.now.slots (what_stands found.now.placement) 1 played.now) }
+    ensures { IfOk result (λ t. string_bytes t ≡ generated_line seed found.now.stream many
+        ++ played_lines joint.now.slots (what_stands found.now.placement) 1 played.now) }
 {
-    let stands = standing(alloc, joint, &found.placement)?;
     let mut text = first_line(alloc, seed, found.stream, many as u64)?;
-    add_lines(&mut text, joint, stands.as_slice(), played.as_slice())?;
+    add_played(alloc, &mut text, joint, &found.placement, played)?;
     Ok(text)
 }
 
@@ -64,8 +60,11 @@ fn made_of(
 ) -> Result<Made, Memory>
     requires joined { (worlds : List PlainWorld) × (joint_of worlds players.now ≡ Ok joint.now) }
     requires placement { IsPlacement joint.now found.now.placement }
-    requires beatable { (table : List (List ℕ)) → IsPlaced joint.now.slots (with_events joint.now found.now.placement) table → IsBeatable joint.now table }
-    ensures { IfOk result (λ m. IsMade joint.now seed found.now.stream found.now.placement m.bytes (string_bytes m.text)) }
+    requires beatable { (table : List (List ℕ))
+        → IsPlaced joint.now.slots (with_events joint.now found.now.placement) table
+        → IsBeatable joint.now table }
+    ensures { IfOk result (λ m. IsMade joint.now seed found.now.stream found.now.placement m.bytes
+        (string_bytes m.text)) }
 {
     // Reading the joint makes known what its type keeps.
     let _ = &joint.slots;
@@ -77,42 +76,20 @@ fn made_of(
     Ok(Made { bytes, text })
 }
 
-/// The cause of a refusal of so many tries.
-fn stop_of(error: GenerateError, tries: u32) -> GenerateStop
-    ensures { IsCauseOf error tries result }
-{
-    match error {
-        GenerateError::NotBeatable { slot } => GenerateStop::NotBeatable { slot },
-        GenerateError::TooManyItems { have, room } => GenerateStop::TooManyItems { have, room },
-        GenerateError::Exhausted => GenerateStop::Exhausted { tries },
-        GenerateError::Memory => GenerateStop::Tables {
-            stop: TableStop::Memory,
-        },
-    }
-}
-
 /// The seed file of the first try that gives a placement, and the text beside it.
-#[tactic(auto, using(crate::proofs::Generated::unmade, crate::proofs::Generated::generates))]
+#[tactic(auto, using(crate::proofs::Generated::generates))]
 pub(crate) fn make(
     alloc: Global,
     players: &Players,
     joint: &Joint,
     seed: u64,
     tries: u32,
-) -> Result<Made, GenerateStop>
+) -> Result<Made, GenerateError>
     requires tries { (1 ≤ tries) × (tries ≤ 1000) }
     requires joined { (worlds : List PlainWorld) × (joint_of worlds players.now ≡ Ok joint.now) }
     ensures ok { IfOk result (λ m. Generates joint.now seed tries m.bytes (string_bytes m.text)) }
-    ensures err { IfErr result (IsUnmade joint.now seed tries) }
+    ensures err { IfErr result (IsRefused joint.now seed tries) }
 {
-    let found = match generate(alloc, joint, seed, tries) {
-        Ok(found) => found,
-        Err(error) => return Err(stop_of(error, tries)),
-    };
-    match made_of(alloc, players, joint, seed, &found) {
-        Ok(made) => Ok(made),
-        Err(_) => Err(GenerateStop::Tables {
-            stop: TableStop::Memory,
-        }),
-    }
+    let found = generate(alloc, joint, seed, tries)?;
+    Ok(made_of(alloc, players, joint, seed, &found)?)
 }

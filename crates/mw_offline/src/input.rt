@@ -19,7 +19,8 @@ fn take_some<S: Source>(
     chunk: &mut [u8],
     script: &mut Vec<u8>,
 ) -> Result<usize, Halt>
-    ensures taken { IfOk result (λ n. Consumes (S.left input.old) (S.left input.new) (take n chunk.new)) }
+    ensures taken { IfOk result
+        (λ n. Consumes (S.left input.old) (S.left input.new) (take n chunk.new)) }
     ensures script { IfOk result (λ n. script.new.items ≡ script.old.items ++ take n chunk.new) }
     ensures within { IfOk result (λ n. n ≤ length chunk.new) }
     ensures ended { IfOk result (λ n. n ≡ 0 → 0 < length chunk.new → IsAtEnd (S.left input.new)) }

@@ -30,7 +30,9 @@ pub(crate) fn split_line(bytes: &[u8]) -> (&[u8], &[u8])
 
 /// The first line, and what follows its end; None where no line ends.
 pub(crate) fn split_ended(bytes: &[u8]) -> Option<(&[u8], &[u8])>
-    ensures { MatchOption result (position_or_len is_end bytes.now ≡ length bytes.now) (λ p. (position_or_len is_end bytes.now < length bytes.now) × (p.0.now ≡ before_first is_end bytes.now) × (p.1.now ≡ after_first is_end bytes.now)) }
+    ensures { MatchOption result (position_or_len is_end bytes.now ≡ length bytes.now)
+        (λ p. (position_or_len is_end bytes.now < length bytes.now)
+        × (p.0.now ≡ before_first is_end bytes.now) × (p.1.now ≡ after_first is_end bytes.now)) }
 {
     let end = line_len(bytes);
     if end < bytes.len() {

@@ -1,17 +1,18 @@
-ghost use Rattle.std.specs.Prelude.{◌≡◌, ◌⊎◌, ℕ, List, Ok, IfOk, IfErr, OnOk, length, string_bytes};
+//! The command `reach`.
+ghost use Rattle.std.specs.Prelude.{◌≡◌, ◌≤◌, ◌⊎◌, ℕ, List, IfOk, IfErr, OnOk, length, string_bytes};
+ghost use Rattle.std.specs.Io.KnownBytes.{Keeps};
 ghost use Rattle.mw_edges.specs.Causes.{Rose};
-ghost use Rattle.mw_multi.specs.Files.{world_files};
-ghost use Rattle.mw_multi.specs.Joint.{Joint as PlainJoint};
-ghost use Rattle.mw_multi.specs.JointOf.{joint_of};
-ghost use Rattle.mw_offline.specs.Tables.{AreUnjoined, HasTableCause};
-ghost use Rattle.mw_offline.specs.Reaching.{ReachLines, Prints, HasReachPut, ReachEnds};
+ghost use Rattle.mw_offline.specs.Ends.{HasLeft, told_by};
+ghost use Rattle.mw_offline.specs.Tables.{HasTableCause};
+ghost use Rattle.mw_offline.specs.Reaching.{ReachText, Prints, PutsFrontOfReach, ReachEnds};
 
 use crate::reaching::reach_text;
-use crate::table_stop::{TableStop, end_tables};
-use crate::tables::{Tables, read_tables};
+use crate::stop::{Stop, end};
+use crate::table_cause::TableCause;
+use crate::tables::{join, read_tables};
+use crate::telling::put_text;
 use mw_base::Text;
-use mw_edges::{Folder, Sink, SinkError};
-use mw_multi::{Joint, JointRefusal};
+use mw_edges::{Folder, Sink};
 use std::alloc::Global;
 
 /// The words of `reach`.
@@ -21,49 +22,44 @@ pub struct ReachWords {
     pub players: Text,
 }
 
-/// The text of tables that are read.
-fn text_of(alloc: Global, tables: &Tables) -> Result<String, TableStop>
-    requires { length tables.now.worlds ≡ length (world_files tables.now.players) }
-    ensures ok { IfOk result (λ t. (joint : PlainJoint) × (joint_of tables.now.worlds tables.now.players ≡ Ok joint) × ReachLines joint (string_bytes t)) }
-    ensures err { IfErr result (AreUnjoined tables.now.worlds tables.now.players) }
+/// Reads the tables, and gives the text.
+#[tactic(auto, using(crate::proofs::TableCauses::unjoined_cause, crate::proofs::TableCauses::reach_text))]
+fn text_of<F: Folder>(
+    alloc: Global,
+    words: &ReachWords,
+    folder: &mut F,
+) -> Result<String, Stop<TableCause>>
+    ensures ok { IfOk result
+        (λ t. ReachText (F.holds folder.old) words.now.players (string_bytes t)) }
+    ensures err { IfErr result (HasTableCause (F.holds folder.old) words.now.players) }
+    ensures fault { result ≡ Err Stop.Fault → Rose (F.faults folder.old) (F.faults folder.new) }
+    ensures later { F.faults folder.old ≤ F.faults folder.new }
+    ensures same { (n : List ℕ) → F.holds folder.new n ≡ F.holds folder.old n }
 {
-    match Joint::build(alloc, &tables.worlds, &tables.players) {
-        Ok(joint) => match reach_text(alloc, &joint) {
-            Ok(text) => Ok(text),
-            Err(_) => Err(TableStop::Memory),
-        },
-        Err(JointRefusal::Memory) => Err(TableStop::Memory),
-        Err(refusal) => Err(TableStop::Joined { refusal }),
-    }
+    let tables = read_tables(alloc, folder, &words.players)?;
+    let joint = join(alloc, &tables)?;
+    Ok(reach_text(alloc, &joint)?)
 }
 
 /// Does all that `reach` does but for its error line.
-#[tactic(auto, using(crate::proofs::TableCauses::nothing_printed, crate::proofs::TableCauses::unjoined_cause, crate::proofs::TableCauses::joined_text, crate::proofs::TableCauses::prints))]
 fn print_reach<F: Folder, O: Sink>(
     alloc: Global,
     words: &ReachWords,
     folder: &mut F,
     out: &mut O,
-) -> Result<(), TableStop>
-    ensures done { OnOk result (Prints (F.holds folder.old) words.now.players (O.held out.old) (O.held out.new)) }
-    ensures cause { IfErr result (λ stop. HasTableCause stop (F.holds folder.old) words.now.players) }
-    ensures put { IfErr result (λ stop. HasReachPut stop (F.holds folder.old) words.now.players (O.held out.old) (O.held out.new)) }
-    ensures fault { result ≡ Err TableStop.Fault → Rose (F.faults folder.old) (F.faults folder.new) ⊎ Rose (O.faults out.old) (O.faults out.new) }
+) -> Result<(), Stop<TableCause>>
+    ensures done { OnOk result (Prints (F.holds folder.old) words.now.players (O.held out.old)
+        (O.held out.new)) }
+    ensures left { IfErr result (HasLeft (HasTableCause (F.holds folder.old) words.now.players)
+        (Keeps (O.held out.old) (O.held out.new))
+        (PutsFrontOfReach (F.holds folder.old) words.now.players (O.held out.old) (O.held out.new))) }
+    ensures fault { result ≡ Err Stop.Fault
+        → Rose (F.faults folder.old) (F.faults folder.new)
+        ⊎ Rose (O.faults out.old) (O.faults out.new) }
     ensures same { (n : List ℕ) → F.holds folder.new n ≡ F.holds folder.old n }
 {
-    let tables = match read_tables(alloc, folder, &words.players) {
-        Ok(tables) => tables,
-        Err(stop) => return Err(stop),
-    };
-    let text = match text_of(alloc, &tables) {
-        Ok(text) => text,
-        Err(stop) => return Err(stop),
-    };
-    match out.put(text.as_bytes()) {
-        Ok(()) => Ok(()),
-        Err(SinkError::Failed) => Err(TableStop::Fault),
-        Err(SinkError::Memory) => Err(TableStop::Memory),
-    }
+    let text = text_of(alloc, words, folder)?;
+    put_text(out, text.as_str())
 }
 
 /// Prints how much each slot reaches: with what it starts with and the events alone, and with all pool items too.
@@ -71,7 +67,6 @@ fn print_reach<F: Folder, O: Sink>(
 /// The status is 0 where all is done; 3 where a file or the joint is refused; 5 where the folder or the out sink failed;
 /// 6 where memory ran out. With a status other than 0 the error sink gets that status's line, or a front of it where it
 /// refuses.
-#[tactic(auto, using(crate::proofs::TableCauses::reach_ended_for))]
 pub fn cmd_reach<F: Folder, O: Sink, E: Sink>(
     alloc: Global,
     words: &ReachWords,
@@ -79,13 +74,14 @@ pub fn cmd_reach<F: Folder, O: Sink, E: Sink>(
     out: &mut O,
     err: &mut E,
 ) -> u8
-    ensures ends { ReachEnds result (F.holds folder.old) words.now.players (O.held out.old) (O.held out.new)
-        record { old = E.held err.old; new = E.held err.new; before = E.refusals err.old; now = E.refusals err.new } }
-    ensures fault { result ≡ 5 → Rose (F.faults folder.old) (F.faults folder.new) ⊎ Rose (O.faults out.old) (O.faults out.new) }
+    ensures ends { ReachEnds result (F.holds folder.old) words.now.players (O.held out.old)
+        (O.held out.new)
+        (told_by E.held E.refusals err.old err.new) }
+    ensures fault { result ≡ 5
+        → Rose (F.faults folder.old) (F.faults folder.new)
+        ⊎ Rose (O.faults out.old) (O.faults out.new) }
     ensures same { (n : List ℕ) → F.holds folder.new n ≡ F.holds folder.old n }
 {
-    match print_reach(alloc, words, folder, out) {
-        Ok(()) => 0,
-        Err(stop) => end_tables(alloc, err, stop),
-    }
+    let outcome = print_reach(alloc, words, folder, out);
+    end(alloc, err, outcome)
 }

@@ -5,11 +5,12 @@ ghost use Rattle.mw_multi.specs.Bags.{IsBagOf};
 ghost use Rattle.mw_multi.specs.Placement.{IsPlaced};
 ghost use Rattle.mw_multi.specs.Events.{events_of};
 ghost use Rattle.mw_reach.specs.Reached.{IsMadeFor, KeepsRules, places_in};
-ghost use Rattle.mw_offline.specs.Reaching.{Reaches, ReachLines, reached_in as reached_in_lem, first_name as first_name_lem, count_line, slot_lines};
+ghost use Rattle.mw_offline.specs.Reaching.{Reaches, ReachLines, reached_in as reached_in_lem, count_line, slot_lines};
 
 use mw_base::{List, Memory};
 use mw_multi::{Bag, Joint, Placed, Slot};
 use mw_reach::{Reached, reach};
+use mw_seeds::first_name;
 use std::alloc::Global;
 use std::fmt::Write;
 
@@ -32,24 +33,14 @@ fn reached_in(slot: &Slot, reached: &Reached) -> u32
 
 /// How many locations of each slot are reached.
 fn counts_of(alloc: Global, joint: &Joint, reached: &Reached) -> Result<List<u32>, Memory>
-    ensures { IfOk result (λ counts. counts ≡ map (λ s. reached_in_lem s (places_in reached.now)) joint.now.slots) }
+    ensures { IfOk result
+        (λ counts. counts ≡ map (λ s. reached_in_lem s (places_in reached.now)) joint.now.slots) }
 {
     let mut counts = List::new(alloc);
     for slot in joint.slots.as_slice() {
         counts.push(reached_in(slot, reached))?;
     }
     Ok(counts)
-}
-
-/// The slot's name in the first team.
-pub(crate) fn first_name<'a>(slot: &Slot<'a>) -> &'a str
-    ensures { result.now ≡ first_name_lem slot.now }
-{
-    let player = slot.player;
-    match player.names.get(0) {
-        Some(name) => name.as_str(),
-        None => "",
-    }
 }
 
 /// Adds a slot's line.
@@ -60,7 +51,8 @@ fn add_line(
     start: u32,
     all: u32,
 ) -> Result<(), Memory>
-    ensures { OnOk result (string_bytes out.new ≡ string_bytes out.old ++ count_line number slot.now start all) }
+    ensures { OnOk result (string_bytes out.new ≡ string_bytes out.old
+        ++ count_line number slot.now start all) }
 {
     let world = slot.world;
     let name = first_name(slot);
@@ -78,7 +70,8 @@ fn lines_of(
     all: &Reached,
 ) -> Result<String, Memory>
     requires { length start.now ≡ length joint.now.slots }
-    ensures { IfOk result (λ t. (some : Places) → start.now ≡ map (λ s. reached_in_lem s some) joint.now.slots
+    ensures { IfOk result (λ t. (some : Places) → start.now
+        ≡ map (λ s. reached_in_lem s some) joint.now.slots
         → string_bytes t ≡ slot_lines 1 joint.now.slots some (places_in all.now)) }
 {
     let mut out = String::new(alloc);
@@ -104,7 +97,8 @@ fn reach_with(joint: &Joint, base: &Bag, placed: &Placed, into: &mut Reached)
     requires base { (count : ℕ → ℕ) × IsBagOf joint.now.slots count base.now }
     ensures kept { IsMadeFor joint.now into.new }
     ensures rules { KeepsRules joint.now into.new }
-    ensures reached { (count : ℕ → ℕ) → IsBagOf joint.now.slots count base.now → Reaches joint.now count (places_in into.new) }
+    ensures reached { (count : ℕ → ℕ) → IsBagOf joint.now.slots count base.now
+        → Reaches joint.now count (places_in into.new) }
 {
     let _ = &joint.slots;
     reach(joint, base, placed, into);

@@ -1,71 +1,62 @@
-ghost use Rattle.std.specs.Prelude.{◌≡◌, ◌++◌, IfOk, string_bytes};
-ghost use Rattle.mw_offline.specs.Endings.{stop_line, DriveEnded};
-ghost use Rattle.mw_offline.specs.declared.stop.Stop.TheVariants.{SeedFile};
+//! Why a command ends before its work is done, and how it then ends.
+ghost use Rattle.std.specs.Prelude.{◌≡◌, IfErr, OnOk};
+ghost use Rattle.std.specs.Io.KnownBytes.{Keeps};
+ghost use Rattle.mw_offline.specs.Ends.{Ended, told_by};
 
 use crate::telling::{end_without_memory, tell};
 use mw_base::Memory;
 use mw_edges::Sink;
-use mw_json::{Kind, Path, kind_word, path_words};
 use std::alloc::Global;
 
-/// Why `drive` ends before its script does.
+/// Why a command ends before its work is done.
 #[derive(Debug, Drop)]
-pub enum Stop {
+pub enum Stop<C> {
     /// The folder, the source or the out sink failed.
     Fault,
     /// Memory ran out.
     Memory,
-    /// The seed file is refused.
-    SeedFile {
-        /// The cause.
-        kind: Kind,
-        /// Where it stands.
-        path: Path,
-    },
-    /// The seed file is longer than 67,108,864 bytes.
-    SeedFileTooLong,
-    /// The seed file is for more than one team, which isn't built.
-    SeedFileNotBuilt,
-    /// The script is refused at a line.
-    Script {
-        /// The line, counted from 1.
-        line: u64,
-    },
-    /// A line of the script isn't built.
-    LineNotBuilt {
-        /// The line, counted from 1.
-        line: u64,
+    /// What was read is refused.
+    Refused {
+        /// The command's own cause.
+        cause: C,
     },
 }
 
-pub(crate) fn seed_file_line(alloc: Global, kind: Kind, path: &Path) -> Result<String, Memory>
-    ensures { IfOk result (λ t. string_bytes t ≡ stop_line (SeedFile kind path.now)) }
-{
-    let word = kind_word(kind);
-    let place = path_words(alloc, path)?;
-    let place = place.as_str();
-    Ok(format!(in alloc; "multidata refused: {word} {place}\n")?)
+/// A cause of a command's own, with its status and its line.
+pub(crate) trait Cause: Drop {
+    ghost use Rattle.std.specs.Prelude.{◌≡◌, ◌≢◌, ℕ, List, IfOk, string_bytes};
+
+    /// The status.
+    ghost status_of: { Self → ℕ };
+
+    /// The line on the error sink.
+    ghost line_of: { Self → List ℕ };
+
+    /// The status, which is not that of a fault.
+    fn status(&self) -> u8
+        ensures is { result ≡ status_of self.now }
+        ensures own { result ≢ 5 };
+
+    /// The line on the error sink.
+    fn line(&self, alloc: Global) -> Result<String, Memory>
+        ensures { IfOk result (λ t. string_bytes t ≡ line_of self.now) };
 }
 
-/// The line of a cause.
-fn line(alloc: Global, stop: &Stop) -> Result<String, Memory>
-    ensures { IfOk result (λ t. string_bytes t ≡ stop_line stop.now) }
-{
-    match stop {
-        Stop::Fault => Ok(String::from_str(alloc, "device failed\n")?),
-        Stop::Memory => Ok(String::from_str(alloc, "no memory\n")?),
-        Stop::SeedFile { kind, path } => seed_file_line(alloc, *kind, path),
-        Stop::SeedFileTooLong => Ok(String::from_str(alloc, "multidata refused: TooLong /\n")?),
-        Stop::SeedFileNotBuilt => Ok(String::from_str(alloc, "not built: seed file\n")?),
-        Stop::Script { line } => Ok(format!(in alloc; "script refused: line {line}\n")?),
-        Stop::LineNotBuilt { line } => Ok(format!(in alloc; "not built: line {line}\n")?),
+impl<C: Drop> From<Memory> for Stop<C> {
+    ghost use Rattle.mw_offline.specs.declared.stop.Stop.TheVariants.{Memory as OutOfMemory};
+
+    ghost from_gives = { λ _ e. e ≡ OutOfMemory };
+
+    fn from(_error: Memory) -> Self {
+        Stop::Memory
     }
 }
 
 /// Tells a cause, and answers its status. Where memory for its line is wanting, that is the cause.
-pub(crate) fn end<E: Sink>(alloc: Global, err: &mut E, stop: Stop) -> u8
-    ensures ended { DriveEnded stop result record { old = E.held err.old; new = E.held err.new; before = E.refusals err.old; now = E.refusals err.new } }
-    ensures fault { result ≡ 5 → stop ≡ Stop.Fault }
+fn end_stopped<C: Cause, E: Sink>(alloc: Global, err: &mut E, stop: &Stop<C>) -> u8
+    ensures ended { Ended C.status_of C.line_of stop.now result
+        (told_by E.held E.refusals err.old err.new) }
+    ensures fault { result ≡ 5 → stop.now ≡ Stop.Fault }
 {
     match stop {
         Stop::Fault => {
@@ -73,12 +64,27 @@ pub(crate) fn end<E: Sink>(alloc: Global, err: &mut E, stop: Stop) -> u8
             5
         }
         Stop::Memory => end_without_memory(err),
-        _ => match line(alloc, &stop) {
+        Stop::Refused { cause } => match cause.line(alloc) {
             Ok(line) => {
                 tell(err, line.as_str());
-                7
+                cause.status()
             }
             Err(_) => end_without_memory(err),
         },
+    }
+}
+
+/// The status of a command: 0 where all is done, and else that of the cause, which is told.
+pub(crate) fn end<C: Cause, E: Sink>(alloc: Global, err: &mut E, outcome: Result<(), Stop<C>>) -> u8
+    ensures done { OnOk outcome (result ≡ 0) }
+    ensures kept { OnOk outcome (Keeps (E.held err.old) (E.held err.new)) }
+    ensures ended { IfErr outcome
+        (λ stop. Ended C.status_of C.line_of stop result
+        (told_by E.held E.refusals err.old err.new)) }
+    ensures fault { result ≡ 5 → outcome ≡ Err Stop.Fault }
+{
+    match outcome {
+        Ok(()) => 0,
+        Err(stop) => end_stopped(alloc, err, &stop),
     }
 }

@@ -1,9 +1,6 @@
 use Rattle.std.proofs.Common.{Err, ap, refl, inl, inr}
 use Rattle.std.proofs.KnownBytes.{Keeps-refl}
-use Rattle.mw_offline.specs.declared.stop.Stop.TheVariants as drive
-use Rattle.mw_offline.specs.declared.table_stop.TableStop.TheVariants as tables
-use Rattle.mw_offline.specs.declared.generate_stop.GenerateStop.TheVariants as generate
-use Rattle.mw_offline.specs.declared.check_stop.CheckStop.TheVariants as check
+use Rattle.mw_offline.specs.declared.stop.Stop.TheVariants.{Memory}
 use Rattle.mw_cli.specs.Lines.{generate_line, check_line, reach_line, drive_line}
 use Rattle.mw_cli.proofs.Asking.{asks_one}
 use Rattle.mw_cli.proofs.run.run.Goals as goal
@@ -34,16 +31,19 @@ returns-in-Err-BadWords-clause-drive g c = λ name is. absurd (c.in-Err-BadWords
 
 pub returns-in-Err-Memory-clause-generate : goal.returns-in-Err-Memory-clause-generate
 returns-in-Err-Memory-clause-generate g c = λ _ _.
-    inr (generate.Tables tables.Memory, record { is_status = refl; cause = tt; left = record { files = λ _ _. refl; put = inl (Keeps-refl _) }; line = c.tell-in-Err-Memory.ensures })
+    inr (Memory, record { is_status = c.end_without_memory.ensures.status; left = inl (record { files = λ _. refl; put = Keeps-refl _ }); line = c.end_without_memory.ensures.line })
 
 pub returns-in-Err-Memory-clause-check : goal.returns-in-Err-Memory-clause-check
-returns-in-Err-Memory-clause-check g c = λ _ _. inr (check.Tables tables.Memory, record { is_status = refl; cause = tt; put = inl (Keeps-refl _); line = c.tell-in-Err-Memory.ensures })
+returns-in-Err-Memory-clause-check g c = λ _ _.
+    inr (Memory, record { is_status = c.end_without_memory.ensures.status; left = inl (Keeps-refl _); line = c.end_without_memory.ensures.line })
 
 pub returns-in-Err-Memory-clause-reach : goal.returns-in-Err-Memory-clause-reach
-returns-in-Err-Memory-clause-reach g c = λ _ _. inr (tables.Memory, record { is_status = refl; cause = tt; put = inl (Keeps-refl _); line = c.tell-in-Err-Memory.ensures })
+returns-in-Err-Memory-clause-reach g c = λ _ _.
+    inr (Memory, record { is_status = c.end_without_memory.ensures.status; left = inl (Keeps-refl _); line = c.end_without_memory.ensures.line })
 
 pub returns-in-Err-Memory-clause-drive : goal.returns-in-Err-Memory-clause-drive
-returns-in-Err-Memory-clause-drive g c = λ _ _. inr (drive.Memory, record { is_status = refl; cause = tt; put = inl (Keeps-refl _); line = c.tell-in-Err-Memory.ensures })
+returns-in-Err-Memory-clause-drive g c = λ _ _.
+    inr (Memory, record { is_status = c.end_without_memory.ensures.status; left = inl (Keeps-refl _); line = c.end_without_memory.ensures.line })
 
 pub returns-in-Err-BadWords-clause-other : goal.returns-in-Err-BadWords-clause-other
 returns-in-Err-BadWords-clause-other g c = λ _. (refl, refl, inl (refl, c.tell.ensures))

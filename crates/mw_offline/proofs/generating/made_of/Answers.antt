@@ -2,7 +2,8 @@ use Rattle.std.proofs.Common.{◌++◌, ap, subst, ◌∙◌}
 use Rattle.mw_multi.specs.Joint.{IsJoint}
 use Rattle.mw_fill.specs.Fill.{what_stands}
 use Rattle.mw_spheres.proofs.Showing.{spheres_show}
-use Rattle.mw_offline.specs.Played.{played_lines}
+use Rattle.mw_spheres.proofs.Sparing.{none_to_spare}
+use Rattle.mw_seeds.specs.Played.{played_lines}
 use Rattle.mw_offline.specs.Generating.{generated_line}
 use Rattle.mw_offline.proofs.Generated.{beatable_table}
 use Rattle.mw_offline.proofs.generating.made_of.Goals as goal
@@ -20,6 +21,7 @@ returns c =
       shows = spheres_show joint puts c.in_ok-spheres.spheres kept c.requires.placement beatable c.in_ok-spheres.ensures;
       played = c.in_ok-played.played;
       is_playthrough = c.in_ok-played.ensures;
+      needed = none_to_spare joint puts c.in_ok-spheres.spheres c.in_ok-played.played c.in_ok-played.ensures;
       file = c.in_ok-file.file;
       is_file = c.in_ok-file.ensures;
       written = c.in_ok-bytes.ensures.text;

@@ -4,7 +4,7 @@ use Rattle.mw_edges.specs.Folders.{GivesFile}
 use Rattle.mw_edges.specs.declared.folder.FileRead.TheVariants.{Whole}
 use Rattle.mw_multi.specs.World.{World}
 use Rattle.mw_offline.specs.Tables.{max_world_files, world_limit, WorldsOf, AreWorldsStopped}
-use Rattle.mw_offline.proofs.Reading.{drop_next, on_ok}
+use Rattle.mw_seeds.proofs.Pushed.{drop_next}
 use Rattle.mw_offline.proofs.tables.worlds_in.Goals as goal
 
 pub loop-file-preserved : goal.loop-file-preserved
@@ -12,21 +12,22 @@ loop-file-preserved g c =
     let l = c.loop-file in
     let files = g.F.Folder.holds c.args.folder.now in
     let name = c.file-item.result in
-    let r = c.in-Ok.read in
-    let read = c.in-Ok.ensures.ok in
+    let r = c.in_ok-read.read in
+    let read = c.in_ok-read.ensures.ok in
     let rest = drop (l.file-index + 1) c.args.files.now in
     let next : drop l.file-index c.args.files.now ≡ name ∷ rest = drop_next c.args.files.now l.file-index name c.loop-file-test.true c.file-item.is in
-    let is_file : GivesFile (files name) (world_limit l.left) (Whole read.0) = subst (λ told. GivesFile told (world_limit l.left) (Whole read.0)) (l.invariant.2 name) read.2 in
-    let grown : c.push.new.self ≡ l.worlds ++ r.world ∷ [] = on_ok c.push.result _ (sym c.is_err.ensures.value ∙ c.if-is_err.false) c.push.ensures.ok in (
-      λ ws h. subst (λ (worlds : List World). WorldsOf files max_world_files c.args.files.now worlds)
+    let is_file : GivesFile (files name) (world_limit l.left) (Whole read.0) = subst (λ told. GivesFile told (world_limit l.left) (Whole read.0)) (l.invariant.same name) read.2 in
+    let grown : c.push.new.self ≡ l.worlds ++ r.world ∷ [] = c.in_ok-push.ensures.ok in record {
+      worlds = λ ws h. subst (λ (worlds : List World). WorldsOf files max_world_files c.args.files.now worlds)
           (sym (append_assoc l.worlds (r.world ∷ []) ws) ∙ ap (λ front. front ++ ws) (sym grown))
-          (l.invariant.0 (r.world ∷ ws) (subst (λ names. WorldsOf files l.left names (r.world ∷ ws)) (sym next)
-          (read.0, r.world, ws, refl, is_file, read.3, subst (λ n. WorldsOf files (l.left - n) rest ws) read.1 h))),
-      λ stop h. l.invariant.1 stop (subst (λ names. AreWorldsStopped files l.left names stop) (sym next)
-          (inr (read.0, r.world, is_file, read.3, subst (λ n. AreWorldsStopped files (l.left - n) rest stop) read.1 h))),
-      λ n. c.in-Ok.ensures.same n ∙ l.invariant.2 n,
-      omega (arith, l.invariant.3, c.in-Ok.ensures.later),
-    )
+          (l.invariant.worlds (r.world ∷ ws) (subst (λ names. WorldsOf files l.left names (r.world ∷ ws)) (sym next)
+          (read.0, r.world, ws, refl, is_file, read.3, subst (λ n. WorldsOf files (l.left - n) rest ws) read.1 h)));
+      stopped = λ stop h. l.invariant.stopped stop (subst (λ names. AreWorldsStopped files l.left names stop) (sym next)
+          (inr (read.0, r.world, is_file, read.3, subst (λ n. AreWorldsStopped files (l.left - n) rest stop) read.1 h)));
+      same = λ n. c.in_ok-read.ensures.same n ∙ l.invariant.same n;
+      later = omega (arith, l.invariant.later, c.in_ok-read.ensures.later);
+      unrefused = c.in_ok-read.ensures.unrefused ∙ l.invariant.unrefused;
+    }
 
 pub returns-clause-ok : goal.returns-clause-ok
 returns-clause-ok g c =
@@ -34,4 +35,4 @@ returns-clause-ok g c =
     let files = g.F.Folder.holds c.args.folder.now in
     let none : drop l.file-index c.args.files.now ≡ [] = drop_all l.file-index c.args.files.now c.loop-file-test.false in
     subst (λ (worlds : List World). WorldsOf files max_world_files c.args.files.now worlds) (append-nil l.worlds)
-    (l.invariant.0 [] (subst (λ names. WorldsOf files l.left names []) (sym none) refl))
+    (l.invariant.worlds [] (subst (λ names. WorldsOf files l.left names []) (sym none) refl))

@@ -1,7 +1,0 @@
-use Rattle.std.proofs.Common.{◌≡◌, take}
-use Rattle.mw_fill.specs.Numbered.{each_numbered}
-use Rattle.mw_offline.specs.FilePuts.{slot_puts}
-use Rattle.mw_offline.proofs.file_puts.all_puts.Given as goal
-
-abbrev pub invariant-loop-index : goal.invariant-loop-index
-invariant-loop-index l = l.puts ≡ each_numbered (slot_puts l.catalogs l.held) 1 (take l.index l.slot-items)

@@ -1,5 +1,0 @@
-use Rattle.std.proofs.Common.{◌≡◌, take}
-use Rattle.mw_offline.proofs.making.copy_spheres.Given as goal
-
-abbrev pub invariant-loop-sphere : goal.invariant-loop-sphere
-invariant-loop-sphere l = l.copy ≡ take l.sphere-index l.spheres

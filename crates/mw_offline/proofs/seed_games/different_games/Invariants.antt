@@ -1,7 +1,0 @@
-use Rattle.std.proofs.Common.{All}
-use Rattle.mw_offline.specs.SeedKept.{IsTextGame}
-use Rattle.mw_offline.proofs.SeedGames.{AreMet}
-use Rattle.mw_offline.proofs.seed_games.different_games.Given as goal
-
-abbrev pub invariant-loop-slot : goal.invariant-loop-slot
-invariant-loop-slot l = AreMet l.slot-items l.slot-index l.games.items × All IsTextGame l.games.items

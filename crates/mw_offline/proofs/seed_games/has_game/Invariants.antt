@@ -1,6 +1,0 @@
-use Rattle.std.proofs.Common.{◌≡◌, drop}
-use Rattle.mw_offline.specs.SeedFile.{has_game}
-use Rattle.mw_offline.proofs.seed_games.has_game.Given as goal
-
-abbrev pub invariant-loop-game : goal.invariant-loop-game
-invariant-loop-game l = has_game l.games l.name ≡ has_game (drop l.game-index l.games) l.name

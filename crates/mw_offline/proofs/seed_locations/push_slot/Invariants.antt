@@ -1,7 +1,0 @@
-use Rattle.std.proofs.Common.{◌≡◌, ◌++◌, None, slice_index_or, take}
-use Rattle.mw_fill.specs.Numbered.{each_numbered}
-use Rattle.mw_offline.specs.SeedFile.{location_held}
-use Rattle.mw_offline.proofs.seed_locations.push_slot.Given as goal
-
-abbrev pub invariant-loop-index : goal.invariant-loop-index
-invariant-loop-index l = l.held.items ≡ l.fn.held.items ++ each_numbered (location_held l.joint.slots (λ p. slice_index_or l.stands p None) l.finder l.slot) 0 (take l.index l.location-items)

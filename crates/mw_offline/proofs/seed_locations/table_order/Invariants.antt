@@ -1,7 +1,0 @@
-use Rattle.std.proofs.Common.{◌≡◌, None, slice_index_or, take}
-use Rattle.mw_fill.specs.Numbered.{each_numbered}
-use Rattle.mw_offline.specs.SeedFile.{slot_held}
-use Rattle.mw_offline.proofs.seed_locations.table_order.Given as goal
-
-abbrev pub invariant-loop-index : goal.invariant-loop-index
-invariant-loop-index l = l.held.items ≡ each_numbered (slot_held l.joint.slots (λ p. slice_index_or l.stands p None)) 1 (take l.index l.slot-items)

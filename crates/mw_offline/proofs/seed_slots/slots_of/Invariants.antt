@@ -1,7 +1,0 @@
-use Rattle.std.proofs.Common.{◌≡◌, All, map, take}
-use Rattle.mw_offline.specs.SeedFile.{file_slot}
-use Rattle.mw_offline.specs.SeedKept.{IsTextSlot}
-use Rattle.mw_offline.proofs.seed_slots.slots_of.Given as goal
-
-abbrev pub invariant-loop-slot : goal.invariant-loop-slot
-invariant-loop-slot l = (l.slots ≡ map file_slot (take l.slot-index l.slot-items)) × All IsTextSlot l.slots

@@ -1,0 +1,154 @@
+-- Where a seed file's entries first differ from those of the placement that they put, tables and file first differ.
+use Rattle.std.proofs.Common.{◌≡◌, ◌+◌, ℕ, ℤ, suc, List, [], ◌∷◌, Bool, true, false, Option, Some, None, refl, sym, ap, subst, ◌∙◌, arith, All}
+use Rattle.std.specs.Prelude.{Contains, is_some}
+use Rattle.std.proofs.lemmas.List.Sorted.{All-permutation, Contains-permutation}
+use Rattle.mw_model.specs.Seed.{Seed, Held, held_among}
+use Rattle.mw_multi.specs.Joint.{Slot, Joint, IsJoint}
+use Rattle.mw_multi.specs.Steps.{location_place}
+use Rattle.mw_multi.specs.Placement.{Put, slot_at}
+use Rattle.mw_fill.specs.Fill.{what_stands}
+use Rattle.mw_seeds.specs.Ascending.{Ascend}
+use Rattle.mw_seeds.specs.SeedFile.{held_cmp, held_where, location_held, slot_held, all_held, AreLocations}
+use Rattle.mw_seeds.specs.Agreeing.{has_location, held_index, agrees_with, agrees_at, IsFirstDifference}
+use Rattle.mw_seeds.specs.FilePuts.{first_apart, file_puts}
+use Rattle.mw_seeds.specs.Judging.{IsPlacementIn}
+use Rattle.mw_seeds.proofs.SeedHeld.{IsOfSlot, all_of}
+use Rattle.mw_seeds.proofs.Apart.{among_there, among_is, apart_is, same_lists}
+use Rattle.mw_seeds.proofs.FilePlaced.{IsLocated, located, has_it, what_is_put, stands_at_location, put_at, in_numbered, here, is_placement}
+
+-- what the tables and the file say of a location, by what stands there and what the file has
+module _ (slots : List Slot) (due found : Option Held) where
+  -- one entry that fits is due there, and the file's is it where that fits
+  pub record IsDue (e : Held) : Type 0 where
+    pub is : due ≡ Some e
+    pub fits : is_some (held_index slots e) ≡ true
+    pub same : (h : Held) → found ≡ Some h → is_some (held_index slots h) ≡ true → e ≡ h
+
+agreed_same : (slots : List Slot) (due found : Option Held) (e : Held) → IsDue slots due found e → agrees_with slots true found ≡ true → due ≡ found
+agreed_same slots due None e d h = cc
+agreed_same slots due (Some f) e d h = d.is ∙ ap Some (d.same f refl h)
+
+same_agreed : (slots : List Slot) (due found : Option Held) (e : Held) → IsDue slots due found e → due ≡ found → agrees_with slots true found ≡ true
+same_agreed slots due None e d h = let never : Some e ≡ None = sym d.is ∙ h in cc
+same_agreed slots due (Some f) e d h =
+    let equal : Some e ≡ Some f = sym d.is ∙ h in
+    let same : e ≡ f = cc in
+    subst (λ x. is_some (held_index slots x) ≡ true) same d.fits
+
+agreed_none : (slots : List Slot) (due found : Option Held) → due ≡ None → agrees_with slots false found ≡ true → due ≡ found
+agreed_none slots due None is h = is
+agreed_none slots due (Some f) is h = cc
+
+none_agreed : (slots : List Slot) (due found : Option Held) → due ≡ None → due ≡ found → agrees_with slots false found ≡ true
+none_agreed slots due None is h = refl
+none_agreed slots due (Some f) is h = let never : None ≡ Some f = sym is ∙ h in cc
+
+disagrees : (b : Bool) → (b ≡ true → ⊥) → b ≡ false
+disagrees true h = absurd (h refl)
+disagrees false h = refl
+
+module _ (joint : Joint) (kept : IsJoint joint) (seed : Seed) (ascend : Ascend held_cmp seed.locations) (due : List Held) (are : AreLocations joint.slots (file_puts joint.slots seed.locations) due) where
+  abbrev puts : List Put
+  puts = file_puts joint.slots seed.locations
+
+  -- an entry that is due is of a location of the tables
+  abbrev IsListed : Held → Type 0
+  IsListed h = IsLocated joint.slots h.slot h.location
+
+  listed : (h : Held) → IsOfSlot joint.slots 1 joint.slots h → IsListed h
+  listed h (k, s, at, (i, l, id, there, named, of)) =
+      let number : 1 + k ≡ suc k = omega arith in
+      record {
+        before = k;
+        is = of.slot ∙ number;
+        owner = s;
+        there = at;
+        index = i;
+        location = l;
+        listed = there;
+        named = named ∙ ap Some (sym of.location);
+      }
+
+  each_listed : All IsListed due
+  each_listed = All-permutation IsListed (all_held joint.slots (what_stands puts)) due are.same (λ k d l. listed _ (all_of joint.slots (what_stands puts) 1 joint.slots k d l))
+
+  not_listed : (s : ℕ) (l : ℤ) (o : Option Held) → held_among due s l ≡ o → has_location l (slot_at joint.slots s) ≡ false → o ≡ None
+  not_listed s l None is none = refl
+  not_listed s l (Some h) is none =
+      let found = among_is IsListed s l due h each_listed is in
+      let there : has_location h.location (slot_at joint.slots h.slot) ≡ true = has_it joint.slots h.slot h.location found.holds in
+      let also : has_location l (slot_at joint.slots s) ≡ true = subst (λ n. has_location l (slot_at joint.slots n) ≡ true) found.slot (subst (λ i. has_location i (slot_at joint.slots h.slot) ≡ true) found.location there) in
+      cc
+
+  -- the entry for what is put at a location is due
+  due_there : (s : ℕ) (l : ℤ) → IsLocated joint.slots s l → (e : Held) × IsDue joint.slots (held_among due s l) (held_among seed.locations s l) e
+  due_there s l at =
+      let stands = what_stands puts in
+      let is_put = what_is_put joint kept seed.locations at.before at.owner at.there at.index at.location at.listed l at.named in
+      let p = put_at joint kept seed.locations (suc at.before) at.owner at.index l in
+      let e = is_put.entry in
+      let one : location_held joint.slots stands (suc at.before) at.owner at.index at.location ≡ e ∷ [] =
+      ap (λ o. held_where joint.slots (suc at.before) o (stands (location_place at.owner at.index))) at.named
+      ∙ ap (held_where joint.slots (suc at.before) (Some l)) (stands_at_location joint kept seed.locations at.before at.owner at.there at.index at.location at.listed l at.named) ∙ is_put.is in
+      let number : suc at.before ≡ 1 + at.before = omega arith in
+      let index : at.index ≡ 0 + at.index = omega arith in
+      let among : Contains (all_held joint.slots stands) e =
+      in_numbered (slot_held joint.slots stands) 1 joint.slots at.before at.owner e at.there (subst (λ n. Contains (slot_held joint.slots stands n at.owner) e) number
+      (in_numbered (location_held joint.slots stands (suc at.before) at.owner) 0 at.owner.world.locations at.index at.location e at.listed
+      (subst (λ n. Contains (location_held joint.slots stands (suc at.before) at.owner n at.location) e) index (here e (location_held joint.slots stands (suc at.before) at.owner at.index at.location) one)))) in
+      let there : held_among due e.slot e.location ≡ Some e = among_there due e are.ascend (Contains-permutation (all_held joint.slots stands) due e are.same among) in
+      let slot : e.slot ≡ s = is_put.slot ∙ sym at.is in (
+        e,
+        record {
+          is = subst (λ n. held_among due n l ≡ Some e) slot (subst (λ i. held_among due e.slot i ≡ Some e) is_put.location there);
+          fits = is_put.fits;
+          same = λ h found fit.
+              let key = among_is (λ _. Unit {0}) s l seed.locations h (λ k d i. tt) found in
+              is_put.same h (ap (λ n. held_among seed.locations n l) (sym at.is) ∙ found) (key.slot ∙ at.is) key.location fit;
+        },
+      )
+
+  by_tables : (s : ℕ) (l : ℤ) (b : Bool) → has_location l (slot_at joint.slots s) ≡ b → ((agrees_with joint.slots b (held_among seed.locations s l) ≡ true → held_among due s l ≡ held_among seed.locations s l)
+      × (held_among due s l ≡ held_among seed.locations s l → agrees_with joint.slots b (held_among seed.locations s l) ≡ true))
+  by_tables s l true has =
+      let d = due_there s l (located joint.slots s l has) in
+      (agreed_same joint.slots (held_among due s l) (held_among seed.locations s l) d.0 d.1, same_agreed joint.slots (held_among due s l) (held_among seed.locations s l) d.0 d.1)
+  by_tables s l false has =
+      let none = not_listed s l (held_among due s l) refl has in
+      (agreed_none joint.slots (held_among due s l) (held_among seed.locations s l) none, none_agreed joint.slots (held_among due s l) (held_among seed.locations s l) none)
+
+  agreed : (s : ℕ) (l : ℤ) → held_among due s l ≡ held_among seed.locations s l → agrees_at joint seed s l ≡ true
+  agreed s l = (by_tables s l (has_location l (slot_at joint.slots s)) refl).1
+
+  -- the first entry that differs shows where tables and file first differ
+  pub first_difference : (h : Held) → first_apart due seed.locations ≡ Some h → IsFirstDifference joint seed h.slot h.location
+  first_difference h e =
+      let a = apart_is due seed.locations h are.ascend ascend e in
+      record {
+        differs = disagrees (agrees_at joint seed h.slot h.location) (λ agree. a.differ ((by_tables h.slot h.location (has_location h.location (slot_at joint.slots h.slot)) refl).0 agree));
+        earlier = λ s l less. agreed s l (a.earlier s l less);
+      }
+
+  -- and where none differs they agree
+  pub placed_in : first_apart due seed.locations ≡ None → IsPlacementIn joint seed puts
+  placed_in e =
+      let same : due ≡ seed.locations = same_lists due seed.locations e in
+      record {
+        agree = λ s l. agreed s l (ap (λ hs. held_among hs s l) same);
+        placement = is_placement joint kept seed.locations;
+        entries = subst (AreLocations joint.slots puts) same are;
+      }
+
+-- the same over what the code has
+module _ (joint : Joint) (kept : IsJoint joint) (seed : Seed) (ascend : Ascend held_cmp seed.locations) (held : List Held) (same : held ≡ seed.locations) (put : List Put) (is : put ≡ file_puts joint.slots held)
+    (due listed : List Held) (are : AreLocations joint.slots put due) (read : listed ≡ due) where
+  are_here : AreLocations joint.slots (file_puts joint.slots seed.locations) due
+  are_here = subst (λ ps. AreLocations joint.slots ps due) (is ∙ ap (file_puts joint.slots) same) are
+
+  pub placed_at : first_apart listed held ≡ None → IsPlacementIn joint seed put
+  placed_at e =
+      subst (IsPlacementIn joint seed) (sym (is ∙ ap (file_puts joint.slots) same))
+      (placed_in joint kept seed ascend due are_here (ap (λ ds. first_apart ds seed.locations) (sym read) ∙ ap (first_apart listed) (sym same) ∙ e))
+
+  pub difference_at : (h : Held) → first_apart listed held ≡ Some h → IsFirstDifference joint seed h.slot h.location
+  difference_at h e = first_difference joint kept seed ascend due are_here h (ap (λ ds. first_apart ds seed.locations) (sym read) ∙ ap (first_apart listed) (sym same) ∙ e)

@@ -1,0 +1,61 @@
+-- Whether joined tables and a seed file agree on what stands where.
+use Rattle.std.specs.Prelude.{◌≡◌, ◌==◌, ◌&&◌, ℕ, ℤ, List, Bool, true, false, Option, Some, None, is_some, map, not, option_map, slice_get, if◌then◌else◌}
+use Rattle.std.specs.Ordering.{nat_cmp, int_cmp, ordering_then}
+use Rattle.std.specs.declared.cmp.Ordering.{Ordering}
+use Rattle.std.specs.declared.cmp.Ordering.TheVariants.{Less}
+use Rattle.mw_model.specs.Seed.{Seed, Held, held_at}
+use Rattle.mw_multi.specs.World.{Item}
+use Rattle.mw_multi.specs.WorldKept.{item_id, location_id}
+use Rattle.mw_multi.specs.Joint.{Slot, Joint}
+use Rattle.mw_multi.specs.Placement.{slot_at}
+use Rattle.mw_tables.specs.Names.{index_of_id}
+use Rattle.mw_seeds.specs.SeedFile.{class_flags}
+
+-- the slot's world has a location with this id
+abbrev pub has_location : ℤ → Option Slot → Bool
+has_location id None = false
+has_location id (Some s) = is_some (index_of_id (map location_id s.world.locations) id)
+
+-- these are the flags of the item's class
+abbrev pub has_flags : ℕ → Option Item → Bool
+has_flags flags None = false
+has_flags flags (Some i) = flags == class_flags i.class
+
+abbrev pub where_flags : ℕ → List Item → Option ℕ → Option ℕ
+where_flags flags items None = None
+where_flags flags items (Some index) = if has_flags flags (slice_get items index) then Some index else None
+
+-- where the item of an entry stands among these, if it has an id there and the entry's flags are those of its class
+abbrev pub index_among : Held → Option (List Item) → Option ℕ
+index_among h None = None
+index_among h (Some items) = where_flags h.flags items (index_of_id (map item_id items) h.item)
+
+-- the items of a slot's world
+abbrev pub slot_items : Slot → List Item
+slot_items s = s.world.items
+
+-- the same in its receiver's world
+abbrev pub held_index : List Slot → Held → Option ℕ
+held_index slots h = index_among h (option_map slot_items (slot_at slots h.receiver))
+
+-- neither has an entry for the location, or both have one, and the file's is of such an item
+abbrev pub agrees_with : List Slot → Bool → Option Held → Bool
+agrees_with slots has None = not has
+agrees_with slots has (Some h) = has && is_some (held_index slots h)
+
+-- at a location of the slot of this number, by its id
+abbrev pub agrees_at : Joint → Seed → ℕ → ℤ → Bool
+agrees_at joint seed slot location = agrees_with joint.slots (has_location location (slot_at joint.slots slot)) (held_at seed slot location)
+
+-- they agree everywhere
+abbrev pub TablesAgree : Joint → Seed → Type 0
+TablesAgree joint seed = (slot : ℕ) (location : ℤ) → agrees_at joint seed slot location ≡ true
+
+-- by slot, then by id
+abbrev pub location_cmp : ℕ → ℤ → ℕ → ℤ → Ordering
+location_cmp slot location other_slot other = ordering_then (nat_cmp slot other_slot) (int_cmp location other)
+
+-- they don't agree there, and do at each location before
+pub record IsFirstDifference (joint : Joint) (seed : Seed) (slot : ℕ) (location : ℤ) : Type 0 where
+  pub differs : agrees_at joint seed slot location ≡ false
+  pub earlier : (s : ℕ) (l : ℤ) → location_cmp s l slot location ≡ Less → agrees_at joint seed s l ≡ true

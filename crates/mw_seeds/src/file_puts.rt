@@ -1,0 +1,236 @@
+//! What the entries of a seed file put at the locations of joined tables.
+ghost use Rattle.std.specs.Prelude.{◌≡◌, ◌≤◌, ◌<◌, ◌+◌, ◌++◌, ◌^◌, ℤ, IfOk, OnOk, Some, None, length, map, slice_get};
+ghost use Rattle.std.specs.Ordering.{int_eq};
+ghost use Rattle.std.specs.HashMap as hash;
+ghost use Rattle.mw_model.specs.Seed.{held_among};
+ghost use Rattle.mw_multi.specs.Joint.{slot_places};
+ghost use Rattle.mw_multi.specs.Placement.{IsPlacement};
+ghost use Rattle.mw_multi.specs.WorldKept.{item_id};
+ghost use Rattle.mw_tables.specs.Names.{index_of_id};
+ghost use Rattle.mw_tables.specs.Noting.{or_its_place};
+ghost use Rattle.mw_fill.specs.Numbered.{each_numbered};
+ghost use Rattle.mw_seeds.specs.Ascending.{Ascend};
+ghost use Rattle.mw_seeds.specs.SeedFile.{held_cmp};
+ghost use Rattle.mw_seeds.specs.Agreeing.{has_flags as plain_has_flags, where_flags, index_among, slot_items, location_cmp};
+ghost use Rattle.mw_seeds.specs.FilePuts.{catalog_at, file_put as plain_put, put_where, slot_puts, file_puts as plain_puts};
+
+use crate::seed_locations::slot_id;
+use crate::seed_slots::class_flags;
+use mw_base::{ItemId, List, LocId, Memory, SlotId};
+use mw_multi::{Item, Joint, Location, Placement, Put, Slot};
+use mw_multidata::Held;
+use std::alloc::Global;
+use std::cmp::Ordering;
+use std::collections::HashMap;
+use std::marker::Model;
+
+/// The items of a world, with the place of each id.
+#[derive(Drop)]
+struct Catalog<'a> {
+    items: &'a [Item],
+    places: HashMap<i64, u32>,
+}
+
+impl<'a> Model for Catalog<'a> {
+    ghost use Rattle.std.specs.Prelude.{◌≡◌, ℤ, List, map};
+    ghost use Rattle.std.specs.Ordering.{int_eq};
+    ghost use Rattle.std.specs.HashMap as hash;
+    ghost use Rattle.mw_multi.specs.World as plain;
+    ghost use Rattle.mw_multi.specs.WorldKept.{item_id};
+    ghost use Rattle.mw_tables.specs.Names.{index_of_id};
+
+    ghost Value = { List plain.Item };
+
+    ghost view = { λ c. c.items.now };
+
+    ghost invariant = { λ c. (q : ℤ)
+        → hash.get int_eq c.places q ≡ index_of_id (map item_id c.items.now) q };
+}
+
+/// Notes the place of an item's id, unless it stands at an earlier one.
+fn note(places: &mut HashMap<i64, u32>, id: Option<ItemId>, at: u32) -> Result<(), Memory>
+    ensures { OnOk result ((q : ℤ) → hash.get int_eq places.new q
+        ≡ or_its_place (hash.get int_eq places.old q) id q at) }
+{
+    if let Some(id) = id {
+        if !places.contains_key(&id.get()) {
+            places.insert(id.get(), at)?;
+        }
+    }
+    Ok(())
+}
+
+/// Whether these are the flags of the item's class.
+fn has_flags(flags: u8, item: &Item) -> bool
+    ensures { result ≡ plain_has_flags flags (Some item.now) }
+{
+    flags == class_flags(item.class)
+}
+
+impl<'a> Catalog<'a> {
+    /// The catalog of these items.
+    fn of(alloc: Global, items: &'a [Item]) -> Result<Catalog<'a>, Memory>
+        requires { length items.now ≤ 10000 }
+        ensures { IfOk result (λ c. c ≡ items.now) }
+    {
+        let mut places = HashMap::new(alloc);
+        for (at, item) in items.iter().enumerate() {
+            note(&mut places, item.id, at as u32)?;
+        }
+        Ok(Catalog { items, places })
+    }
+
+    /// Where the item of this id stands, if these are its flags.
+    fn find(&self, item: ItemId, flags: u8) -> Option<u32>
+        ensures { result ≡ where_flags flags self.now (index_of_id (map item_id self.now) item) }
+    {
+        let index = *self.places.get(&item.get())?;
+        if has_flags(flags, self.items.get(index as usize)?) {
+            Some(index)
+        } else {
+            None
+        }
+    }
+}
+
+/// The catalogs of all slots.
+fn catalogs_of<'a>(alloc: Global, slots: &[Slot<'a>]) -> Result<List<Catalog<'a>>, Memory>
+    ensures { IfOk result (λ cs. cs ≡ map slot_items slots.now) }
+{
+    let mut catalogs = List::new(alloc);
+    for slot in slots {
+        let world = slot.world;
+        catalogs.push(Catalog::of(alloc, world.items.as_slice())?)?;
+    }
+    Ok(catalogs)
+}
+
+/// Where the item of an entry stands in its receiver's world, if it has an id there and the entry's flags are those of its
+/// class.
+fn index_of(catalogs: &[Catalog], held: &Held) -> Option<u32>
+    ensures { result ≡ index_among held.now (catalog_at catalogs.now held.now.receiver) }
+{
+    if held.receiver == 0 {
+        return None;
+    }
+    let catalog = catalogs.get(held.receiver as usize - 1)?;
+    catalog.find(held.item, held.flags)
+}
+
+/// How an entry's location lies to the one of this slot and id.
+fn compare(held: &Held, slot: u16, location: i64) -> Ordering
+    ensures { result ≡ location_cmp held.now.slot held.now.location slot location }
+{
+    held.slot
+        .get()
+        .cmp(&slot)
+        .then(held.location.get().cmp(&location))
+}
+
+/// The entry of a location, by its slot and id; None exactly where there is none.
+fn find_held(held: &[Held], slot: u16, location: i64) -> Option<Held>
+    requires { Ascend held_cmp held.now }
+    ensures { result ≡ held_among held.now slot location }
+{
+    match held.binary_search_by(|entry| compare(entry, slot, location)) {
+        Ok(index) => Some(held[index]),
+        Err(_) => None,
+    }
+}
+
+/// What an entry puts at a place of the slot of this number, or else its own filler.
+fn file_put(catalogs: &[Catalog], number: u16, slot: &Slot, place: u32, found: Option<Held>) -> Put
+    ensures { result ≡ plain_put catalogs.now number slot.now place found }
+{
+    let world = slot.world;
+    let own = Put {
+        place,
+        receiver: number,
+        item: world.filler,
+    };
+    let Some(held) = found else {
+        return own;
+    };
+    match index_of(catalogs, &held) {
+        Some(item) => Put {
+            place,
+            receiver: held.receiver,
+            item,
+        },
+        None => own,
+    }
+}
+
+/// Adds what the file puts at a location of the slot of this number, where the location has an id.
+fn push_location(
+    puts: &mut List<Put>,
+    catalogs: &[Catalog],
+    held: &[Held],
+    number: u16,
+    slot: &Slot,
+    place: u32,
+    location: &Location,
+) -> Result<(), Memory>
+    requires { Ascend held_cmp held.now }
+    ensures { OnOk result
+        (puts.new ≡ puts.old
+        ++ put_where catalogs.now held.now number slot.now place location.now.id) }
+{
+    let Some(id) = location.id else {
+        return Ok(());
+    };
+    let found = find_held(held, number, id.get());
+    puts.push(file_put(catalogs, number, slot, place, found))?;
+    Ok(())
+}
+
+/// Adds what the file puts at the locations of the slot of this number.
+fn push_slot(
+    puts: &mut List<Put>,
+    catalogs: &[Catalog],
+    held: &[Held],
+    number: u16,
+    slot: &Slot,
+) -> Result<(), Memory>
+    requires ascend { Ascend held_cmp held.now }
+    requires fits { slot.now.first_place + slot_places slot.now < 2 ^ 32 }
+    ensures { OnOk result (puts.new ≡ puts.old ++ slot_puts catalogs.now held.now number slot.now) }
+{
+    let world = slot.world;
+    for (index, location) in world.locations.as_slice().iter().enumerate() {
+        let place = slot.location_place(index as u32);
+        push_location(puts, catalogs, held, number, slot, place, location)?;
+    }
+    Ok(())
+}
+
+/// What the file puts at the locations of all slots.
+fn all_puts(
+    alloc: Global,
+    catalogs: &[Catalog],
+    joint: &Joint,
+    held: &[Held],
+) -> Result<List<Put>, Memory>
+    requires { Ascend held_cmp held.now }
+    ensures { IfOk result
+        (λ puts. puts ≡ each_numbered (slot_puts catalogs.now held.now) 1 joint.now.slots) }
+{
+    let mut puts = List::new(alloc);
+    for (index, slot) in joint.slots.as_slice().iter().enumerate() {
+        push_slot(&mut puts, catalogs, held, slot_id(index).get(), slot)?;
+    }
+    Ok(puts)
+}
+
+/// What the entries of a seed file put at the locations with an id, in ascending order of places: the item that an entry
+/// names, or the location's own filler where no entry names an item that fits.
+pub(crate) fn file_puts(alloc: Global, joint: &Joint, held: &[Held]) -> Result<Placement, Memory>
+    requires { Ascend held_cmp held.now }
+    ensures puts { IfOk result (λ puts. puts ≡ plain_puts joint.now.slots held.now) }
+    ensures placement { IfOk result (IsPlacement joint.now) }
+{
+    // Reading the joint makes known what its type keeps.
+    let _ = &joint.slots;
+    let catalogs = catalogs_of(alloc, joint.slots.as_slice())?;
+    all_puts(alloc, catalogs.as_slice(), joint, held)
+}

@@ -1,0 +1,19 @@
+//! A joint's seed file: its making, whether one is right for the joint, and the lines of its playthrough.
+#![tactic(auto)]
+
+mod agreeing;
+mod checking;
+mod copies;
+mod file_puts;
+mod making;
+mod played_lines;
+mod refusal;
+mod seed_games;
+mod seed_locations;
+mod seed_slots;
+
+pub use agreeing::placement_in;
+pub use checking::check_seed;
+pub use making::seed_file;
+pub use played_lines::{add_played, first_name};
+pub use refusal::SeedRefusal;
