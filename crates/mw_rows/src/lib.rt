@@ -12,6 +12,12 @@ mod game_names;
 #[cfg(test)]
 mod ids;
 #[cfg(test)]
+mod lock_race;
+#[cfg(test)]
+mod lock_sums;
+#[cfg(test)]
+mod lock_workers;
+#[cfg(test)]
 mod reaching;
 #[cfg(test)]
 mod room_a;
