@@ -12,7 +12,8 @@ use Rattle.mw_multi.specs.Joint.{Slot}
 use Rattle.mw_multidata.specs.Names.{has_name}
 use Rattle.mw_multidata.specs.Ascending.{NamesAscend}
 use Rattle.mw_multidata.specs.SeedKept.{game_name}
-use Rattle.mw_seeds.specs.SeedFile.{has_game, IsGameOf, IsPlayed, HasGameOf, IsGameAdded, AreDifferent, AreGames}
+use Rattle.mw_seeds.specs.GamesMet.{has_game, IsGameAdded, AreDifferent}
+use Rattle.mw_seeds.specs.SeedFile.{IsGameOf, IsPlayed, HasGameOf, AreGames}
 
 -- the games of the first slots
 pub record AreMet (slots : List Slot) (i : ℕ) (games : List Game) : Type 0 where

@@ -1,4 +1,5 @@
--- What the entries of a seed file put at the locations of joined tables.
+-- For proofs alone: what the entries of a seed file put at the locations of joined tables, and where two lists of entries
+-- first differ.
 use Rattle.std.specs.Prelude.{ℕ, zero, suc, ℤ, List, map, slice_get, [], ◌∷◌, Option, Some, None, Bool, ◌==◌, ◌&&◌, if◌then◌else◌}
 use Rattle.std.specs.Ordering.{int_eq, is_lt}
 use Rattle.mw_model.specs.Seed.{Held, held_among}

@@ -1,4 +1,5 @@
 pub mod SeedFile
+pub mod GamesMet
 pub mod Played
 pub mod Agreeing
 pub mod FilePuts

@@ -68,23 +68,7 @@ IsPlayed slots g = (s : joined.Slot) × Contains slots s × IsGameOf s.world g
 abbrev pub HasGameOf : List Game → joined.Slot → Type 0
 HasGameOf games s = Contains (map game_name games) s.world.game
 
--- a game of this name is among them
-abbrev pub has_game : List Game → List ℕ → Bool
-has_game [] name = false
-has_game (g ∷ gs) name = bytes_eq g.name name || has_game gs name
-
--- the game of a world more, where it isn't there yet
-abbrev pub IsGameAdded : List Game → World → List Game → Type 0
-IsGameAdded before w after =
-    MatchBool (has_game before w.game) (after ≡ before) ((g : Game) × IsGameOf w g × (after ≡ before ++ g ∷ []))
-
--- the different games of the slots' worlds
-pub record AreDifferent (slots : List joined.Slot) (games : List Game) : Type 0 where
-  pub differ : NamesDiffer (map game_name games)
-  pub played : All (IsPlayed slots) games
-  pub all : All (HasGameOf games) slots
-
--- the same in byte order
+-- the different games of the slots' worlds, in byte order
 pub record AreGames (slots : List joined.Slot) (games : List Game) : Type 0 where
   pub ascend : NamesAscend (map game_name games)
   pub played : All (IsPlayed slots) games

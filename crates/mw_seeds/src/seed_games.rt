@@ -7,7 +7,8 @@ ghost use Rattle.mw_multi.specs.WorldKept.{item_name, location_name};
 ghost use Rattle.mw_multi.specs.Names.{NamesDiffer};
 ghost use Rattle.mw_multidata.specs.Ascending.{NamesAscend};
 ghost use Rattle.mw_multidata.specs.SeedKept.{entry_name, game_name};
-ghost use Rattle.mw_seeds.specs.SeedFile.{named_where, item_entry, location_entry, has_game, IsTable, IsGameOf, AreDifferent, IsGameAdded, AreGames};
+ghost use Rattle.mw_seeds.specs.GamesMet.{has_game, AreDifferent, IsGameAdded};
+ghost use Rattle.mw_seeds.specs.SeedFile.{named_where, item_entry, location_entry, IsTable, IsGameOf, AreGames};
 
 use mw_base::{List, Memory, Text};
 use mw_multi::{HasId, Item, Joint, Location, Slot, World};

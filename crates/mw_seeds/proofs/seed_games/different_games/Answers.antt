@@ -1,6 +1,6 @@
 use Rattle.std.proofs.Common.{ap, ◌∙◌, sym, subst}
 use Rattle.mw_multi.specs.Joint.{Joint}
-use Rattle.mw_seeds.specs.SeedFile.{AreDifferent}
+use Rattle.mw_seeds.specs.GamesMet.{AreDifferent}
 use Rattle.mw_seeds.proofs.SeedGames.{AreMet, none_met, game_met, all_met}
 use Rattle.mw_seeds.proofs.seed_games.different_games.Goals as goal
 

@@ -1,5 +1,5 @@
 use Rattle.std.proofs.Common.{◌≡◌, drop}
-use Rattle.mw_seeds.specs.SeedFile.{has_game}
+use Rattle.mw_seeds.specs.GamesMet.{has_game}
 use Rattle.mw_seeds.proofs.seed_games.has_game.Given as goal
 
 abbrev pub invariant-loop-game : goal.invariant-loop-game
