@@ -28,7 +28,7 @@ use Rattle.mw_offline.specs.declared.stop.Stop.TheVariants.{Fault, Memory, Refus
 use Rattle.mw_offline.specs.declared.table_cause.TableCause.{TableCause}
 use Rattle.mw_offline.specs.declared.generate_cause.GenerateCause.{GenerateCause}
 use Rattle.mw_offline.specs.declared.generate_cause.GenerateCause.TheVariants.{Tables, NotBeatable, TooManyItems, Exhausted}
-use Rattle.mw_offline.proofs.Endings.{at_exit}
+use Rattle.mw_offline.proofs.Endings.{passed_exit}
 use Rattle.mw_offline.proofs.TableCauses.{unjoined_cause, joint_in}
 
 -- ---- the table of a placement
@@ -87,7 +87,7 @@ module _ (joined : Joint → Type 0) (unjoined : Stop TableCause → Type 0) (wa
   unjoined_by (Refused cause) h = h
 
   pub unjoined_for : {T : Type 0} (answer : Result T (Stop GenerateCause)) (stop : Stop TableCause) → unjoined stop → IsErrAnd answer (λ e. e ≡ stop_with Tables stop) → IfErr answer (IsUntextFor joined unjoined wanted)
-  unjoined_for answer stop h is = at_exit answer (λ e. e ≡ stop_with Tables stop) (IsUntextFor joined unjoined wanted) is (λ e same. subst (IsUntextFor joined unjoined wanted) (sym same) (unjoined_by stop h))
+  unjoined_for answer stop h is = passed_exit (IsUntextFor joined unjoined wanted) answer (stop_with Tables stop) (unjoined_by stop h) is
 
   module _ (joint : Joint) (is_joined : joined joint) where
     -- it is refused
