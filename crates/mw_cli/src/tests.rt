@@ -3,10 +3,8 @@ ghost use Rattle.std.specs.Prelude.{None};
 use crate::harness::{
     NEVER, Outcome, add_file, faults, outcome_of, ran, sink_of, source_of, words_of,
 };
-use mw_base::{List, SessionId};
-use mw_edges::{MemoryFolder, Sink, SinkError, Tally};
-use mw_multidata::{RoomTables, read};
-use mw_room::{Event, Room, SessionState};
+use mw_base::{List, Text};
+use mw_edges::{MemoryFolder, MemorySink, MemorySource, Sink, SinkError, Tally};
 use std::alloc::Global;
 use std::test::Fail;
 
@@ -316,52 +314,40 @@ impl Sink for FullSink {
     }
 }
 
+/// The status of a run with a sink that has no memory.
+fn status_without_memory(
+    alloc: Global,
+    words: &[Text],
+    folder: &mut MemoryFolder,
+    input: &mut MemorySource,
+    err: &mut MemorySink,
+) -> u8 {
+    let mut out = FullSink {
+        refused: Tally::new(),
+    };
+    ran(alloc, words, folder, input, &mut out, err)
+}
+
+/// The status and what the error sink got, as one text.
+fn status_and_line(alloc: Global, status: u8, err: &MemorySink) -> Result<String, Fail> {
+    let line = std::str::from_utf8(err.bytes()).or(Err("no text"))?;
+    let status = u64::from(status);
+    Ok(format!(in alloc; "{status} {line}")?)
+}
+
 /// The status and the error line of `drive A` with a sink that has no memory.
 fn without_memory(alloc: Global) -> Result<String, Fail> {
     let mut folder = folder_of(alloc, ROOM_A.as_bytes(), NEVER)?;
     let words = words_of(alloc, "drive A")?;
     let mut input = source_of(alloc, b"open\n", NEVER)?;
-    let mut out = FullSink {
-        refused: Tally::new(),
-    };
     let mut err = sink_of(alloc, NEVER)?;
-    let status = ran(alloc, &words, &mut folder, &mut input, &mut out, &mut err);
-    let line = std::str::from_utf8(err.bytes()).or(Err("no text"))?;
-    let status = u64::from(status);
-    Ok(format!(in alloc; "{status} {line}")?)
+    let status = status_without_memory(alloc, &words, &mut folder, &mut input, &mut err);
+    status_and_line(alloc, status, &err)
 }
 
 #[test]
 fn no_memory(rt: HostRuntime) -> Result<(), Fail> {
     let told = without_memory(rt.alloc())?;
     assert_eq!(rt; told.as_str(), "6 no memory\n");
-    Ok(())
-}
-
-/// How many messages a session takes, 0 where it isn't open.
-fn taken(room: &mut Room, session: SessionId) -> usize {
-    if room.state(session) == SessionState::Shut {
-        return 0;
-    }
-    room.take(session).len()
-}
-
-#[test]
-fn a_room_tells_how_it_stands(rt: HostRuntime) -> Result<(), Fail> {
-    let alloc = rt.alloc();
-    let Ok(seed) = read(alloc, ROOM_A.as_bytes()) else {
-        return Err(Fail::from("refused"));
-    };
-    let mut room = Room::new(alloc, RoomTables::of(alloc, seed)?)?;
-    let session = room.next_session();
-    assert_eq!(rt; session.get(), 1);
-    assert_eq!(rt; room.state(session), SessionState::Shut);
-    let plan = room.plan(&Event::Open { time: 7 })?;
-    assert_eq!(rt; plan.records().len(), 0);
-    room.apply(plan);
-    assert_eq!(rt; room.state(session), SessionState::Ready { shows: 0 });
-    assert_eq!(rt; taken(&mut room, session), 1);
-    assert_eq!(rt; taken(&mut room, session), 0);
-    assert_eq!(rt; room.length(), 0);
     Ok(())
 }

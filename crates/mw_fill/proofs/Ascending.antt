@@ -8,12 +8,11 @@ use Rattle.std.proofs.lemmas.List.Sums.{sum_by-cons}
 use Rattle.mw_multi.specs.World.{Location}
 use Rattle.mw_multi.specs.Joint.{Slot, Joint, IsJoint, AreNumbered, slot_places, slot_items, place_total}
 use Rattle.mw_multi.specs.Steps.{location_place}
-use Rattle.mw_multi.specs.Placement.{Put, PutKept, IsPlacement, put_place, stands_at}
-use Rattle.mw_fill.specs.Numbered.{each_numbered}
+use Rattle.mw_multi.specs.Placement.{Put, PutKept, IsPlacement, put_place, stands_at, what_stands, AreStanding}
+use Rattle.mw_multi.specs.Numbered.{each_numbered}
 use Rattle.mw_fill.specs.Openings.{Opening, opening_of, opening_at, slot_openings, openings_of}
-use Rattle.mw_fill.specs.Fill.{what_stands}
 use Rattle.mw_fill.specs.Try.{or_filler, end_put, placement_of}
-use Rattle.mw_fill.specs.Kept.{OpeningKept, AreHeld, end_held}
+use Rattle.mw_fill.specs.Kept.{OpeningKept, end_held}
 use Rattle.mw_fill.proofs.Fitting.{find_all, find_passes}
 use Rattle.mw_fill.proofs.Locations.{openings_kept, put_kept}
 
@@ -114,5 +113,5 @@ placement_kept joint kept puts each = record {
 }
 
 -- by the table of what is held
-pub held_placement : (puts : List Put) (held : List (Option Put)) (openings : List Opening) → AreHeld puts held → map (end_held held) openings ≡ map (end_put puts) openings
+pub held_placement : (puts : List Put) (held : List (Option Put)) (openings : List Opening) → AreStanding puts held → map (end_held held) openings ≡ map (end_put puts) openings
 held_placement puts held openings h = map_same (end_held held) (end_put puts) openings (λ s. ap (λ o. or_filler o s) (h s.place))

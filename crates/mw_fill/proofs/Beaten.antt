@@ -5,12 +5,13 @@ use Rattle.std.proofs.lemmas.Bool.{cond-true}
 use Rattle.std.proofs.lemmas.Grind.{flat_map-append}
 use Rattle.std.proofs.lemmas.List.Elements.{All-map, filter-append}
 use Rattle.mw_multi.specs.Joint.{Joint, IsJoint, Slot, place_total}
-use Rattle.mw_multi.specs.Bags.{start_count}
+use Rattle.mw_multi.specs.Bags.{start_count, everything}
 use Rattle.mw_multi.specs.Steps.{steps_of}
-use Rattle.mw_multi.specs.Placement.{Put, IsPlaced, put_numbers, stands_at, standing, site_at}
+use Rattle.mw_multi.specs.Placement.{Put, IsPlaced, put_numbers, stands_at, standing, site_at, what_stands}
 use Rattle.mw_multi.specs.Events.{events_of, has_no_event, is_at_no_event, with_events}
 use Rattle.mw_reach.specs.Reach.{Placed, found, bag_with, Closed}
-use Rattle.mw_reach.specs.Goals.{IsBeatable}
+use Rattle.mw_reach.specs.Goals.{unmet_goal, IsBeatable}
+use Rattle.mw_reach.proofs.Alike.{least_alike, goals_alike}
 use Rattle.mw_reach.proofs.Beating.{goals_hold, goals_more}
 use Rattle.mw_reach.proofs.SameLeast.{Closed-less}
 use Rattle.mw_reach.proofs.Walks.{bag_more}
@@ -18,17 +19,18 @@ use Rattle.mw_fill.specs.declared.group.Group.TheVariants.{Asked, Helping, Filli
 use Rattle.mw_fill.specs.Draws.{start_of, words_of}
 use Rattle.mw_fill.specs.Copies.{copies_of}
 use Rattle.mw_fill.specs.Openings.{Opening, openings_of, regular, all_kinds}
-use Rattle.mw_fill.specs.Fill.{Outcome, filled, stuck, what_stands, in_hand, is_reached, FillRun, placed_anywhere}
-use Rattle.mw_fill.specs.Try.{Lists, lists_of, openings_begin, helping_begin, filling_begin, and_then, the_rest, end_put, placement_of, IsFilled}
-use Rattle.mw_fill.specs.Generated.{everything, IsUnmet}
+use Rattle.mw_fill.specs.Fill.{Outcome, filled, stuck, in_hand, is_reached, FillRun, placed_anywhere}
+use Rattle.mw_fill.specs.Try.{Lists, stock_of, lists_of, openings_begin, helping_begin, filling_begin, and_then, the_rest, end_put, placement_of, IsFilled}
+use Rattle.mw_fill.specs.Generated.{IsUnmet}
+use Rattle.mw_fill.proofs.Everything.{hands_alike}
 use Rattle.mw_fill.proofs.Shuffling.{shuffled_all}
 use Rattle.mw_fill.proofs.Permuting.{words_small, shuffled_count}
 use Rattle.mw_fill.proofs.Trying.{regular_all, all_kinds_all}
 use Rattle.mw_fill.proofs.Locations.{openings_kept}
 use Rattle.mw_fill.proofs.Ascending.{end_place, slots_rise}
 use Rattle.mw_fill.proofs.Keeping.{IsCounted, found_same, as_good}
-use Rattle.mw_fill.proofs.Tidy.{IsTidy, IsIdle, numbers_held, is_site, tidy_nothing, tidy_run, tidy_anywhere, placement_stands}
-use Rattle.mw_fill.proofs.Making.{asked_counted, helping_idle, filling_idle, fillers_idle, own_sites}
+use Rattle.mw_fill.proofs.Tidy.{IsTidy, IsIdle, numbers_held, is_opening, tidy_nothing, tidy_run, tidy_anywhere, placement_stands}
+use Rattle.mw_fill.proofs.Making.{asked_counted, helping_idle, filling_idle, fillers_idle, own_openings}
 
 -- ---- what stands where
 
@@ -46,10 +48,10 @@ no_events joint kept puts =
     (All-map (λ put. is_at_no_event joint.slots put ≡ true) (end_put puts) (openings_of joint)
     (λ i d l. ap (λ p. has_no_event (site_at joint.slots p)) (end_place puts (get_or (openings_of joint) i d)) ∙ (openings_kept joint kept i d l).no_event))
 
-nothing_else : (slots : List Slot) (sites : List Opening) (puts : List Put) (place : ℕ) (b : Bool) → is_site sites place ≡ b → IsTidy slots sites puts
+nothing_else : (slots : List Slot) (whole : List Opening) (puts : List Put) (place : ℕ) (b : Bool) → is_opening whole place ≡ b → IsTidy slots whole puts
     → cond b (numbers_held slots (what_stands puts place)) [] ≡ numbers_held slots (what_stands puts place)
-nothing_else slots sites puts place true e tidy = refl
-nothing_else slots sites puts place false e tidy = sym (ap (numbers_held slots) (tidy.sited place e))
+nothing_else slots whole puts place true e tidy = refl
+nothing_else slots whole puts place false e tidy = sym (ap (numbers_held slots) (tidy.elsewhere place e))
 
 -- where the copies that rules ask for were put first, and others that no rule asks for
 pub stands_alike : (joint : Joint) → IsJoint joint → (first puts : List Put) → IsTidy joint.slots (openings_of joint) puts → ((place : ℕ) → standing joint.slots puts place ≡ standing joint.slots first place)
@@ -61,7 +63,7 @@ stands_alike joint kept first puts tidy same place =
     ∙ ap (λ ps. standing slots (events_of joint) place ++ standing slots ps place) (no_events joint kept puts)
     ∙ ap (λ ns. standing slots (events_of joint) place ++ ns)
     (placement_stands slots puts openings 0 (0 + place_total slots) place (slots_rise 1 0 0 slots kept.numbered) (fillers_idle joint kept)
-    ∙ nothing_else slots openings puts place (is_site openings place) refl tidy ∙ sym (tidy.alone place) ∙ same place)
+    ∙ nothing_else slots openings puts place (is_opening openings place) refl tidy ∙ sym (tidy.alone place) ∙ same place)
     ∙ sym (standing_on slots (events_of joint) first place)
 
 -- ---- a try that gives a placement
@@ -98,36 +100,40 @@ module _ (joint : Joint) (kept : IsJoint joint) (seed stream : ℕ) (puts : List
   abbrev lists : Lists
   lists = lists_of joint seed stream
 
-  abbrev sites : List Opening
-  sites = openings_of joint
+  abbrev whole : List Opening
+  whole = openings_of joint
 
-  openings_are : (P : Opening → Type 0) → All P sites → All P lists.openings
-  openings_are P h = shuffled_all P words (openings_begin joint) sites h
+  openings_are : (P : Opening → Type 0) → All P whole → All P lists.openings
+  openings_are P h = shuffled_all P words (openings_begin (stock_of joint)) whole h
 
-  first_tidy : IsTidy joint.slots sites parts.first
+  first_tidy : IsTidy joint.slots whole parts.first
   first_tidy =
-      tidy_run joint sites (regular lists.openings) lists.asked [] parts.first (regular_all (λ s. is_site sites s.place ≡ true) lists.openings (openings_are (λ s. is_site sites s.place ≡ true) (own_sites sites)))
-      (tidy_nothing joint.slots sites) parts.run
+      tidy_run joint whole (regular lists.openings) lists.asked [] parts.first (regular_all (λ s. is_opening whole s.place ≡ true) lists.openings (openings_are (λ s. is_opening whole s.place ≡ true) (own_openings whole)))
+      (tidy_nothing joint.slots whole) parts.run
 
   pub alike : (place : ℕ) → standing joint.slots (with_events joint (placement_of joint puts)) place ≡ standing joint.slots (events_of joint ++ parts.first) place
   alike =
-      let there = openings_are (λ s. is_site sites s.place ≡ true) (own_sites sites) in
+      let there = openings_are (λ s. is_opening whole s.place ≡ true) (own_openings whole) in
       let two =
-      tidy_anywhere joint.slots sites (regular lists.openings) lists.helping parts.first parts.second (regular_all (λ s. is_site sites s.place ≡ true) lists.openings there)
-      (shuffled_all (IsIdle joint.slots) words (helping_begin joint) (copies_of Helping joint) (helping_idle joint)) first_tidy parts.helping in
+      tidy_anywhere joint.slots whole (regular lists.openings) lists.helping parts.first parts.second (regular_all (λ s. is_opening whole s.place ≡ true) lists.openings there)
+      (shuffled_all (IsIdle joint.slots) words (helping_begin (stock_of joint)) (copies_of Helping joint) (helping_idle joint)) first_tidy parts.helping in
       let three =
-      tidy_anywhere joint.slots sites (all_kinds lists.openings) lists.filling parts.second puts (all_kinds_all (λ s. is_site sites s.place ≡ true) lists.openings there)
-      (shuffled_all (IsIdle joint.slots) words (filling_begin joint) (copies_of Filling joint) (filling_idle joint)) two.tidy parts.filling in
+      tidy_anywhere joint.slots whole (all_kinds lists.openings) lists.filling parts.second puts (all_kinds_all (λ s. is_opening whole s.place ≡ true) lists.openings there)
+      (shuffled_all (IsIdle joint.slots) words (filling_begin (stock_of joint)) (copies_of Filling joint) (filling_idle joint)) two.tidy parts.filling in
       stands_alike joint kept parts.first puts three.tidy (λ place. three.same place ∙ two.same place)
 
+  -- what is found with everything in hand is found with the copies that rules ask for
   module _ (unmet : IsUnmet joint None) (table : Placed) (placed : IsPlaced joint.slots (with_events joint (placement_of joint puts)) table) where
     pub can_be_beaten : IsBeatable joint table
     can_be_beaten = λ u closed.
         let steps = steps_of joint in
         let start = start_count joint.slots in
-        let all = everything joint in
+        let all = in_hand joint (copies_of Asked joint) in
         let before = unmet.0 in
         let w = unmet.1 in
+        let same_hands = hands_alike joint kept in
+        let least = least_alike joint kept (everything joint.slots) all same_hands before w unmet.3 in
+        let none : unmet_goal joint (bag_with all before w) w ≡ None = sym (goals_alike joint kept (everything joint.slots) all same_hands before w) ∙ sym unmet.4 in
         let inside : All (λ s. s.place < place_total joint.slots) (regular lists.openings) =
         regular_all (λ s. s.place < place_total joint.slots) lists.openings (openings_are (λ s. s.place < place_total joint.slots) (λ i d l. (openings_kept joint kept i d l).place)) in
         let counted : All (IsCounted joint) lists.asked = shuffled_all (IsCounted joint) words 0 (copies_of Asked joint) (asked_counted joint) in
@@ -138,9 +144,9 @@ module _ (joint : Joint) (kept : IsJoint joint) (seed stream : ℕ) (puts : List
         let in_hands = good.good u at_end in
         let as_many : (j : ℕ) → in_hand joint lists.asked j ≡ all j = λ j. ap (λ n. start j + n) (shuffled_count words (words_small (start_of seed stream)) 0 (copies_of Asked joint) j) in
         let with_all : Closed steps all before u = Closed-less steps all (in_hand joint lists.asked) before before u (λ j. omega (arith, as_many j)) in_hands.0 in
-        let part = unmet.3.least u with_all in
+        let part = least.least u with_all in
         let more = bag_more all before w u part in
-        goals_more joint (bag_with all before w) (bag_with start table u) w u (λ j. omega (arith, more j, as_many j, in_hands.1 j, lies j)) part (goals_hold joint (bag_with all before w) w (sym unmet.4))
+        goals_more joint (bag_with all before w) (bag_with start table u) w u (λ j. omega (arith, more j, as_many j, in_hands.1 j, lies j)) part (goals_hold joint (bag_with all before w) w none)
 
 -- a placement that a try gives, where each goal holds with everything in hand
 pub filled_beatable : (joint : Joint) → IsJoint joint → (seed stream : ℕ) (placement : List Put) → IsUnmet joint None → IsFilled joint seed stream placement

@@ -1,15 +1,16 @@
 -- The first location that fits, and what is held as one item more is put.
-use Rattle.std.proofs.Common.{◌≡◌, ℕ, suc, ◌<◌, ◌&&◌, Bool, true, false, cond, List, [], ◌∷◌, ◌++◌, Option, Some, None, All, length, get_or, set, length-set, refl, sym, ap, ap₂, subst, ◌∙◌, inl, inr, arith}
-use Rattle.std.specs.Prelude.{find, is_none, ◌==◌}
+use Rattle.std.proofs.Common.{◌≡◌, suc, ◌<◌, ◌&&◌, Bool, true, cond, List, [], ◌∷◌, ◌++◌, Option, Some, None, All, length, get_or, set, length-set, refl, sym, ap, ap₂, subst, ◌∙◌, inl, inr, arith}
+use Rattle.std.specs.Prelude.{find, is_none}
 use Rattle.std.proofs.lemmas.Bool.{cases_Bool, cases_eq, and_parts, cond-true, cond-false}
 use Rattle.std.proofs.lemmas.Bool.Decides.{Decides-eqb}
 use Rattle.std.proofs.lemmas.List.{get_or-set_same, get_or-set_other}
 use Rattle.std.proofs.lemmas.List.Elements.{All-push}
 use Rattle.mw_multi.specs.Joint.{Joint}
-use Rattle.mw_multi.specs.Placement.{Put, PutKept}
+use Rattle.mw_multi.specs.Placement.{Put, PutKept, what_stands, AreStanding}
 use Rattle.mw_fill.specs.Openings.{Opening}
-use Rattle.mw_fill.specs.Fill.{what_stands, is_fit, first_fit}
-use Rattle.mw_fill.specs.Kept.{AreHeld, IsHeldFor, is_open_in}
+use Rattle.mw_multi.proofs.WhatStands.{stands_more, stands_still, differ}
+use Rattle.mw_fill.specs.Fill.{is_fit, first_fit}
+use Rattle.mw_fill.specs.Kept.{IsHeldFor, is_open_in}
 
 -- ---- the first element that passes
 
@@ -34,7 +35,7 @@ find_passes f (y ∷ xs) x e = elim (cases_Bool (f y)) [
 -- ---- what is held
 
 -- the first that is open by the table is the first that fits
-pub held_first : (test : Opening → Bool) (puts : List Put) (held : List (Option Put)) (openings : List Opening) → AreHeld puts held → find (is_open_in test held) openings ≡ first_fit test puts openings
+pub held_first : (test : Opening → Bool) (puts : List Put) (held : List (Option Put)) (openings : List Opening) → AreStanding puts held → find (is_open_in test held) openings ≡ first_fit test puts openings
 held_first test puts held openings h = find_same (is_open_in test held) (is_fit test puts) openings (λ s. ap (λ o. is_none o && test s) (h s.place))
 
 none_there : {X : Type 0} (o : Option X) → is_none o ≡ true → o ≡ None
@@ -46,23 +47,6 @@ pub free_there : (test : Opening → Bool) (puts : List Put) (openings : List Op
 free_there test puts openings s e =
     let parts = and_parts (is_none (what_stands puts s.place)) (test s) (find_passes (is_fit test puts) openings s e) in
     (none_there (what_stands puts s.place) parts.0, parts.1)
-
-pub stands_more : (puts : List Put) (put : Put) (place : ℕ) (b : Bool) → (put.place == place) ≡ b → what_stands puts place ≡ None → what_stands (puts ++ put ∷ []) place ≡ cond b (Some put) None
-stands_more [] put place b e h = ap (λ c. cond c (Some put) None) e
-stands_more (p ∷ puts) put place b e h = elim (cases_Bool (p.place == place)) [
-  | inl here ↦ let s : Some p ≡ None = sym (cond-true (p.place == place) (Some p) (what_stands puts place) here) ∙ h in cc
-  | inr past ↦ cond-false (p.place == place) (Some p) (what_stands (puts ++ put ∷ []) place) past ∙ stands_more puts put place b e (sym (cond-false (p.place == place) (Some p) (what_stands puts place) past) ∙ h)
-]
-
-pub stands_still : (puts : List Put) (put : Put) (place : ℕ) → (put.place == place) ≡ false → what_stands (puts ++ put ∷ []) place ≡ what_stands puts place
-stands_still [] put place e = cond-false (put.place == place) (Some put) None e
-stands_still (p ∷ puts) put place e = ap (λ rest. cond (p.place == place) (Some p) rest) (stands_still puts put place e)
-
-pub differ : (a b : ℕ) → (a ≡ b → ⊥) → (a == b) ≡ false
-differ a b n = elim (cases_Bool (a == b)) [
-  | inl same ↦ absurd (n ((Decides-eqb a b).0 same))
-  | inr other ↦ other
-]
 
 pub held_put : (joint : Joint) (puts : List Put) (put : Put) (held : List (Option Put)) → IsHeldFor joint puts held → PutKept joint.slots put → put.place < length held → what_stands puts put.place ≡ None
     → IsHeldFor joint (puts ++ put ∷ []) (set held put.place (Some put))

@@ -6,7 +6,7 @@ use Rattle.std.proofs.lemmas.Bool.Decides.{Decides-eqb}
 use Rattle.std.proofs.lemmas.List.{get_or-set_same, get_or-set_other}
 use Rattle.std.proofs.lemmas.List.Sums.{count_by_more_yes, count_by_more_no}
 use Rattle.mw_fill.specs.Copies.{ItemCopy, has_number, copies_count}
-use Rattle.mw_fill.proofs.Fitting.{differ}
+use Rattle.mw_multi.proofs.WhatStands.{differ}
 
 -- one copy more
 pub hand_more : (hand : List ℕ) (start : ℕ → ℕ) (copies : List ItemCopy) (k : ℕ) (copy : ItemCopy) → k < length copies → copy ≡ get_or copies k copy → copy.number < length hand

@@ -1,4 +1,3 @@
-pub mod Numbered
 pub mod Pools
 pub mod Locations
 pub mod Fitting
@@ -12,5 +11,6 @@ pub mod Permuting
 pub mod Keeping
 pub mod Tidy
 pub mod Making
+pub mod Everything
 pub mod Beaten
 pub mod Determined

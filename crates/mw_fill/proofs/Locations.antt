@@ -11,9 +11,9 @@ use Rattle.mw_multi.proofs.Sites.{get_some, location_site}
 use Rattle.mw_reach.proofs.Slots.{slot_fits}
 use Rattle.mw_multi.specs.Joint.{Slot, Joint, IsJoint, slot_places}
 use Rattle.mw_fill.specs.Kept.{OpeningKept}
-use Rattle.mw_fill.specs.Numbered.{each_numbered}
+use Rattle.mw_multi.specs.Numbered.{each_numbered}
 use Rattle.mw_fill.specs.Openings.{Opening, opening_of, opening_at, slot_openings, openings_of}
-use Rattle.mw_fill.proofs.Numbered.{numbered_le, numbered_all}
+use Rattle.mw_multi.proofs.Numbered.{numbered_le, numbered_all}
 use Rattle.mw_fill.proofs.Pools.{item_there}
 
 one_le : (number : ℕ) (s : Slot) (index : ℕ) (l : Location) (b : Bool) → length (if b then opening_of number s index l ∷ [] else []) ≤ 1

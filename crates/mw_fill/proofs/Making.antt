@@ -18,9 +18,9 @@ use Rattle.mw_fill.specs.declared.group.Group.TheVariants.{Asked, Helping, Filli
 use Rattle.mw_fill.specs.Copies.{ItemCopy, is_of, item_is_of, copy_of, entry_copies, slot_copies, has_others, copies_of}
 use Rattle.mw_fill.specs.Openings.{Opening, opening_of, opening_at, slot_openings, openings_of}
 use Rattle.mw_fill.specs.Try.{filler_at}
-use Rattle.mw_fill.proofs.Numbered.{numbered_all}
+use Rattle.mw_multi.proofs.Numbered.{numbered_all}
 use Rattle.mw_fill.proofs.Keeping.{IsCounted}
-use Rattle.mw_fill.proofs.Tidy.{IsIdle, is_site}
+use Rattle.mw_fill.proofs.Tidy.{IsIdle, is_opening}
 
 -- ---- copies
 
@@ -111,5 +111,5 @@ any_at p (x ∷ xs) (suc k) d h e = elim (cases_Bool (p x)) [
 ]
 
 -- each is at one of their places
-pub own_sites : (openings : List Opening) → All (λ s. is_site openings s.place ≡ true) openings
-own_sites openings = λ i d l. any_at (λ s. s.place == (get_or openings i d).place) openings i d l ((Decides-eqb (get_or openings i d).place (get_or openings i d).place).1 refl)
+pub own_openings : (openings : List Opening) → All (λ s. is_opening openings s.place ≡ true) openings
+own_openings openings = λ i d l. any_at (λ s. s.place == (get_or openings i d).place) openings i d l ((Decides-eqb (get_or openings i d).place (get_or openings i d).place).1 refl)

@@ -1,5 +1,5 @@
 -- A shuffle only moves entries.
-use Rattle.std.proofs.Common.{◌≡◌, ℕ, zero, suc, ◌-◌, ◌/◌, ◌^◌, ◌<◌, ◌≤◌, List, length, refl, arith}
+use Rattle.std.proofs.Common.{◌≡◌, ℕ, zero, suc, ◌-◌, ◌/◌, ◌%◌, ◌^◌, ◌<◌, ◌≤◌, List, length, refl, arith}
 use Rattle.std.specs.List.{swap}
 use Rattle.std.specs.List.Sorted.{IsPermutation}
 use Rattle.std.specs.Prelude.{cond}
@@ -16,7 +16,7 @@ unfolding block_word
 word_small n key counter nonce k = mod-lt _ (omega arith)
 
 pub words_small : (g : ChaCha) (place : ℕ) → words_of g place < 2 ^ 32
-words_small g place = word_small 10 g.key (place / 16) g.stream _
+words_small g place = word_small 10 g.key (place % 2 ^ 68 / 16) g.stream _
 
 pub drawn_below : (word k : ℕ) → word < 2 ^ 32 → 1 ≤ k → drawn word k < k
 drawn_below word k small some = grind arith

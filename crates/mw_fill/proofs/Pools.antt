@@ -14,7 +14,7 @@ use Rattle.mw_fill.specs.Kept.{CopyKept}
 use Rattle.mw_multi.proofs.Sites.{get_some}
 use Rattle.mw_fill.specs.declared.group.Group.{Group}
 use Rattle.mw_fill.specs.Copies.{is_of, item_is_of, copy_of, entry_copies, slot_copies, copies_of, has_others}
-use Rattle.mw_fill.proofs.Numbered.{numbered_le, numbered_all}
+use Rattle.mw_multi.proofs.Numbered.{numbered_le, numbered_all}
 
 -- what an entry's copies are, by the class of its item
 pub entry_is : (group : Group) (many : Bool) (number : ℕ) (s : Slot) (e : PoolEntry) (items : List Item) (item : Item) (here : Bool) → items ≡ s.world.items → e.item < length items → item ≡ get_or items e.item item
@@ -52,11 +52,11 @@ copies_are_few group joint kept =
 
 -- ---- whose they are
 
-some_item : (o : Option Item) → has_id o ≡ true → is_some o ≡ true
+pub some_item : (o : Option Item) → has_id o ≡ true → is_some o ≡ true
 some_item (Some i) e = refl
 some_item None e = cc
 
-item_within : (items : List Item) (k : ℕ) → is_some (slice_get items k) ≡ true → k < length items
+pub item_within : (items : List Item) (k : ℕ) → is_some (slice_get items k) ≡ true → k < length items
 item_within [] k e = cc
 item_within (i ∷ items) zero e = omega arith
 item_within (i ∷ items) (suc k) e = omega (arith, item_within items k e)

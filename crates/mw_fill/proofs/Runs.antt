@@ -1,6 +1,6 @@
 -- The run over the copies that rules ask for, copy by copy.
-use Rattle.std.proofs.Common.{◌≡◌, ℕ, ◌+◌, ◌-◌, ◌<◌, ◌≤◌, ◌&&◌, Bool, true, false, cond, List, [], ◌∷◌, ◌++◌, Option, Some, None, All, length, get_or, set, drop, length-set, refl, sym, ap, subst, ◌∙◌, inl, inr, arith, append_assoc, append-nil}
-use Rattle.std.specs.Prelude.{◌==◌}
+use Rattle.std.proofs.Common.{◌≡◌, ℕ, ◌+◌, ◌-◌, ◌<◌, ◌≤◌, ◌^◌, ◌&&◌, Bool, true, false, cond, List, [], ◌∷◌, ◌++◌, Option, Some, None, All, length, get_or, set, drop, length-set, refl, sym, ap, subst, ◌∙◌, inl, inr, arith, append_assoc, append-nil}
+use Rattle.std.specs.Prelude.{◌==◌, sum_by}
 use Rattle.std.proofs.lemmas.Bool.{cases_eq}
 use Rattle.std.proofs.lemmas.Bool.Decides.{Decides-eqb}
 use Rattle.std.proofs.lemmas.List.{drop_all, length-append, get_or-set_same, get_or-set_other}
@@ -14,13 +14,13 @@ use Rattle.mw_multi.specs.Events.{events_of}
 use Rattle.mw_multi.proofs.Few.{events_are_few}
 use Rattle.mw_reach.specs.Reach.{IsLeast}
 use Rattle.mw_reach.specs.Reached.{IsPlacedFor}
-use Rattle.mw_reach.proofs.Placing.{placed_for}
+use Rattle.mw_reach.proofs.Placing.{placed_for, placed-le}
 use Rattle.mw_reach.proofs.SameLeast.{IsLeast-same}
 use Rattle.mw_fill.specs.Copies.{ItemCopy, has_number, copies_count}
 use Rattle.mw_fill.specs.Openings.{Opening, accepts}
 use Rattle.mw_fill.specs.Fill.{Outcome, filled, stuck_with, put_of, first_fit, in_hand, is_reached, FillRun}
 use Rattle.mw_fill.specs.Kept.{CopyKept, OpeningKept, IsHeldFor}
-use Rattle.mw_fill.proofs.Fitting.{differ}
+use Rattle.mw_multi.proofs.WhatStands.{differ}
 use Rattle.mw_fill.proofs.Stepping.{next_copy, held_next}
 
 -- after k copies: what the run over the rest gives, the whole run gives
@@ -46,6 +46,12 @@ begin joint openings copies hand held table bag nothing events = record {
 pub count_more : (copy : ItemCopy) (later : List ItemCopy) (n : ℕ) (b : Bool) → (copy.number == n) ≡ b → copies_count (copy ∷ later) n ≡ cond b 1 0 + copies_count later n
 count_more copy later n b e = sum_by-cons (λ c. cond (has_number n c) 1 0) copy later ∙ ap (λ t. cond t 1 0 + copies_count later n) e
 
+-- one copy more has room in the table
+pub table_room : (joint : Joint) → IsJoint joint → (openings : List Opening) (copies : List ItemCopy) → length copies ≤ 10240000 → (k : ℕ) (hand : List ℕ) (held : List (Option Put)) (table : List (List ℕ))
+    → IsPlacedSoFar joint openings copies k hand held table → k < length copies → sum_by length table + 1 < 2 ^ 31
+table_room joint kept openings copies few k hand held table so_far within =
+    omega (arith, placed-le joint.slots (events_of joint ++ so_far.puts) table so_far.table_is, length-append (events_of joint) so_far.puts, events_are_few joint kept, so_far.few)
+
 module _ (joint : Joint) (kept : IsJoint joint) (openings : List Opening) (copies : List ItemCopy) (few_copies : length copies ≤ 10240000) (k : ℕ) (hand : List ℕ) (held : List (Option Put)) (table : List (List ℕ))
     (so_far : IsPlacedSoFar joint openings copies k hand held table) (copy : ItemCopy) (within : k < length copies) (is : copy ≡ get_or copies k copy) (copy_kept : CopyKept joint.slots copy) where
   abbrev later : List ItemCopy
@@ -63,9 +69,6 @@ module _ (joint : Joint) (kept : IsJoint joint) (openings : List Opening) (copie
   pub has_number_here : copy.number < length hand
   has_number_here = omega (arith, so_far.hand_is.size, copy_kept.number)
 
-  pub some_in_hand : 1 ≤ get_or hand copy.number 0
-  some_in_hand = omega (arith, before copy.number, count_more copy later copy.number true ((Decides-eqb copy.number copy.number).1 refl))
-
   pub hand_after : IsBagOf joint.slots (in_hand joint later) less
   hand_after = record {
     size = length-set hand copy.number (get_or hand copy.number 0 - 1) ∙ so_far.hand_is.size;
@@ -79,9 +82,7 @@ module _ (joint : Joint) (kept : IsJoint joint) (openings : List Opening) (copie
   }
 
   pub placed_here : IsPlacedFor joint table
-  placed_here =
-      placed_for joint kept (events_of joint ++ so_far.puts) table so_far.table_is
-      (omega (arith, length-append (events_of joint) so_far.puts, events_are_few joint kept, so_far.few))
+  placed_here = placed_for joint kept (events_of joint ++ so_far.puts) table so_far.table_is
 
   module _ (w : Places) (least : IsLeast (steps_of joint) (bag_of less) table w) where
     least_here : IsLeast (steps_of joint) (in_hand joint later) table w

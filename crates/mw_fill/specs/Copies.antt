@@ -5,7 +5,7 @@ use Rattle.mw_multi.specs.RulesKept.{is_progression}
 use Rattle.mw_multi.specs.Joint.{Slot, Joint}
 use Rattle.mw_multi.specs.declared.item.Class.{Class}
 use Rattle.mw_multi.specs.declared.item.Class.TheVariants.{Progression, Useful, Filler, Trap}
-use Rattle.mw_fill.specs.Numbered.{each_numbered}
+use Rattle.mw_multi.specs.Numbered.{each_numbered}
 use Rattle.mw_fill.specs.declared.group.Group.{Group}
 use Rattle.mw_fill.specs.declared.group.Group.TheVariants.{Asked, Helping, Filling}
 use Rattle.mw_fill.specs.declared.locality.Locality.{Locality}

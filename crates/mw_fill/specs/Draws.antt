@@ -1,5 +1,5 @@
 -- Words of a stream, and what is drawn with them.
-use Rattle.std.specs.Prelude.{ℕ, zero, suc, ◌+◌, ◌-◌, ◌*◌, ◌/◌, ◌^◌, List, ◌++◌, length}
+use Rattle.std.specs.Prelude.{ℕ, zero, suc, ◌+◌, ◌-◌, ◌*◌, ◌/◌, ◌%◌, ◌^◌, List, ◌++◌, length}
 use Rattle.std.specs.List.{swap}
 use Rattle.std.specs.Int.{w64, to_le_bytes}
 use Rattle.std.proofs.Common.{replicate}
@@ -13,9 +13,13 @@ seed_key seed = key_of (to_le_bytes w64 seed ++ replicate 24 0)
 abbrev pub start_of : ℕ → ℕ → ChaCha
 start_of seed stream = record { key = seed_key seed; stream = stream; word_pos = 0 }
 
--- the word at a place of the generator's stream, by the 20 rounds of ChaCha20
+-- the word at a place of the generator's stream, by the 20 rounds of ChaCha20; after 2^68 words they begin anew
 abbrev pub words_of : ChaCha → ℕ → ℕ
-words_of g place = word_at 10 g.key g.stream place
+words_of g place = word_at 10 g.key g.stream (place % 2 ^ 68)
+
+-- the generator whose next word is the one at this place
+abbrev pub at_place : ChaCha → ℕ → ChaCha
+at_place g place = record g { word_pos = place % 2 ^ 68 }
 
 -- a number below k, from a word
 abbrev pub drawn : ℕ → ℕ → ℕ

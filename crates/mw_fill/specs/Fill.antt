@@ -5,15 +5,11 @@ use Rattle.mw_rules.specs.Holds.{Bag, Places}
 use Rattle.mw_multi.specs.Joint.{Joint}
 use Rattle.mw_multi.specs.Bags.{start_count}
 use Rattle.mw_multi.specs.Steps.{steps_of}
-use Rattle.mw_multi.specs.Placement.{Put, stands_at, IsPlaced}
+use Rattle.mw_multi.specs.Placement.{Put, what_stands, IsPlaced}
 use Rattle.mw_multi.specs.Events.{events_of}
 use Rattle.mw_reach.specs.Reach.{bag_with, IsLeast}
 use Rattle.mw_fill.specs.Copies.{ItemCopy, copies_count}
 use Rattle.mw_fill.specs.Openings.{Opening, accepts}
-
--- what stands at a place
-abbrev pub what_stands : List Put → ℕ → Option Put
-what_stands puts place = find (stands_at place) puts
 
 -- nothing stands at the location
 abbrev pub is_free : List Put → Opening → Bool

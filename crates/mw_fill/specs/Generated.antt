@@ -1,31 +1,25 @@
 -- What generate answers.
 use Rattle.std.specs.Prelude.{ℕ, ◌≡◌, ◌<◌, ◌≤◌, List, Option, Some, None, Result, Ok, Err, length, sum_by}
-use Rattle.mw_rules.specs.Holds.{Bag, Places}
+use Rattle.mw_rules.specs.Holds.{Places}
 use Rattle.mw_multi.specs.WorldKept.{copies}
 use Rattle.mw_multi.specs.Joint.{Slot, Joint}
+use Rattle.mw_multi.specs.Bags.{everything}
 use Rattle.mw_multi.specs.Steps.{steps_of}
 use Rattle.mw_multi.specs.Placement.{Put, IsPlaced}
 use Rattle.mw_multi.specs.Events.{events_of}
 use Rattle.mw_reach.specs.Reach.{bag_with, IsLeast}
 use Rattle.mw_reach.specs.Goals.{unmet_goal}
-use Rattle.mw_fill.specs.declared.group.Group.TheVariants.{Asked}
-use Rattle.mw_fill.specs.Copies.{copies_of}
 use Rattle.mw_fill.specs.Openings.{openings_of}
-use Rattle.mw_fill.specs.Fill.{in_hand}
 use Rattle.mw_fill.specs.Try.{IsFilled, IsStuck}
 use Rattle.mw_fill.specs.declared.seed.Seed.{Seed}
 use Rattle.mw_fill.specs.declared.seed.GenerateError.{GenerateError}
 use Rattle.mw_fill.specs.declared.seed.GenerateError.TheVariants.{NotBeatable, TooManyItems, Exhausted, Memory}
 
--- the starting items and all copies of the pools that rules may ask for
-abbrev pub everything : Joint → Bag
-everything joint = in_hand joint (copies_of Asked joint)
-
 -- this is the first slot whose goal doesn't hold with everything in hand, in the least list for it with the events alone
 abbrev pub IsUnmet : Joint → Option ℕ → Type 0
 IsUnmet joint slot =
-    (table : List (List ℕ)) × (w : Places) × IsPlaced joint.slots (events_of joint) table × IsLeast (steps_of joint) (everything joint) table w
-    × (slot ≡ unmet_goal joint (bag_with (everything joint) table w) w)
+    (table : List (List ℕ)) × (w : Places) × IsPlaced joint.slots (events_of joint) table × IsLeast (steps_of joint) (everything joint.slots) table w
+    × (slot ≡ unmet_goal joint (bag_with (everything joint.slots) table w) w)
 
 -- how many copies the pools have
 abbrev pub slot_pool_size : Slot → ℕ

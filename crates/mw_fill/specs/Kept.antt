@@ -1,11 +1,10 @@
--- What copies and locations of a joint keep, and what is put in the midst of a fill.
-use Rattle.std.specs.Prelude.{ℕ, ◌≡◌, ◌<◌, List, Option, None, Bool, true, ◌&&◌, All, is_none, is_some, length, slice_index_or}
+-- For proofs alone: what copies and locations of a joint keep, and what is put in the midst of a fill.
+use Rattle.std.specs.Prelude.{◌≡◌, ◌<◌, List, Option, None, Bool, true, ◌&&◌, All, is_none, is_some, length, slice_index_or}
 use Rattle.mw_multi.specs.Joint.{Slot, Joint, place_total, item_total}
-use Rattle.mw_multi.specs.Placement.{Put, PutKept, site_at, item_at}
+use Rattle.mw_multi.specs.Placement.{Put, PutKept, AreStanding, site_at, item_at}
 use Rattle.mw_multi.specs.Events.{has_no_event}
 use Rattle.mw_fill.specs.Copies.{ItemCopy}
 use Rattle.mw_fill.specs.Openings.{Opening}
-use Rattle.mw_fill.specs.Fill.{what_stands}
 use Rattle.mw_fill.specs.Try.{or_filler}
 
 -- the item is one of its receiver's world, and its number one of the joint's
@@ -20,14 +19,10 @@ pub record OpeningKept (slots : List Slot) (opening : Opening) : Type 0 where
   pub no_event : has_no_event (site_at slots opening.place) ≡ true
   pub filler : is_some (item_at slots opening.slot opening.filler) ≡ true
 
--- for each place, what stands there
-abbrev pub AreHeld : List Put → List (Option Put) → Type 0
-AreHeld puts held = (place : ℕ) → slice_index_or held place None ≡ what_stands puts place
-
 -- a table with an entry for each place of the joint of what was put, which is kept
 pub record IsHeldFor (joint : Joint) (puts : List Put) (held : List (Option Put)) : Type 0 where
   pub size : length held ≡ place_total joint.slots
-  pub entries : AreHeld puts held
+  pub entries : AreStanding puts held
   pub kept : All (PutKept joint.slots) puts
 
 -- nothing is held at the location, and it passes the test

@@ -1,5 +1,4 @@
 pub mod Draws
-pub mod Numbered
 pub mod Copies
 pub mod Openings
 pub mod Fill

@@ -1,4 +1,4 @@
--- What the lists of a try keep.
+-- For proofs alone: what the lists of a try keep.
 use Rattle.std.specs.Prelude.{◌≤◌, List, All, length}
 use Rattle.mw_multi.specs.Joint.{Slot}
 use Rattle.mw_fill.specs.Kept.{CopyKept, OpeningKept}
@@ -11,3 +11,10 @@ pub record AreKept (slots : List Slot) (lists : Lists) : Type 0 where
   pub openings : All (OpeningKept slots) lists.openings
   pub helping : All (CopyKept slots) lists.helping
   pub filling : All (CopyKept slots) lists.filling
+
+-- none has more entries than the pools may have copies
+pub record AreShort (lists : Lists) : Type 0 where
+  pub asked : length lists.asked ≤ 10240000
+  pub openings : length lists.openings ≤ 10240000
+  pub helping : length lists.helping ≤ 10240000
+  pub filling : length lists.filling ≤ 10240000

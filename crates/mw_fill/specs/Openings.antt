@@ -5,7 +5,7 @@ use Rattle.mw_multi.specs.Joint.{Slot, Joint}
 use Rattle.mw_multi.specs.Steps.{location_place}
 use Rattle.mw_multi.specs.declared.location.LocKind.{LocKind}
 use Rattle.mw_multi.specs.declared.location.LocKind.TheVariants.{Default, Priority, Excluded}
-use Rattle.mw_fill.specs.Numbered.{each_numbered}
+use Rattle.mw_multi.specs.Numbered.{each_numbered}
 use Rattle.mw_fill.specs.Copies.{ItemCopy}
 use Rattle.mw_fill.specs.declared.locality.Locality.{Locality}
 use Rattle.mw_fill.specs.declared.locality.Locality.TheVariants.{Anywhere, AtHome, Abroad}

@@ -1,12 +1,12 @@
 -- One try: shuffled copies and locations, the fill, and fillers for what is left.
 use Rattle.std.specs.Prelude.{ℕ, ◌≡◌, List, [], Option, Some, None, map}
 use Rattle.mw_multi.specs.Joint.{Joint}
-use Rattle.mw_multi.specs.Placement.{Put}
+use Rattle.mw_multi.specs.Placement.{Put, what_stands}
 use Rattle.mw_fill.specs.Draws.{start_of, words_of, shuffled, place_after}
 use Rattle.mw_fill.specs.declared.group.Group.TheVariants.{Asked, Helping, Filling}
 use Rattle.mw_fill.specs.Copies.{ItemCopy, copies_of}
 use Rattle.mw_fill.specs.Openings.{Opening, openings_of, regular, all_kinds}
-use Rattle.mw_fill.specs.Fill.{Outcome, filled, stuck, FillRun, is_reached, placed_anywhere, what_stands}
+use Rattle.mw_fill.specs.Fill.{Outcome, filled, stuck, FillRun, is_reached, placed_anywhere}
 
 -- ---- shuffles
 
@@ -17,30 +17,39 @@ pub record Lists : Type 0 where
   pub helping : List ItemCopy
   pub filling : List ItemCopy
 
--- where the words for the locations begin, after those for the copies that rules ask for
-abbrev pub openings_begin : Joint → ℕ
-openings_begin joint = place_after 0 (copies_of Asked joint)
-
--- where those for the useful copies begin
-abbrev pub helping_begin : Joint → ℕ
-helping_begin joint = place_after (openings_begin joint) (openings_of joint)
-
--- where those for the filler and trap copies begin
-abbrev pub filling_begin : Joint → ℕ
-filling_begin joint = place_after (helping_begin joint) (copies_of Helping joint)
-
--- the four lists in the order of their shuffles, one after another
-abbrev pub lists_in : Joint → (ℕ → ℕ) → Lists
-lists_in joint words = record {
-  asked = shuffled words 0 (copies_of Asked joint);
-  openings = shuffled words (openings_begin joint) (openings_of joint);
-  helping = shuffled words (helping_begin joint) (copies_of Helping joint);
-  filling = shuffled words (filling_begin joint) (copies_of Filling joint);
+-- those of a joint, in the order of its tables
+abbrev pub stock_of : Joint → Lists
+stock_of joint = record {
+  asked = copies_of Asked joint;
+  openings = openings_of joint;
+  helping = copies_of Helping joint;
+  filling = copies_of Filling joint;
 }
 
--- those of a stream of a seed
+-- where the words for the locations begin, after those for the copies that rules ask for
+abbrev pub openings_begin : Lists → ℕ
+openings_begin stock = place_after 0 stock.asked
+
+-- where those for the useful copies begin
+abbrev pub helping_begin : Lists → ℕ
+helping_begin stock = place_after (openings_begin stock) stock.openings
+
+-- where those for the filler and trap copies begin
+abbrev pub filling_begin : Lists → ℕ
+filling_begin stock = place_after (helping_begin stock) stock.helping
+
+-- the four lists, shuffled one after another
+abbrev pub shuffled_lists : Lists → (ℕ → ℕ) → Lists
+shuffled_lists stock words = record {
+  asked = shuffled words 0 stock.asked;
+  openings = shuffled words (openings_begin stock) stock.openings;
+  helping = shuffled words (helping_begin stock) stock.helping;
+  filling = shuffled words (filling_begin stock) stock.filling;
+}
+
+-- those of a joint in the order that a stream of a seed gives
 abbrev pub lists_of : Joint → ℕ → ℕ → Lists
-lists_of joint seed stream = lists_in joint (words_of (start_of seed stream))
+lists_of joint seed stream = shuffled_lists (stock_of joint) (words_of (start_of seed stream))
 
 -- ---- the fill
 

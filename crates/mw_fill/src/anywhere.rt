@@ -1,6 +1,6 @@
 ghost use Rattle.std.specs.Prelude.{◌≡◌, ◌<◌, List, All, IfSome, MatchResult, find, length};
-ghost use Rattle.mw_multi.specs.Joint.{Joint as PlainJoint};
-ghost use Rattle.mw_multi.specs.Placement.{Put as PlainPut};
+ghost use Rattle.mw_multi.specs.Joint.{Joint};
+ghost use Rattle.mw_multi.specs.Placement as plain;
 ghost use Rattle.mw_fill.specs.Openings.{accepts};
 ghost use Rattle.mw_fill.specs.Fill.{filled, stuck, placed_anywhere};
 ghost use Rattle.mw_fill.specs.Kept.{CopyKept, OpeningKept, IsHeldFor, is_open_in};
@@ -31,9 +31,12 @@ pub(crate) fn place_anywhere(
     held: &mut [Option<Put>],
 ) -> Result<(), FillError>
     requires within { All (λ s. s.place < length held.old) openings.now }
-    ensures { (joint : PlainJoint) (puts : List PlainPut) → All (CopyKept joint.slots) copies.now → All (OpeningKept joint.slots) openings.now → IsHeldFor joint puts held.old → MatchResult result
-        (λ _. (more : List PlainPut) × IsHeldFor joint more held.new × (placed_anywhere openings.now copies.now puts ≡ filled more))
-        (λ e. OnStuck e (λ slot item. placed_anywhere openings.now copies.now puts ≡ stuck slot item)) }
+    ensures { (joint : Joint) (puts : List plain.Put) → All (CopyKept joint.slots) copies.now
+        → All (OpeningKept joint.slots) openings.now → IsHeldFor joint puts held.old
+        → MatchResult result (λ _. (more : List plain.Put) × IsHeldFor joint more held.new
+        × (placed_anywhere openings.now copies.now puts ≡ filled more))
+        (λ e. OnStuck e (λ slot item. placed_anywhere openings.now copies.now puts
+        ≡ stuck slot item)) }
 {
     for copy in copies {
         match first_accepting(copy, openings, held) {

@@ -1,7 +1,8 @@
 ghost use Rattle.std.specs.Prelude.{◌≡◌, ◌<◌, ◌≤◌, ◌&&◌, [], None, List, All, MatchResult, find, length, replicate};
 ghost use Rattle.mw_rules.specs.Holds.{Places, bag_of};
 ghost use Rattle.mw_multi.specs.Joint.{place_total};
-ghost use Rattle.mw_multi.specs.Placement.{Put as PlainPut, IsPlaced};
+ghost use Rattle.mw_multi.specs.Placement as plain;
+ghost use Rattle.mw_multi.specs.Placement.{IsPlaced};
 ghost use Rattle.mw_multi.specs.Steps.{steps_of};
 ghost use Rattle.mw_multi.specs.Events.{events_of};
 ghost use Rattle.mw_multi.specs.Bags.{IsBagOf};
@@ -26,7 +27,8 @@ fn first_reached(
     reached: &Reached,
 ) -> Option<Opening>
     requires within { All (λ s. s.place < length held.now) openings.now }
-    ensures { result ≡ find (is_open_in (λ s. accepts copy.now s && places_in reached.now s.place) held.now) openings.now }
+    ensures { result ≡ find (is_open_in
+        (λ s. accepts copy.now s && places_in reached.now s.place) held.now) openings.now }
 {
     for opening in openings {
         let free = held[opening.place as usize].is_none();
@@ -54,7 +56,9 @@ fn location_for(
     requires rules { KeepsRules joint.now reached.old }
     ensures kept { IsMadeFor joint.now reached.new }
     ensures rules { KeepsRules joint.now reached.new }
-    ensures fit { (w : Places) × IsLeast (steps_of joint.now) (bag_of hand.now) placed.now w × (result ≡ find (is_open_in (λ s. accepts copy.now s && w s.place) held.now) openings.now) }
+    ensures fit { (w : Places) × IsLeast (steps_of joint.now) (bag_of hand.now) placed.now w
+        × (result ≡ find (is_open_in (λ s. accepts copy.now s
+        && w s.place) held.now) openings.now) }
 {
     reach(joint, hand, placed, reached);
     first_reached(copy, openings, held, reached)
@@ -79,9 +83,13 @@ pub(crate) fn place_asked(
     requires placed { IsPlaced joint.now.slots (events_of joint.now) placed.old }
     requires reached { IsMadeFor joint.now reached.old }
     requires rules { KeepsRules joint.now reached.old }
-    ensures { MatchResult result
-        (λ _. (puts : List PlainPut) × IsHeldFor joint.now puts held.new × FillRun is_reached joint.now openings.now copies.now [] (filled puts))
-        (λ e. OnStuck e (λ slot item. FillRun is_reached joint.now openings.now copies.now [] (stuck slot item))) }
+    ensures kept { IsMadeFor joint.now reached.new }
+    ensures rules { KeepsRules joint.now reached.new }
+    ensures answer { MatchResult result
+        (λ _. (puts : List plain.Put) × IsHeldFor joint.now puts held.new
+        × FillRun is_reached joint.now openings.now copies.now [] (filled puts))
+        (λ e. OnStuck e (λ slot item. FillRun is_reached joint.now openings.now copies.now []
+        (stuck slot item))) }
 {
     // Reading the joint makes known what its type keeps.
     let _ = &joint.slots;

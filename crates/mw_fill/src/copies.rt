@@ -1,7 +1,8 @@
 ghost use Rattle.std.specs.Prelude.{◌≡◌, ◌<◌, ◌≤◌, ◌+◌, ◌*◌, ◌^◌, ◌++◌, All, IfOk, OnOk, length, replicate};
 ghost use Rattle.mw_multi.specs.Joint.{slot_items};
 ghost use Rattle.mw_fill.specs.Kept.{CopyKept};
-ghost use Rattle.mw_fill.specs.Copies.{copy_of as plain_copy, entry_copies, slot_copies, copies_of as plain_copies};
+ghost use Rattle.mw_fill.specs.Copies as plain;
+ghost use Rattle.mw_fill.specs.Copies.{entry_copies, slot_copies};
 
 use crate::group::Group;
 use crate::item_copy::ItemCopy;
@@ -14,7 +15,7 @@ use std::alloc::Global;
 fn copy_of(many: bool, number: u16, slot: &Slot, item: u32) -> ItemCopy
     requires item { item < slot_items slot.now }
     requires fits { slot.now.first_item + slot_items slot.now < 2 ^ 32 }
-    ensures { result ≡ plain_copy many number slot.now item }
+    ensures { result ≡ plain.copy_of many number slot.now item }
 {
     let local = slot.local_items.as_slice()[item as usize];
     let non_local = slot.non_local_items.as_slice()[item as usize];
@@ -47,7 +48,8 @@ fn push_entry(
 ) -> Result<(), Memory>
     requires item { entry.item < slot_items slot.now }
     requires fits { slot.now.first_item + slot_items slot.now < 2 ^ 32 }
-    ensures { OnOk result (copies.new ≡ copies.old ++ entry_copies group many number slot.now entry) }
+    ensures { OnOk result (copies.new ≡ copies.old
+        ++ entry_copies group many number slot.now entry) }
 {
     let world = slot.world;
     let item = &world.items.as_slice()[entry.item as usize];
@@ -81,7 +83,7 @@ pub(crate) fn copies_of(
     joint: &Joint,
     group: Group,
 ) -> Result<List<ItemCopy>, Memory>
-    ensures copies { IfOk result (λ copies. copies ≡ plain_copies group joint.now) }
+    ensures copies { IfOk result (λ copies. copies ≡ plain.copies_of group joint.now) }
     ensures few { IfOk result (λ copies. length copies ≤ 10240000) }
     ensures kept { IfOk result (All (CopyKept joint.now.slots)) }
 {

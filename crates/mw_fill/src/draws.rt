@@ -1,23 +1,26 @@
 ghost use Rattle.std.specs.Prelude.{◌≡◌, ℕ, ◌+◌, ◌-◌, ◌*◌, ◌/◌, ◌^◌, ◌<◌, ◌≤◌, length};
-ghost use Rattle.mw_fill.specs.Draws.{start_of, words_of, drawn, shuffled, place_after};
+ghost use Rattle.mw_fill.specs.Draws.{start_of, words_of, at_place, drawn, shuffled, place_after};
 
 use rand_chacha::ChaCha20Rng;
 use rand_core::SeedableRng;
 use rand_core::utils::NextWord;
 use std::marker::Model;
 
-/// The words of one stream of a seed, from a place on.
+/// The words of one stream of a seed, from a place on. After 2^68 words they begin anew.
 #[derive(Drop)]
 pub struct Words {
     generator: ChaCha20Rng,
 }
 
 impl Model for Words {
+    ghost use Rattle.std.specs.Prelude.{◌<◌, ◌^◌};
     ghost use Rattle.rand_chacha.specs.ChaCha.{ChaCha};
 
     ghost Value = { ChaCha };
 
     ghost view = { λ w. w.generator };
+
+    ghost invariant = { λ w. w.generator.word_pos < 2 ^ 68 };
 }
 
 impl Words {
@@ -35,9 +38,8 @@ impl Words {
 
     /// The next word.
     pub fn next(&mut self) -> u32
-        requires { self.old.word_pos + 1 < 2 ^ 68 }
         ensures word { result ≡ words_of self.old self.old.word_pos }
-        ensures place { self.new ≡ record self.old { word_pos = self.old.word_pos + 1 } }
+        ensures place { self.new ≡ at_place self.old (self.old.word_pos + 1) }
     {
         self.generator.next_word()
     }
@@ -55,11 +57,12 @@ pub fn draw(word: u32, k: u32) -> u32
 /// Puts fewer than 2^32 entries into the order that the next words give. From the last entry down to the second, each
 /// changes places with the one at a number drawn at or below its own. It takes no memory.
 pub(crate) fn shuffle_entries<T>(words: &mut Words, entries: &mut [T])
-    requires few { length entries.old < 2 ^ 32 }
-    requires place { words.old.word_pos + length entries.old < 2 ^ 68 }
+    requires { length entries.old < 2 ^ 32 }
     ensures entries { entries.new ≡ shuffled (words_of words.old) words.old.word_pos entries.old }
-    ensures words { words.new ≡ record words.old { word_pos = place_after words.old.word_pos entries.old } }
+    ensures words { words.new ≡ at_place words.old (place_after words.old.word_pos entries.old) }
 {
+    // Reading the words makes known that their place is below 2^68.
+    let _ = &words.generator;
     let mut i = entries.len();
     while 1 < i {
         i -= 1;
@@ -72,10 +75,9 @@ pub(crate) fn shuffle_entries<T>(words: &mut Words, entries: &mut [T])
 /// Puts fewer than 2^32 numbers into the order that the next words give. From the last one down to the second, each changes
 /// places with the one at a number drawn at or below its own. It takes no memory.
 pub fn shuffle(words: &mut Words, numbers: &mut [u32])
-    requires few { length numbers.old < 2 ^ 32 }
-    requires place { words.old.word_pos + length numbers.old < 2 ^ 68 }
+    requires { length numbers.old < 2 ^ 32 }
     ensures numbers { numbers.new ≡ shuffled (words_of words.old) words.old.word_pos numbers.old }
-    ensures words { words.new ≡ record words.old { word_pos = place_after words.old.word_pos numbers.old } }
+    ensures words { words.new ≡ at_place words.old (place_after words.old.word_pos numbers.old) }
 {
     shuffle_entries(words, numbers);
 }

@@ -1,34 +1,34 @@
-ghost use Rattle.std.specs.Prelude.{◌≡◌, ◌<◌, ◌≤◌, ◌*◌, ℕ, List, IfOk, length, sum_by};
+ghost use Rattle.std.specs.Prelude.{◌≡◌, ◌<◌, ◌≤◌, ◌*◌, ℕ, List, IfOk, OnOk, length, sum_by};
 ghost use Rattle.mw_multi.specs.Placement.{IsPlacement, IsPlaced};
 ghost use Rattle.mw_multi.specs.Events.{with_events};
 ghost use Rattle.mw_reach.specs.Goals.{IsBeatable};
+ghost use Rattle.mw_reach.specs.Reached.{IsMadeFor, KeepsRules};
 ghost use Rattle.mw_multi.specs.WorldKept.{copies};
-ghost use Rattle.mw_fill.specs.Generated.{IsUnmet, slot_pool_size, pool_size, room_size, GeneratedSeed};
+ghost use Rattle.mw_fill.specs.Generated.{IsUnmet, slot_pool_size, pool_size, CanBeTried, GeneratedSeed};
 
-use crate::copies::copies_of;
 use crate::error::FillError;
-use crate::group::Group;
-use crate::hand::hand_of;
-use crate::one_try::fill_try;
-use crate::openings::openings_of;
+use crate::lists::stock_of;
+use crate::one_try::try_from_stock;
 use crate::seed::{GenerateError, Seed};
 use mw_base::Memory;
-use mw_multi::{Joint, Placed, World};
+use mw_multi::{Bag, Joint, Placed, World};
 use mw_reach::{Reached, reach, unmet_goal};
 use std::alloc::Global;
 
 /// The first slot whose goal doesn't hold with everything in hand, from 1; `Memory` where memory ran out.
-fn first_unmet(alloc: Global, joint: &Joint) -> Result<Option<u16>, Memory>
-    ensures { IfOk result (IsUnmet joint.now) }
+fn first_unmet(alloc: Global, joint: &Joint, reached: &mut Reached) -> Result<Option<u16>, Memory>
+    requires reached { IsMadeFor joint.now reached.old }
+    requires rules { KeepsRules joint.now reached.old }
+    ensures kept { IsMadeFor joint.now reached.new }
+    ensures rules { KeepsRules joint.now reached.new }
+    ensures slot { IfOk result (IsUnmet joint.now) }
 {
     // Reading the joint makes known what its type keeps.
     let _ = &joint.slots;
-    let copies = copies_of(alloc, joint, Group::Asked)?;
-    let everything = hand_of(alloc, joint, copies.as_slice())?;
+    let everything = Bag::everything(alloc, joint)?;
     let placed = Placed::events(alloc, joint)?;
-    let mut reached = Reached::new(alloc, joint)?;
-    reach(joint, &everything, &placed, &mut reached);
-    Ok(unmet_goal(joint, &reached))
+    reach(joint, &everything, &placed, reached);
+    Ok(unmet_goal(joint, reached))
 }
 
 /// How many copies the pool of a world has.
@@ -55,14 +55,6 @@ fn pool_copies(joint: &Joint) -> u64
     total
 }
 
-/// How many locations have an id; `Memory` where memory ran out.
-fn room_for(alloc: Global, joint: &Joint) -> Result<u64, Memory>
-    ensures { IfOk result (λ room. room ≡ room_size joint.now) }
-{
-    let openings = openings_of(alloc, joint)?;
-    Ok(openings.len() as u64)
-}
-
 /// The placement of the first of 1 to 1,000 tries that gives one, the first try having number 0.
 ///
 /// It is refused at the first slot whose goal doesn't hold with all items in hand and the events alone placed; then where
@@ -70,22 +62,27 @@ fn room_for(alloc: Global, joint: &Joint) -> Result<u64, Memory>
 pub fn generate(alloc: Global, joint: &Joint, seed: u64, tries: u32) -> Result<Seed, GenerateError>
     requires { (1 ≤ tries) × (tries ≤ 1000) }
     ensures seed { GeneratedSeed joint.now seed tries result }
+    ensures tried { OnOk result (CanBeTried joint.now) }
     ensures placement { IfOk result (λ found. IsPlacement joint.now found.placement) }
-    ensures beatable { IfOk result (λ found. (table : List (List ℕ)) → IsPlaced joint.now.slots (with_events joint.now found.placement) table → IsBeatable joint.now table) }
+    ensures beatable { IfOk result (λ found. (table : List (List ℕ))
+        → IsPlaced joint.now.slots (with_events joint.now found.placement) table
+        → IsBeatable joint.now table) }
 {
     // Reading the joint makes known what its type keeps.
     let _ = &joint.slots;
-    match first_unmet(alloc, joint)? {
+    let mut reached = Reached::new(alloc, joint)?;
+    match first_unmet(alloc, joint, &mut reached)? {
         Some(slot) => return Err(GenerateError::NotBeatable { slot }),
         None => {}
     }
+    let stock = stock_of(alloc, joint)?;
     let have = pool_copies(joint);
-    let room = room_for(alloc, joint)?;
+    let room = stock.openings.len() as u64;
     if room < have {
         return Err(GenerateError::TooManyItems { have, room });
     }
     for stream in 0..u64::from(tries) {
-        match fill_try(alloc, joint, seed, stream) {
+        match try_from_stock(alloc, joint, &stock, &mut reached, seed, stream) {
             Ok(placement) => return Ok(Seed { placement, stream }),
             Err(FillError::Memory) => return Err(GenerateError::Memory),
             Err(FillError::Stuck { .. }) => {}

@@ -1,9 +1,12 @@
 ghost use Rattle.std.specs.Prelude.{◌≡◌, ◌<◌, ◌≤◌, [], List, All, IfOk, MatchResult, length};
-ghost use Rattle.mw_multi.specs.Placement.{Put as PlainPut, IsPlacement};
+ghost use Rattle.mw_multi.specs.Placement as plain;
+ghost use Rattle.mw_multi.specs.Placement.{IsPlacement};
 ghost use Rattle.mw_fill.specs.Fill.{filled, stuck, is_reached, FillRun};
 ghost use Rattle.mw_fill.specs.Kept.{CopyKept, OpeningKept, IsHeldFor};
-ghost use Rattle.mw_fill.specs.ListsKept.{AreKept};
-ghost use Rattle.mw_fill.specs.Try.{IsOutcome, IsFilled, IsStuck, placement_of};
+ghost use Rattle.mw_reach.specs.Reached.{IsMadeFor, KeepsRules};
+ghost use Rattle.mw_fill.specs.Openings.{openings_of};
+ghost use Rattle.mw_fill.specs.ListsKept.{AreKept, AreShort};
+ghost use Rattle.mw_fill.specs.Try.{stock_of, IsOutcome, IsFilled, IsStuck, placement_of};
 ghost use Rattle.mw_fill.specs.Answer.{OnStuck};
 
 use crate::anywhere::place_anywhere;
@@ -11,9 +14,9 @@ use crate::assumed::place_asked;
 use crate::error::FillError;
 use crate::hand::hand_of;
 use crate::item_copy::ItemCopy;
-use crate::lists::{Lists, lists_of};
+use crate::lists::{self, Lists, lists_of};
 use crate::opening::Opening;
-use crate::openings::{all_kinds, openings_of, regular};
+use crate::openings::{all_kinds, regular};
 use crate::placement::placement_from;
 use mw_base::Memory;
 use mw_multi::{Joint, Placed, Placement, Put};
@@ -35,18 +38,24 @@ fn place_first(
     copies: &[ItemCopy],
     openings: &[Opening],
     held: &mut [Option<Put>],
+    reached: &mut Reached,
 ) -> Result<(), FillError>
     requires copies { All (CopyKept joint.now.slots) copies.now }
     requires few { length copies.now ≤ 10240000 }
     requires openings { All (OpeningKept joint.now.slots) openings.now }
     requires held { IsHeldFor joint.now [] held.old }
-    ensures { MatchResult result
-        (λ _. (puts : List PlainPut) × IsHeldFor joint.now puts held.new × FillRun is_reached joint.now openings.now copies.now [] (filled puts))
-        (λ e. OnStuck e (λ slot item. FillRun is_reached joint.now openings.now copies.now [] (stuck slot item))) }
+    requires reached { IsMadeFor joint.now reached.old }
+    requires rules { KeepsRules joint.now reached.old }
+    ensures kept { IsMadeFor joint.now reached.new }
+    ensures rules { KeepsRules joint.now reached.new }
+    ensures answer { MatchResult result
+        (λ _. (puts : List plain.Put) × IsHeldFor joint.now puts held.new
+        × FillRun is_reached joint.now openings.now copies.now [] (filled puts))
+        (λ e. OnStuck e (λ slot item. FillRun is_reached joint.now openings.now copies.now []
+        (stuck slot item))) }
 {
     let mut hand = hand_of(alloc, joint, copies)?;
     let mut placed = Placed::events(alloc, joint)?;
-    let mut reached = Reached::new(alloc, joint)?;
     place_asked(
         joint,
         copies,
@@ -54,7 +63,7 @@ fn place_first(
         &mut hand,
         held,
         &mut placed,
-        &mut reached,
+        reached,
     )
 }
 
@@ -64,11 +73,17 @@ fn place_all(
     joint: &Joint,
     lists: &Lists,
     held: &mut [Option<Put>],
+    reached: &mut Reached,
 ) -> Result<(), FillError>
     requires lists { AreKept joint.now.slots lists.now }
     requires held { IsHeldFor joint.now [] held.old }
-    ensures { MatchResult result
-        (λ _. (puts : List PlainPut) × IsHeldFor joint.now puts held.new × IsOutcome joint.now lists.now (filled puts))
+    requires reached { IsMadeFor joint.now reached.old }
+    requires rules { KeepsRules joint.now reached.old }
+    ensures kept { IsMadeFor joint.now reached.new }
+    ensures rules { KeepsRules joint.now reached.new }
+    ensures answer { MatchResult result
+        (λ _. (puts : List plain.Put) × IsHeldFor joint.now puts held.new
+        × IsOutcome joint.now lists.now (filled puts))
         (λ e. OnStuck e (λ slot item. IsOutcome joint.now lists.now (stuck slot item))) }
 {
     let places = regular(alloc, lists.openings.as_slice())?;
@@ -78,6 +93,7 @@ fn place_all(
         lists.asked.as_slice(),
         places.as_slice(),
         held,
+        reached,
     ) {
         return Err(error);
     }
@@ -88,26 +104,60 @@ fn place_all(
     place_anywhere(lists.filling.as_slice(), places.as_slice(), held)
 }
 
-/// The placement that the lists give. `held` holds nothing, and is room to work in.
+/// The placement that the lists give, with something at each of the joint's locations with an id. `held` holds nothing, and
+/// is room to work in.
 fn place_lists(
     alloc: Global,
     joint: &Joint,
+    openings: &[Opening],
     lists: &Lists,
     held: &mut [Option<Put>],
+    reached: &mut Reached,
 ) -> Result<Placement, FillError>
+    requires openings { openings.now ≡ openings_of joint.now }
     requires lists { AreKept joint.now.slots lists.now }
     requires held { IsHeldFor joint.now [] held.old }
+    requires reached { IsMadeFor joint.now reached.old }
+    requires rules { KeepsRules joint.now reached.old }
+    ensures kept { IsMadeFor joint.now reached.new }
+    ensures rules { KeepsRules joint.now reached.new }
     ensures answer { MatchResult result
-        (λ placement. (puts : List PlainPut) × IsOutcome joint.now lists.now (filled puts) × (placement ≡ placement_of joint.now puts))
+        (λ placement. (puts : List plain.Put) × IsOutcome joint.now lists.now (filled puts)
+        × (placement ≡ placement_of joint.now puts))
         (λ e. OnStuck e (λ slot item. IsOutcome joint.now lists.now (stuck slot item))) }
     ensures placement { IfOk result (IsPlacement joint.now) }
 {
     // Reading the joint makes known what its type keeps.
     let _ = &joint.slots;
-    place_all(alloc, joint, lists, held)?;
-    let openings = openings_of(alloc, joint)?;
-    let placement = placement_from(alloc, openings.as_slice(), held)?;
+    place_all(alloc, joint, lists, held, reached)?;
+    let placement = placement_from(alloc, openings, held)?;
     Ok(placement)
+}
+
+/// `fill_try` from the joint's stock.
+pub(crate) fn try_from_stock(
+    alloc: Global,
+    joint: &Joint,
+    stock: &Lists,
+    reached: &mut Reached,
+    seed: u64,
+    stream: u64,
+) -> Result<Placement, FillError>
+    requires stock { stock.now ≡ stock_of joint.now }
+    requires kept { AreKept joint.now.slots stock.now }
+    requires short { AreShort stock.now }
+    requires reached { IsMadeFor joint.now reached.old }
+    requires rules { KeepsRules joint.now reached.old }
+    ensures kept { IsMadeFor joint.now reached.new }
+    ensures rules { KeepsRules joint.now reached.new }
+    ensures answer { MatchResult result (IsFilled joint.now seed stream)
+        (λ e. OnStuck e (IsStuck joint.now seed stream)) }
+    ensures placement { IfOk result (IsPlacement joint.now) }
+{
+    let lists = lists_of(alloc, stock, seed, stream)?;
+    let mut held = nothing_held(alloc, joint)?;
+    let openings = stock.openings.as_slice();
+    place_lists(alloc, joint, openings, &lists, held.as_mut_slice(), reached)
 }
 
 /// The placement of the try with this number of a seed: something at each location with an id. It is Stuck exactly where a
@@ -118,10 +168,11 @@ pub fn fill_try(
     seed: u64,
     stream: u64,
 ) -> Result<Placement, FillError>
-    ensures answer { MatchResult result (IsFilled joint.now seed stream) (λ e. OnStuck e (IsStuck joint.now seed stream)) }
+    ensures answer { MatchResult result (IsFilled joint.now seed stream)
+        (λ e. OnStuck e (IsStuck joint.now seed stream)) }
     ensures placement { IfOk result (IsPlacement joint.now) }
 {
-    let lists = lists_of(alloc, joint, seed, stream)?;
-    let mut held = nothing_held(alloc, joint)?;
-    place_lists(alloc, joint, &lists, held.as_mut_slice())
+    let stock = lists::stock_of(alloc, joint)?;
+    let mut reached = Reached::new(alloc, joint)?;
+    try_from_stock(alloc, joint, &stock, &mut reached, seed, stream)
 }

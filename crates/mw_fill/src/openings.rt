@@ -2,7 +2,8 @@ ghost use Rattle.std.specs.Prelude.{◌≡◌, ◌<◌, ◌≤◌, ◌+◌, ◌^
 ghost use Rattle.mw_multi.specs.Joint.{slot_places};
 ghost use Rattle.mw_multi.specs.declared.location.LocKind.{LocKind};
 ghost use Rattle.mw_fill.specs.Kept.{OpeningKept};
-ghost use Rattle.mw_fill.specs.Openings.{kind_of as plain_kind, opening_of as plain_opening, opening_at, slot_openings, openings_of as plain_openings, of_kind, regular as plain_regular, all_kinds as plain_all};
+ghost use Rattle.mw_fill.specs.Openings as plain;
+ghost use Rattle.mw_fill.specs.Openings.{opening_at, slot_openings, of_kind};
 
 use crate::opening::Opening;
 use mw_base::{List, Memory};
@@ -11,7 +12,7 @@ use std::alloc::Global;
 
 /// The kind of a location that an option excludes or not and gives priority or not, and that is of this kind in its table.
 fn kind_of(exclude: bool, priority: bool, table: LocKind) -> LocKind
-    ensures { result ≡ plain_kind exclude priority table }
+    ensures { result ≡ plain.kind_of exclude priority table }
 {
     if exclude || matches!(table, LocKind::Excluded) {
         LocKind::Excluded
@@ -26,7 +27,7 @@ fn kind_of(exclude: bool, priority: bool, table: LocKind) -> LocKind
 fn opening_of(number: u16, slot: &Slot, index: u32, location: &Location) -> Opening
     requires index { index < length slot.now.world.locations }
     requires fits { slot.now.first_place + slot_places slot.now < 2 ^ 32 }
-    ensures { result ≡ plain_opening number slot.now index location.now }
+    ensures { result ≡ plain.opening_of number slot.now index location.now }
 {
     let exclude = slot.exclude_locations.as_slice()[index as usize];
     let priority = slot.priority_locations.as_slice()[index as usize];
@@ -49,7 +50,8 @@ fn push_opening(
 ) -> Result<(), Memory>
     requires index { index < length slot.now.world.locations }
     requires fits { slot.now.first_place + slot_places slot.now < 2 ^ 32 }
-    ensures { OnOk result (openings.new ≡ openings.old ++ opening_at number slot.now index location.now) }
+    ensures { OnOk result (openings.new ≡ openings.old
+        ++ opening_at number slot.now index location.now) }
 {
     if location.id.is_some() {
         openings.push(opening_of(number, slot, index, location))?;
@@ -71,7 +73,7 @@ fn push_slot(openings: &mut List<Opening>, number: u16, slot: &Slot) -> Result<(
 
 /// The locations with an id, by slot and table order; `Memory` where memory ran out.
 pub(crate) fn openings_of(alloc: Global, joint: &Joint) -> Result<List<Opening>, Memory>
-    ensures openings { IfOk result (λ openings. openings ≡ plain_openings joint.now) }
+    ensures openings { IfOk result (λ openings. openings ≡ plain.openings_of joint.now) }
     ensures few { IfOk result (λ openings. length openings ≤ 200000) }
     ensures kept { IfOk result (All (OpeningKept joint.now.slots)) }
 {
@@ -96,7 +98,7 @@ fn push_kind(into: &mut List<Opening>, openings: &[Opening], kind: LocKind) -> R
 
 /// Those with priority, then the default ones; `Memory` where memory ran out.
 pub(crate) fn regular(alloc: Global, openings: &[Opening]) -> Result<List<Opening>, Memory>
-    ensures { IfOk result (λ found. found ≡ plain_regular openings.now) }
+    ensures { IfOk result (λ found. found ≡ plain.regular openings.now) }
 {
     let mut found = List::new(alloc);
     push_kind(&mut found, openings, LocKind::Priority)?;
@@ -106,7 +108,7 @@ pub(crate) fn regular(alloc: Global, openings: &[Opening]) -> Result<List<Openin
 
 /// The excluded ones, then those with priority, then the default ones; `Memory` where memory ran out.
 pub(crate) fn all_kinds(alloc: Global, openings: &[Opening]) -> Result<List<Opening>, Memory>
-    ensures { IfOk result (λ found. found ≡ plain_all openings.now) }
+    ensures { IfOk result (λ found. found ≡ plain.all_kinds openings.now) }
 {
     let mut found = List::new(alloc);
     push_kind(&mut found, openings, LocKind::Excluded)?;

@@ -4,10 +4,10 @@ use Rattle.serde_json.specs.View.{view as data_view, items_view as data_items, m
 use Rattle.serde_json.specs.declared.value.Value.{Value}
 use Rattle.mw_model.specs.Json.{Json, item, member, depth, items_depth, members_depth}
 use Rattle.mw_json.specs.Reading.{of_data, of_items, of_members}
-use Rattle.mw_json.specs.View.{view, member_view, items_of, members_of, items_view, tree_step, member_step}
+use Rattle.mw_json.specs.View.{view, member_view, items_of, members_of, items_view, members_view, tree_step, member_step}
 use Rattle.mw_json.specs.Grammar.{items_length}
 use Rattle.mw_json.specs.declared.tree.Tree.{Tree}
-use Rattle.mw_json.specs.declared.tree.Member.{roll-Member, fold-roll-Member}
+use Rattle.mw_json.specs.declared.tree.Member.{Member, roll-Member, fold-roll-Member}
 
 -- what a value of the crate means
 abbrev pub meaning : Value → Json
@@ -51,3 +51,15 @@ member_view-made name value = fold-roll-Member Json (List ℕ × Json) tree_step
 pub as_many : (ts : List Tree) → items_length (items_view ts) ≡ length ts
 as_many [] = refl
 as_many (t ∷ ts) = omega (arith, as_many ts)
+
+-- lists that mean the same have as many elements
+pub same_items_count : (ts us : List Tree) → items_view ts ≡ items_view us → length ts ≡ length us
+same_items_count ts us e = omega (arith, ap items_length e, as_many ts, as_many us)
+
+pub same_members_count : (ms ns : List Member) → members_view ms ≡ members_view ns → length ms ≡ length ns
+same_members_count [] [] e = refl
+same_members_count [] (n ∷ ns) e = cc
+same_members_count (m ∷ ms) [] e = cc
+same_members_count (m ∷ ms) (n ∷ ns) e =
+    let rest : members_view ms ≡ members_view ns = cc in
+    omega (arith, same_members_count ms ns rest)

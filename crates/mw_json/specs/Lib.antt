@@ -1,7 +1,9 @@
 pub mod Files
 pub mod Grammar
-pub mod Paths
-pub mod Reading
-pub mod View
 pub mod Parts
+pub mod Paths
+pub mod Readers
+pub mod Reading
 pub mod Settings
+pub mod Valid
+pub mod View

@@ -2,6 +2,7 @@ ghost use Rattle.std.specs.Prelude.{◌≡◌, ◌≢◌, ◌≤◌, ◌<◌, If
 ghost use Rattle.serde_json.specs.View.{number_view, view as data_view, items_view as data_items, members_view as data_members};
 ghost use Rattle.mw_model.specs.Json.{Json, depth, items_depth, members_depth};
 ghost use Rattle.mw_json.specs.Reading.{IsReading, reading, of_number, of_data, of_items, of_members, max_depth};
+ghost use Rattle.mw_json.specs.Valid.{IsValid};
 ghost use Rattle.mw_json.specs.View.{view, items_view, members_view};
 
 use crate::error::JsonError;
@@ -10,9 +11,11 @@ use mw_base::{List, Text};
 use serde_json::{Category, Map, Number, Value};
 use std::alloc::Global;
 
-/// Reads a text. Its depth is at most 64.
+/// Reads a text. Its depth is at most 64, each whole number of it is from -2^63 to 2^64 - 1, and the members of each
+/// object ascend strictly in byte order of their names.
 pub fn read_text(alloc: Global, bytes: &[u8]) -> Result<Tree, JsonError>
     ensures ok { IfOk result (λ t. IsReading bytes.now (view t) × (depth (view t) ≤ max_depth)) }
+    ensures valid { IfOk result (λ t. IsValid (view t)) }
     ensures no_json { result ≡ Err JsonError.NoJson → IsUtf8 bytes.now → reading bytes.now ≡ None }
     ensures too_deep { result ≡ Err JsonError.TooDeep
         → (j : Json) × IsReading bytes.now j × (max_depth < depth j) }

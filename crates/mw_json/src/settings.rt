@@ -1,16 +1,22 @@
-ghost use Rattle.std.specs.Prelude.{◌≡◌, ℕ, Result};
+ghost use Rattle.std.specs.Prelude.{ℕ};
 ghost use Rattle.mw_base.specs.Permissions.{permission_number};
 ghost use Rattle.mw_json.specs.View.{view};
-ghost use Rattle.mw_json.specs.Grammar.{Breach, Gives, GivesBy, under, number_at};
+ghost use Rattle.mw_json.specs.Grammar.{Gives, GivesBy, number_at};
 ghost use Rattle.mw_json.specs.Settings.{password_at, remaining_of, permission_of, remaining_at, permission_at};
-ghost use Rattle.mw_json.specs.declared.refusal.Step.TheVariants.{Name};
 
 use crate::grammar::{copy_short, refuse, text_of};
 use crate::parts::number_between;
-use crate::refusal::{Kind, Refusal, Step};
+use crate::refusal::{Kind, Refusal};
+use crate::seen::Seen;
 use crate::tree::Tree;
 use mw_base::{Permission, Text};
 use std::alloc::Global;
+
+impl Seen for Permission {
+    ghost Plain = { ℕ };
+
+    ghost seen = { permission_number };
+}
 
 fn remaining_word(alloc: Global, word: &str) -> Result<Permission, Refusal>
     ensures { GivesBy permission_number result (remaining_of word.now) }
@@ -66,23 +72,4 @@ pub fn count_in(alloc: Global, tree: &Tree, most: u32) -> Result<u32, Refusal>
 {
     let number = number_between(alloc, tree, 0, most as u64)?;
     Ok(number as u32)
-}
-
-/// The answer for a permission as seen from its object.
-pub fn permission_at_name(
-    alloc: Global,
-    answer: Result<Permission, Refusal>,
-    name: &str,
-) -> Result<Permission, Refusal>
-    ensures { (read : Result ℕ Breach) → GivesBy permission_number answer read
-        → GivesBy permission_number result (under (Name name.now) read) }
-{
-    match answer {
-        Ok(permission) => Ok(permission),
-        Err(Refusal::Memory) => Err(Refusal::Memory),
-        Err(Refusal::Named { kind, mut path }) => {
-            path.push(Step::Name(Text::of(alloc, name)?))?;
-            Err(Refusal::Named { kind, path })
-        }
-    }
 }

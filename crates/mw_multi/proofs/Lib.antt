@@ -4,9 +4,12 @@ pub mod FileNames
 pub mod Flags
 pub mod Fronts
 pub mod Indexes
+pub mod Indexing
 pub mod LabelNames
 pub mod Lengths
 pub mod Marks
+pub mod Numbered
 pub mod Numbering
 pub mod Sites
 pub mod Standing
+pub mod WhatStands

@@ -27,6 +27,10 @@ start_count slots n = sum_by (slot_start n) slots
 abbrev pub pool_count : List Slot → ℕ → ℕ
 pool_count slots n = sum_by (slot_pool n) slots
 
+-- everything in hand: what all slots begin with, and all copies of their pools
+abbrev pub everything : List Slot → ℕ → ℕ
+everything slots n = start_count slots n + pool_count slots n
+
 -- these are counts of all items of the slots, of each item as many as this
 pub record IsBagOf (slots : List Slot) (count : ℕ → ℕ) (bag : List ℕ) : Type 0 where
   pub size : length bag ≡ item_total slots

@@ -37,8 +37,3 @@ is_listed names None = false
 -- for each entry, whether its name is listed
 abbrev pub flags_of : List (Option (List ℕ)) → List (List ℕ) → List Bool
 flags_of labels names = map (is_listed names) labels
-
--- what was found, or else this index where the test holds
-abbrev pub first_of : Option ℕ → Bool → ℕ → Option ℕ
-first_of (Some found) holds at = Some found
-first_of None holds at = if holds then Some at else None

@@ -1,10 +1,12 @@
 pub mod Bags
 pub mod Events
 pub mod Files
+pub mod Indexes
 pub mod Joint
 pub mod JointOf
 pub mod Labels
 pub mod Names
+pub mod Numbered
 pub mod OptionNames
 pub mod Placement
 pub mod Players

@@ -1,5 +1,5 @@
 -- Placements: which item, of which receiver's world, stands at which location.
-use Rattle.std.specs.Prelude.{◌≡◌, ℕ, zero, suc, ◌+◌, ◌-◌, ◌==◌, ◌&&◌, List, [], ◌∷◌, Bool, true, Option, Some, None, All, filter, flat_map, is_some, length, map, nat_lt, option_map, option_and_then, slice_get, slice_index_or, if◌then◌else◌}
+use Rattle.std.specs.Prelude.{◌≡◌, ℕ, zero, suc, ◌+◌, ◌-◌, ◌==◌, ◌&&◌, List, [], ◌∷◌, Bool, true, Option, Some, None, All, filter, find, flat_map, is_some, length, map, nat_lt, option_map, option_and_then, slice_get, slice_index_or, if◌then◌else◌}
 use Rattle.std.specs.List.Sorted.{IsStrictlyIncreasing}
 use Rattle.mw_multi.specs.World.{World, Item, Location}
 use Rattle.mw_multi.specs.RulesKept.{is_progression_item}
@@ -72,7 +72,20 @@ pub record IsPlacement (joint : Joint) (puts : List Put) : Type 0 where
   pub ascend : Ascend puts
   pub each : All (PutKept joint.slots) puts
 
--- ---- as a table
+-- ---- what stands where
+
+abbrev pub stands_at : ℕ → Put → Bool
+stands_at place put = put.place == place
+
+-- what stands at a place
+abbrev pub what_stands : List Put → ℕ → Option Put
+what_stands puts place = find (stands_at place) puts
+
+-- for each place, what stands there
+abbrev pub AreStanding : List Put → List (Option Put) → Type 0
+AreStanding puts stands = (place : ℕ) → slice_index_or stands place None ≡ what_stands puts place
+
+-- ---- as a table of numbers
 
 -- the numbers over all slots of an item, one for each owner of its receiver, which is the slot alone; none where it is no
 -- progression item
@@ -85,9 +98,6 @@ numbers_of (Some s) item = numbers_in item s
 
 abbrev pub put_numbers : List Slot → Put → List ℕ
 put_numbers slots put = numbers_of (slot_at slots put.receiver) put.item
-
-abbrev pub stands_at : ℕ → Put → Bool
-stands_at place put = put.place == place
 
 -- the numbers of what stands at a place
 abbrev pub standing : List Slot → List Put → ℕ → List ℕ

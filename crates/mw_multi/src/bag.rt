@@ -2,7 +2,7 @@ ghost use Rattle.std.specs.Prelude.{◌≡◌, ◌<◌, ◌≤◌, ◌+◌, ◌-
 ghost use Rattle.mw_rules.specs.Holds.{bag_of};
 ghost use Rattle.mw_multi.specs.WorldKept.{copies};
 ghost use Rattle.mw_multi.specs.Joint.{item_total, slot_items};
-ghost use Rattle.mw_multi.specs.Bags.{entries_count, slot_start, slot_pool, start_count, pool_count, IsBagOf};
+ghost use Rattle.mw_multi.specs.Bags.{entries_count, slot_start, slot_pool, start_count, everything, IsBagOf};
 
 use crate::joint::Joint;
 use crate::slot::Slot;
@@ -33,7 +33,8 @@ fn add_entries(bag: &mut Bag, first_item: u32, entries: &[PoolEntry])
     requires within { All (λ e. first_item + e.item < length bag.old) entries.now }
     requires room { (n : ℕ) → bag_of bag.old n + sum_by copies entries.now < 2 ^ 31 }
     ensures size { length bag.new ≡ length bag.old }
-    ensures counts { (n : ℕ) → bag_of bag.new n ≡ bag_of bag.old n + entries_count first_item entries.now n }
+    ensures counts { (n : ℕ) → bag_of bag.new n ≡ bag_of bag.old n
+        + entries_count first_item entries.now n }
 {
     for entry in entries {
         bag.add(first_item + entry.item, entry.count);
@@ -79,7 +80,7 @@ impl Bag {
 
     /// What the joint's slots begin with and all that their pools have; `Memory` where memory ran out.
     pub fn everything(alloc: Global, joint: &Joint) -> Result<Bag, Memory>
-        ensures { IfOk result (IsBagOf joint.now.slots (λ n. start_count joint.now.slots n + pool_count joint.now.slots n)) }
+        ensures { IfOk result (IsBagOf joint.now.slots (everything joint.now.slots)) }
     {
         let mut bag = Bag::starting(alloc, joint)?;
         for slot in joint.slots.as_slice() {

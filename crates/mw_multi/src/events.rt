@@ -1,6 +1,7 @@
-ghost use Rattle.std.specs.Prelude.{◌≡◌, ◌<◌, ◌+◌, ◌++◌, List, Some, true, IfOk, OnOk, All, length, map, replicate, slice_get};
-ghost use Rattle.mw_multi.specs.Joint.{Slot as PlainSlot};
-ghost use Rattle.mw_multi.specs.Placement.{Put as PlainPut, PutKept, IsPlacement, IsPlaced};
+ghost use Rattle.std.specs.Prelude.{◌≡◌, ◌<◌, ◌+◌, ◌++◌, ◌≤◌, ◌^◌, List, Some, true, IfOk, OnOk, All, length, map, replicate, slice_get, sum_by};
+ghost use Rattle.mw_multi.specs.Joint as joined;
+ghost use Rattle.mw_multi.specs.Placement as plain;
+ghost use Rattle.mw_multi.specs.Placement.{PutKept, IsPlacement, IsPlaced};
 ghost use Rattle.mw_multi.specs.Events.{event_at, slot_events, events_of, with_events, lacks_event, slot_flags, event_free, put_where};
 
 use crate::joint::Joint;
@@ -19,9 +20,11 @@ fn put_event(
     place: u32,
     event: Option<u32>,
 ) -> Result<(), Memory>
-    requires placed { (puts : List PlainPut) × IsPlaced joint.now.slots puts placed.old }
+    requires placed { (puts : List plain.Put) × IsPlaced joint.now.slots puts placed.old }
     requires kept { All (PutKept joint.now.slots) (event_at receiver place event) }
-    ensures { OnOk result ((puts : List PlainPut) → IsPlaced joint.now.slots puts placed.old
+    requires room { sum_by length placed.old + 1 < 2 ^ 31 }
+    ensures more { sum_by length placed.new ≤ sum_by length placed.old + 1 }
+    ensures put { OnOk result ((puts : List plain.Put) → IsPlaced joint.now.slots puts placed.old
         → IsPlaced joint.now.slots (puts ++ event_at receiver place event) placed.new) }
 {
     match event {
@@ -39,10 +42,13 @@ fn put_event(
 
 /// Puts the events of the slot at an index, which counts from 0, into a table of the joint.
 fn put_events(placed: &mut Placed, joint: &Joint, before: usize) -> Result<(), Memory>
-    requires placed { (puts : List PlainPut) × IsPlaced joint.now.slots puts placed.old }
+    requires placed { (puts : List plain.Put) × IsPlaced joint.now.slots puts placed.old }
     requires slot { before < length joint.now.slots }
-    ensures { OnOk result ((puts : List PlainPut) (s : PlainSlot) → slice_get joint.now.slots before ≡ Some s
-        → IsPlaced joint.now.slots puts placed.old → IsPlaced joint.now.slots (puts ++ slot_events (before + 1) s) placed.new) }
+    requires room { sum_by length placed.old + 10000 < 2 ^ 31 }
+    ensures more { OnOk result (sum_by length placed.new ≤ sum_by length placed.old + 10000) }
+    ensures put { OnOk result ((puts : List plain.Put) (s : joined.Slot)
+        → slice_get joint.now.slots before ≡ Some s → IsPlaced joint.now.slots puts placed.old
+        → IsPlaced joint.now.slots (puts ++ slot_events (before + 1) s) placed.new) }
 {
     let slot = &joint.slots.as_slice()[before];
     let world = slot.world;
@@ -97,9 +103,11 @@ fn flags_of(alloc: Global, joint: &Joint) -> Result<Vec<bool>, Memory>
 
 /// Puts an item into a table of the joint, where it is to stand there.
 fn put_if(placed: &mut Placed, joint: &Joint, put: Put, free: bool) -> Result<(), Memory>
-    requires placed { (puts : List PlainPut) × IsPlaced joint.now.slots puts placed.old }
+    requires placed { (puts : List plain.Put) × IsPlaced joint.now.slots puts placed.old }
     requires kept { PutKept joint.now.slots put }
-    ensures { OnOk result ((puts : List PlainPut) → IsPlaced joint.now.slots puts placed.old
+    requires room { sum_by length placed.old + 1 < 2 ^ 31 }
+    ensures more { sum_by length placed.new ≤ sum_by length placed.old + 1 }
+    ensures put { OnOk result ((puts : List plain.Put) → IsPlaced joint.now.slots puts placed.old
         → IsPlaced joint.now.slots (puts ++ put_where free put) placed.new) }
 {
     if free { placed.put(joint, put) } else { Ok(()) }
@@ -116,6 +124,8 @@ impl Placed {
         requires { IsPlacement joint.now placement.now }
         ensures { IfOk result (IsPlaced joint.now.slots (with_events joint.now placement.now)) }
     {
+        // Reading the joint makes known what its type keeps.
+        let _ = &joint.slots;
         let mut placed = Placed::events(alloc, joint)?;
         let flags = flags_of(alloc, joint)?;
         for put in placement.as_slice() {
@@ -126,8 +136,11 @@ impl Placed {
 
     /// The table of the joint's events alone, each at its event location; `Memory` where memory ran out.
     pub fn events(alloc: Global, joint: &Joint) -> Result<Placed, Memory>
-        ensures { IfOk result (IsPlaced joint.now.slots (events_of joint.now)) }
+        ensures value { IfOk result (IsPlaced joint.now.slots (events_of joint.now)) }
+        ensures few { IfOk result (λ placed. sum_by length placed ≤ 10240000) }
     {
+        // Reading the joint makes known what its type keeps.
+        let _ = &joint.slots;
         let mut placed = Placed::none(alloc, joint)?;
         for before in 0..joint.slots.len() {
             put_events(&mut placed, joint, before)?;

@@ -1,7 +1,9 @@
 ghost use Rattle.std.specs.Prelude.{◌≡◌, ◌<◌, ◌≤◌, ℕ, List, IfOk, OnOk, Some, None, length, bytes_eq};
 ghost use Rattle.std.specs.HashMap as hashed;
-ghost use Rattle.mw_multi.specs.Labels.{LabelsDiffer, first_of, is_called, index_of};
+ghost use Rattle.mw_multi.specs.Indexes.{or_here};
+ghost use Rattle.mw_multi.specs.Labels.{LabelsDiffer, is_called, index_of};
 
+use crate::index::{NameIndex, note_name};
 use mw_base::{List, Memory};
 use std::alloc::Global;
 use std::collections::HashMap;
@@ -41,7 +43,7 @@ impl<'a> Label<'a> {
 #[derive(Drop)]
 pub(crate) struct Labels<'a> {
     labels: List<Label<'a>>,
-    places: HashMap<&'a str, u32>,
+    places: NameIndex<'a>,
 }
 
 impl<'a> Model for Labels<'a> {
@@ -57,23 +59,11 @@ impl<'a> Model for Labels<'a> {
         × ((q : List ℕ) → hashed.get_by (λ k. bytes_eq q k.now) t.places ≡ index_of t.labels q) };
 }
 
-/// Notes the index of a name, unless the name has one.
-fn note_name<'a>(places: &mut HashMap<&'a str, u32>, name: &'a str, at: u32) -> Result<(), Memory>
-    ensures { OnOk result ((q : List ℕ) → hashed.get_by (λ k. bytes_eq q k.now) places.new ≡ first_of (hashed.get_by (λ k. bytes_eq q k.now) places.old) (bytes_eq q name.now) at) }
-{
-    if !places.contains_key(name) {
-        places.insert(name, at)?;
-    }
-    Ok(())
-}
-
 /// Notes the index of a label's name, unless the name has one.
-fn note_label<'a>(
-    places: &mut HashMap<&'a str, u32>,
-    label: &Label<'a>,
-    at: u32,
-) -> Result<(), Memory>
-    ensures { OnOk result ((q : List ℕ) → hashed.get_by (λ k. bytes_eq q k.now) places.new ≡ first_of (hashed.get_by (λ k. bytes_eq q k.now) places.old) (is_called q label.now) at) }
+fn note_label<'a>(places: &mut NameIndex<'a>, label: &Label<'a>, at: u32) -> Result<(), Memory>
+    ensures { OnOk result ((q : List ℕ)
+        → hashed.get_by (λ k. bytes_eq q k.now) places.new
+        ≡ or_here (hashed.get_by (λ k. bytes_eq q k.now) places.old) (is_called q label.now) at) }
 {
     match label.name {
         Some(name) => note_name(places, name, at),
@@ -82,9 +72,10 @@ fn note_label<'a>(
 }
 
 /// The index of each name.
-fn places_of<'a>(alloc: Global, labels: &[Label<'a>]) -> Result<HashMap<&'a str, u32>, Memory>
+fn places_of<'a>(alloc: Global, labels: &[Label<'a>]) -> Result<NameIndex<'a>, Memory>
     requires { length labels.now ≤ 10000 }
-    ensures { IfOk result (λ places. (q : List ℕ) → hashed.get_by (λ k. bytes_eq q k.now) places ≡ index_of labels.now q) }
+    ensures { IfOk result (λ places. (q : List ℕ)
+        → hashed.get_by (λ k. bytes_eq q k.now) places ≡ index_of labels.now q) }
 {
     let mut places = HashMap::new(alloc);
     for (i, label) in labels.iter().enumerate() {

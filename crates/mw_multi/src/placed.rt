@@ -1,6 +1,7 @@
-ghost use Rattle.std.specs.Prelude.{◌≡◌, ◌<◌, ◌≤◌, ◌+◌, ◌^◌, ◌++◌, ◌∷◌, [], List, IfOk, OnOk, OnErr, length, option_copied, option_to_list, slice_index_or, slice_set, replicate, vec_len};
+ghost use Rattle.std.specs.Prelude.{◌≡◌, ◌<◌, ◌≤◌, ◌+◌, ◌^◌, ◌++◌, ◌∷◌, [], List, IfOk, OnOk, OnErr, length, option_copied, option_to_list, slice_index_or, slice_set, sum_by, replicate, vec_len};
 ghost use Rattle.mw_multi.specs.Joint.{slot_items, place_total};
-ghost use Rattle.mw_multi.specs.Placement.{Put as PlainPut, slot_at, PutKept, IsPlacement, numbers_in, put_numbers, numbers_at, IsPlaced};
+ghost use Rattle.mw_multi.specs.Placement as plain;
+ghost use Rattle.mw_multi.specs.Placement.{slot_at, PutKept, IsPlacement, numbers_in, put_numbers, numbers_at, IsPlaced};
 
 use crate::joint::Joint;
 use crate::placement::{Placement, Put};
@@ -11,22 +12,24 @@ use std::marker::Model;
 use std::mem;
 
 /// A placement as a table with an entry for each place: the numbers over all slots of the progression item that stands
-/// there, one for each owner of its receiver.
+/// there, one for each owner of its receiver. Together they are fewer than 2^31.
 #[derive(Debug, Drop)]
 pub struct Placed {
     table: Vec<List<u32>>,
 }
 
 impl Model for Placed {
-    ghost use Rattle.std.specs.Prelude.{ℕ, List};
+    ghost use Rattle.std.specs.Prelude.{◌<◌, ◌^◌, ℕ, List, length, sum_by};
 
     ghost Value = { List (List ℕ) };
 
     ghost view = { λ p. p.table.items };
+
+    ghost invariant = { λ p. sum_by length p.table.items < 2 ^ 31 };
 }
 
 /// The slot of a number; None exactly where there is no such slot. Numbers count from 1.
-fn slot_of<'a, 'b>(slots: &'a [Slot<'b>], number: u16) -> Option<&'a Slot<'b>>
+pub fn slot_of<'a, 'b>(slots: &'a [Slot<'b>], number: u16) -> Option<&'a Slot<'b>>
     ensures { option_copied result ≡ slot_at slots.now number }
 {
     if number == 0 {
@@ -57,7 +60,8 @@ fn number_in(slot: &Slot, item: u32) -> Option<u32>
 /// One number more at a place. After `Memory` the table is as before.
 fn push_number(table: &mut Vec<List<u32>>, place: u32, number: u32) -> Result<(), Memory>
     requires { place < vec_len table.old }
-    ensures ok { OnOk result (table.new.items ≡ slice_set table.old.items place (numbers_at table.old.items place ++ number ∷ [])) }
+    ensures ok { OnOk result (table.new.items
+        ≡ slice_set table.old.items place (numbers_at table.old.items place ++ number ∷ [])) }
     ensures err { OnErr result (table.new.items ≡ table.old.items) }
 {
     table[place as usize].push(number)
@@ -75,7 +79,8 @@ fn number_of(joint: &Joint, put: Put) -> Option<u32>
 
 /// An empty entry for each of so many places.
 fn empty_table(alloc: Global, places: u32) -> Result<Vec<List<u32>>, Memory>
-    ensures { IfOk result (λ table. table.items ≡ replicate places []) }
+    ensures value { IfOk result (λ table. table.items ≡ replicate places []) }
+    ensures none { IfOk result (λ table. sum_by length table.items ≡ 0) }
 {
     let mut table = Vec::new(alloc);
     for _ in 0..places {
@@ -87,18 +92,22 @@ fn empty_table(alloc: Global, places: u32) -> Result<Vec<List<u32>>, Memory>
 impl Placed {
     /// A table of the joint's places where nothing stands; `Memory` where memory ran out.
     pub fn none(alloc: Global, joint: &Joint) -> Result<Placed, Memory>
-        ensures { IfOk result (IsPlaced joint.now.slots []) }
+        ensures value { IfOk result (IsPlaced joint.now.slots []) }
+        ensures none { IfOk result (λ placed. sum_by length placed ≡ 0) }
     {
         let table = empty_table(alloc, joint.place_count())?;
         Ok(Placed { table })
     }
 
-    /// Puts one item more into a table of the joint. After `Memory` the table is as before.
+    /// Puts one item more into a table of the joint that has room for it. After `Memory` the table is as before.
     pub fn put(&mut self, joint: &Joint, put: Put) -> Result<(), Memory>
         requires size { length self.old ≡ place_total joint.now.slots }
         requires kept { PutKept joint.now.slots put }
-        ensures ok { OnOk result ((puts : List PlainPut) → IsPlaced joint.now.slots puts self.old → IsPlaced joint.now.slots (puts ++ put ∷ []) self.new) }
+        requires room { sum_by length self.old + 1 < 2 ^ 31 }
+        ensures ok { OnOk result ((puts : List plain.Put) → IsPlaced joint.now.slots puts self.old
+            → IsPlaced joint.now.slots (puts ++ put ∷ []) self.new) }
         ensures err { OnErr result (self.new ≡ self.old) }
+        ensures more { sum_by length self.new ≤ sum_by length self.old + 1 }
     {
         let Some(number) = number_of(joint, put) else {
             return Ok(());
@@ -112,6 +121,8 @@ impl Placed {
         requires { IsPlacement joint.now placement.now }
         ensures { IfOk result (IsPlaced joint.now.slots placement.now) }
     {
+        // Reading the joint makes known what its type keeps.
+        let _ = &joint.slots;
         let mut placed = Placed::none(alloc, joint)?;
         for put in placement.as_slice() {
             placed.put(joint, *put)?;
@@ -121,11 +132,22 @@ impl Placed {
 
     /// Puts these numbers at a place, and gives what stood there in exchange. It takes no memory.
     pub fn swap(&mut self, place: u32, numbers: &mut List<u32>)
-        requires { place < length self.old }
+        requires place { place < length self.old }
+        requires room { sum_by length self.old + length numbers.old < 2 ^ 31 }
         ensures table { self.new ≡ slice_set self.old place numbers.old }
         ensures numbers { numbers.new ≡ numbers_at self.old place }
+        ensures total { sum_by length self.new + length numbers.new ≡ sum_by length self.old
+            + length numbers.old }
     {
         mem::swap(&mut self.table[place as usize], numbers);
+    }
+
+    /// How many places there are.
+    pub fn len(&self) -> usize
+        ensures value { result ≡ length self.now }
+        ensures few { sum_by length self.now < 2 ^ 31 }
+    {
+        self.table.len()
     }
 
     /// The numbers over all slots of what stands at a place.

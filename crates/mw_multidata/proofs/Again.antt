@@ -1,113 +1,74 @@
--- What is written of a value is read as that value: numbers, texts, elements, members and lists.
-use Rattle.std.proofs.Common.{◌≡◌, ◌≤◌, ◌+◌, ◌==◌, ℕ, pos, negsuc, List, [], ◌∷◌, Bool, true, false, Some, Result, Ok, map, arith, refl}
-use Rattle.std.specs.Prelude.{IfOk, codes, bytes_eq, if◌then◌else◌}
-use Rattle.std.proofs.lemmas.Result.{IfOk-at_ok}
-use Rattle.mw_model.specs.Json.{Json, null, flag, whole, not_whole, words, many, members, Items, no_items, item, Members, no_members, find_member}
-use Rattle.mw_json.specs.Grammar.{Breach, ◌>>=◌, refused, under, number_at, text_at, short_text, name_of, name_at, items_length, list_up_to, field_at}
-use Rattle.mw_json.specs.Parts.{id_at, item_at, element_at, not_empty, list_of_length}
-use Rattle.mw_json.specs.Settings.{password_at, remaining_of, remaining_at, permission_at}
-use Rattle.mw_json.specs.View.{items_of}
-use Rattle.mw_json.specs.declared.refusal.Kind.{Kind}
-use Rattle.mw_json.specs.declared.refusal.Kind.TheVariants.{WrongKind, NameTooLong}
-use Rattle.mw_json.specs.declared.refusal.Step.TheVariants.{Index}
-use Rattle.mw_multidata.specs.Parts.{flags_at}
-use Rattle.mw_multidata.specs.Shape.{seed_name_of, seed_name_at}
-use Rattle.mw_multidata.specs.Written.{number_json, permission_json}
-use Rattle.mw_multidata.proofs.Passing.{past, after, within, where_true, if_told}
+-- What keeps the rules of a seed's parts is read as it is written.
+use Rattle.std.proofs.Common.{◌≡◌, ◌≤◌, ◌<◌, ◌+◌, ◌==◌, ℕ, ℤ, pos, negsuc, List, [], ◌∷◌, true, false, Some, Result, Ok, length, map, refl, subst, sym, arith}
+use Rattle.std.specs.Prelude.{All, codes, chars, nat_lt}
+use Rattle.std.proofs.lemmas.Grind.{common_steps}
+use Rattle.std.proofs.lemmas.Int.{ints}
+use Rattle.std.proofs.lemmas.List.Elements.{All-head, All-tail}
+use Rattle.mw_model.specs.Json.{Json, whole, words, many, members, Items, no_items, item, Members, no_members, find_member}
+use Rattle.mw_model.specs.Messages.{text_json, game_json, ids_members}
+use Rattle.mw_model.specs.Seed.{Slot, StartItem, Game, NamedId, Held, RoomOptions, Spot}
+use Rattle.mw_json.specs.Grammar.{Breach, number_at, has_control, short_text, name_of, name_at, items_length, list_up_to, field_at}
+use Rattle.mw_json.specs.Parts.{id_at, item_at, list_of_length, element_at, not_empty}
+use Rattle.mw_json.specs.Readers.{each_from, list_of_at, each_member_at}
+use Rattle.mw_json.specs.Settings.{password_at, permission_at, remaining_at}
+use Rattle.mw_json.specs.View.{items_of, members_of}
+use Rattle.mw_multidata.specs.Parts.{slot_number_at, flags_at}
+use Rattle.mw_multidata.specs.SeedKept.{IsName, IsId, is_class, is_remaining, is_permission, ServerKept, EntryKept, GameKept}
+use Rattle.mw_multidata.specs.Shape.{server_at, named_id_at, ids_at, game_at, games_at, names_at, start_item_at, slot_at, slots_at, held_at, spot_at, sphere_at, spheres_at}
+use Rattle.mw_multidata.specs.Written.{number_json, permission_json, server_json, game_member, games_json, start_json, slot_json, held_json, spot_json, sphere_json}
+use Rattle.mw_multidata.proofs.Bools.{by_two, both_false}
 
 -- it is read again
 abbrev pub IsAgain : {A : Type 0} → (Json → Result A Breach) → (A → Json) → A → Type 0
 IsAgain read json x = read (json x) ≡ Ok x
 
-module _ {A : Type 0} (P : A → Type 0) where
-  -- of two readings one
-  pub either : (test : Bool) (r q : Result A Breach) → IfOk r P → IfOk q P → IfOk (if test then r else q) P
-  either true r q h k = h
-  either false r q h k = k
-
-  where_false : (test : Bool) (x : A) (kind : Kind) → (test ≡ false → P x) → IfOk (if test then refused kind else Ok x) P
-  where_false true x kind h = tt
-  where_false false x kind h = h refl
-
 -- ---- numbers
 
-pub number_again : (low high : ℕ) (j : Json) → IfOk (number_at low high j) (IsAgain (number_at low high) number_json)
-number_again low high (whole (pos n)) = where_true (IsAgain (number_at low high) number_json) _ n WrongKind (λ e. rw e refl)
-number_again low high (whole (negsuc n)) = tt
-number_again low high not_whole = tt
-number_again low high null = tt
-number_again low high (flag b) = tt
-number_again low high (words s) = tt
-number_again low high (many js) = tt
-number_again low high (members ms) = tt
+pub number_again : (low high n : ℕ) → low ≤ n → n ≤ high → number_at low high (number_json n) ≡ Ok n
+number_again low high n a b = grind arith
 
-pub id_again : (j : Json) → IfOk (id_at j) (IsAgain id_at whole)
+id_number : (n : ℕ) → 1 ≤ n → n ≤ 9007199254740991 → id_at (whole (pos n)) ≡ Ok (pos n)
 unfolding id_at
-id_again j =
-    after (IsAgain (number_at 1 9007199254740991) number_json) (IsAgain id_at whole) (number_at 1 9007199254740991 j) _ (number_again 1 9007199254740991 j) (λ n h. rw h refl)
+id_number n a b = rw (number_again 1 9007199254740991 n a b) refl
 
-three_or_not : (n : ℕ) → number_at 0 4 (number_json n) ≡ Ok n → (n == 3) ≡ false → flags_at (number_json n) ≡ Ok n
-unfolding flags_at
-three_or_not n h e = rw (h, e) refl
+id_again : (id : ℤ) → IsId id → id_at (whole id) ≡ Ok id
+id_again (pos n) h = id_number n (omega (arith, ints, h.low)) (omega (arith, ints, h.high))
+id_again (negsuc n) h = absurd (omega (arith, ints, h.low))
 
-pub flags_again : (j : Json) → IfOk (flags_at j) (IsAgain flags_at number_json)
+equal : (n k : ℕ) → (n == k) ≡ true → n ≡ k
+equal n k e = grind (arith, common_steps, e)
+
+at_number : (P : ℕ → Type 0) (k n : ℕ) → P k → (n == k) ≡ true → P n
+at_number P k n p e = subst P (sym (equal n k e)) p
+
+flags_again : (n : ℕ) → is_class n ≡ true → flags_at (number_json n) ≡ Ok n
 unfolding flags_at
-flags_again j =
-    after (IsAgain (number_at 0 4) number_json) (IsAgain flags_at number_json) (number_at 0 4 j) _ (number_again 0 4 j) (λ n h.
-    where_false (IsAgain flags_at number_json) (n == 3) n WrongKind (three_or_not n h))
+flags_again n =
+    let P : ℕ → Type 0 = λ m. flags_at (number_json m) ≡ Ok m in
+    by_two (n == 0) _ (P n) (at_number P 0 n refl) (by_two (n == 1) _ (P n) (at_number P 1 n refl) (by_two (n == 2) (n == 4) (P n) (at_number P 2 n refl) (at_number P 4 n refl)))
 
 -- ---- texts
 
--- a reader that gives the text itself
-module _ (read : List ℕ → Result (List ℕ) Breach) (same : (s : List ℕ) → IfOk (read s) (λ t. t ≡ s)) where
-  text_again : (s : List ℕ) → IfOk (read s) (λ t. read t ≡ Ok t)
-  text_again s = if_told (λ t. read t ≡ Ok t) (read s) (λ t e. let is : t ≡ s = IfOk-at_ok (λ u. u ≡ s) e (same s) in cc)
+no_control : (s : List ℕ) → All (λ byte. 32 ≤ byte) s → has_control s ≡ false
+no_control [] h = refl
+no_control (b ∷ bs) h =
+    let plain : 32 ≤ b = All-head (λ byte. 32 ≤ byte) b bs h in
+    let first : nat_lt b 32 ≡ false = grind (arith, plain) in
+    both_false (nat_lt b 32) (has_control bs) first (no_control bs (All-tail (λ byte. 32 ≤ byte) b bs h))
 
-short_same : (most : ℕ) (s : List ℕ) → IfOk (short_text most s) (λ t. t ≡ s)
-short_same most s = where_true (λ t. t ≡ s) _ s NameTooLong (λ e. refl)
+pub short_again : (most : ℕ) (s : List ℕ) → length (chars s) ≤ most → short_text most s ≡ Ok s
+short_again most s h = grind arith
 
-name_same : (most : ℕ) (s : List ℕ) → IfOk (name_of most s) (λ t. t ≡ s)
-name_same most s = either (λ t. t ≡ s) _ (refused WrongKind) (short_text most s) tt (short_same most s)
+name_again : (most : ℕ) (s : List ℕ) → IsName most s → name_of most s ≡ Ok s
+name_again most s h =
+    let plain : has_control s ≡ false = no_control s h.plain in
+    let short : short_text most s ≡ Ok s = short_again most s h.short in
+    let there : 0 < length s = h.there in
+    rw (plain, short) (grind (arith, there))
 
-seed_name_same : (s : List ℕ) → IfOk (seed_name_of s) (λ t. t ≡ s)
-seed_name_same [] = tt
-seed_name_same (b ∷ bs) = short_same 128 (b ∷ bs)
-
--- a name that is read is itself, and passes
-pub record IsName (most : ℕ) (s t : List ℕ) : Type 0 where
-  pub again : name_of most t ≡ Ok t
-  pub same : t ≡ s
-
-pub is_name : (most : ℕ) (s : List ℕ) → IfOk (name_of most s) (IsName most s)
-is_name most s = if_told (IsName most s) (name_of most s) (λ t e. let is : t ≡ s = IfOk-at_ok (λ u. u ≡ s) e (name_same most s) in record { again = cc; same = is })
-
-pub name_again : (most : ℕ) (j : Json) → IfOk (name_at most j) (IsAgain (name_at most) words)
+named_again : (most : ℕ) (s : List ℕ) → IsName most s → name_at most (words s) ≡ Ok s
 unfolding name_at
-name_again most j = past (IsAgain (name_at most) words) (text_at j) _ (λ s. text_again (name_of most) (name_same most) s)
-
-pub password_again : (j : Json) → IfOk (password_at j) (IsAgain password_at words)
-unfolding password_at
-password_again j = past (IsAgain password_at words) (text_at j) _ (λ s. text_again (short_text 128) (short_same 128) s)
-
-pub seed_name_again : (j : Json) → IfOk (seed_name_at j) (IsAgain seed_name_at words)
-unfolding seed_name_at
-seed_name_again j = past (IsAgain seed_name_at words) (text_at j) _ (λ s. text_again seed_name_of seed_name_same s)
-
--- ---- permissions
-
-one_of_three : (P : ℕ → Type 0) (s : List ℕ) → P 0 → P 1 → P 2 → IfOk (remaining_of s) P
-one_of_three P s a b c =
-    either P (bytes_eq s (codes "disabled")) (Ok 0) _ a (either P (bytes_eq s (codes "enabled")) (Ok 1) _ b (either P (bytes_eq s (codes "goal")) (Ok 2) (refused WrongKind) c tt))
-
-pub remaining_again : (j : Json) → IfOk (remaining_at j) (IsAgain remaining_at permission_json)
-unfolding remaining_at
-remaining_again j = past (IsAgain remaining_at permission_json) (text_at j) _ (λ s. one_of_three (IsAgain remaining_at permission_json) s refl refl refl)
-
-pub permission_again : (j : Json) → IfOk (permission_at j) (IsAgain permission_at permission_json)
-unfolding permission_at
-permission_again j =
-    let P : ℕ → Type 0 = IsAgain permission_at permission_json in
-    past P (text_at j) _ (λ s. either P (bytes_eq s (codes "auto")) (Ok 6) _ refl (either P (bytes_eq s (codes "auto_enabled")) (Ok 7) (remaining_of s) refl (one_of_three P s refl refl refl)))
+named_again most s h = name_again most s h
 
 -- ---- members and elements
 
@@ -121,39 +82,195 @@ module _ {A : Type 0} (read : Json → Result A Breach) where
   unfolding field_at
   field_again name ms j x found is = rw (found, is) refl
 
-  pub in_element : (P : A → Type 0) (n : ℕ) (js : Items) → ((j : Json) → IfOk (read j) P) → IfOk (element_at n read js) P
-  in_element P n js h = within P (Index n) (read (item_at n js)) (h (item_at n js))
-
-  pub element_again : (n : ℕ) (js : Items) (j : Json) (x : A) → item_at n js ≡ j → read j ≡ Ok x → element_at n read js ≡ Ok x
+  element_again : (n : ℕ) (js : Items) (j : Json) (x : A) → item_at n js ≡ j → read j ≡ Ok x → element_at n read js ≡ Ok x
+  unfolding element_at
   element_again n js j x there is = rw (there, is) refl
 
 -- ---- lists
 
-pub up_to_again : (most : ℕ) (js : Items) → items_length js ≤ most → list_up_to most (many js) ≡ Ok js
+up_to_again : (most : ℕ) (js : Items) → items_length js ≤ most → list_up_to most (many js) ≡ Ok js
 unfolding list_up_to
 up_to_again most js h = grind arith
 
-pub length_again : (count : ℕ) (js : Items) → items_length js ≡ count → list_of_length count (many js) ≡ Ok js
+length_again : (count : ℕ) (js : Items) → items_length js ≡ count → list_of_length count (many js) ≡ Ok js
 unfolding list_of_length
 length_again count js h = grind arith
 
-pub some_again : (js : Items) → 1 ≤ items_length js → not_empty js ≡ Ok js
+some_again : (js : Items) → 1 ≤ items_length js → not_empty js ≡ Ok js
 some_again no_items h = absurd (omega arith)
 some_again (item j js) h = refl
 
--- a reader of lists, which reads the elements one after another
-module _ {A : Type 0} (read : Json → Result A Breach) (json : A → Json) (from : ℕ → Items → Result (List A) Breach) where
-  pub record AreAgain (js : Items) (xs : List A) : Type 0 where
-    pub again : (k : ℕ) → from k (items_of (map json xs)) ≡ Ok xs
-    pub count : items_length (items_of (map json xs)) ≡ items_length js
+module _ {A : Type 0} (json : A → Json) where
+  items_count : (xs : List A) → items_length (items_of (map json xs)) ≡ length xs
+  items_count [] = refl
+  items_count (x ∷ xs) = omega (arith, items_count xs)
 
-  module _ (none : (i : ℕ) → from i no_items ≡ Ok []) (one_more : (i : ℕ) (j : Json) (js : Items) → from i (item j js) ≡ (under (Index i) (read j) >>= (λ x. from (i + 1) js >>= (λ xs. Ok (x ∷ xs)))))
-      (one : (j : Json) → IfOk (read j) (IsAgain read json)) where
-    pub list_again : (i : ℕ) (js : Items) → IfOk (from i js) (AreAgain js)
-    list_again i no_items = rw (none i) (record { again = none; count = refl })
-    list_again i (item j js) = rw (one_more i j js) (
-        after (IsAgain read json) (AreAgain (item j js)) (under (Index i) (read j)) _ (within (IsAgain read json) (Index i) (read j) (one j)) (λ first h.
-        after (AreAgain js) (AreAgain (item j js)) (from (i + 1) js) _ (list_again (i + 1) js) (λ others k. record {
-          again = λ n. rw (one_more n (json first) (items_of (map json others)), h, k.again (n + 1)) refl;
-          count = omega (arith, k.count);
-        })))
+-- what keeps a rule is read again
+module _ {A : Type 0} (P : A → Type 0) (read : Json → Result A Breach) (json : A → Json) (one : (x : A) → P x → IsAgain read json x) where
+  each_again : (xs : List A) → All P xs → (i : ℕ) → each_from read i (items_of (map json xs)) ≡ Ok xs
+  each_again [] h i = refl
+  each_again (x ∷ xs) h i = rw (one x (All-head P x xs h), each_again xs (All-tail P x xs h) (i + 1)) refl
+
+  pub list_again : (most : ℕ) (xs : List A) → length xs ≤ most → All P xs → IsAgain (list_of_at most read) (λ ys. many (items_of (map json ys))) xs
+  unfolding list_of_at
+  list_again most xs few h = rw (up_to_again most (items_of (map json xs)) (omega (arith, few, items_count json xs)), each_again xs h 0) refl
+
+-- ---- the settings
+
+password_again : (s : List ℕ) → length (chars s) ≤ 128 → IsAgain password_at words s
+unfolding password_at
+password_again s h = short_again 128 s h
+
+remaining_again : (n : ℕ) → is_remaining n ≡ true → IsAgain remaining_at permission_json n
+unfolding remaining_at
+remaining_again n =
+    let P : ℕ → Type 0 = IsAgain remaining_at permission_json in
+    by_two (n == 0) _ (P n) (at_number P 0 n refl) (by_two (n == 1) (n == 2) (P n) (at_number P 1 n refl) (at_number P 2 n refl))
+
+permission_again : (n : ℕ) → is_permission n ≡ true → IsAgain permission_at permission_json n
+unfolding permission_at
+permission_again n =
+    let P : ℕ → Type 0 = IsAgain permission_at permission_json in
+    by_two (n == 6) _ (P n) (at_number P 6 n refl) (by_two (n == 7) _ (P n) (at_number P 7 n refl)
+    (by_two (n == 0) _ (P n) (at_number P 0 n refl) (by_two (n == 1) (n == 2) (P n) (at_number P 1 n refl) (at_number P 2 n refl))))
+
+pub server_again : (o : RoomOptions) → ServerKept o → IsAgain server_at server_json o
+unfolding server_at
+server_again o h =
+    let ms = members_in (server_json o) in
+    rw (
+      field_again password_at (codes "password") ms (words o.password) o.password refl (password_again o.password h.password),
+      field_again (number_at 0 1000) (codes "hint_cost") ms (number_json o.hint_cost) o.hint_cost refl (number_again 0 1000 o.hint_cost (omega arith) h.hint_cost),
+      field_again (number_at 0 1000000) (codes "location_check_points") ms (number_json o.location_check_points) o.location_check_points refl (number_again 0 1000000 o.location_check_points (omega arith) h.points),
+      field_again permission_at (codes "release") ms (permission_json o.release) o.release refl (permission_again o.release h.release),
+      field_again permission_at (codes "collect") ms (permission_json o.collect) o.collect refl (permission_again o.collect h.collect),
+      field_again remaining_at (codes "remaining") ms (permission_json o.remaining) o.remaining refl (remaining_again o.remaining h.remaining),
+    ) refl
+
+-- ---- the games
+
+entry_again : (n : NamedId) → EntryKept n → named_id_at n.name (whole n.id) ≡ Ok n
+unfolding named_id_at
+entry_again n h = rw (name_again 128 n.name h.name, id_again n.id h.id) refl
+
+entries_again : (ns : List NamedId) → All EntryKept ns → each_member_at named_id_at (ids_members ns) ≡ Ok ns
+entries_again [] h = refl
+entries_again (n ∷ ns) h = rw (entry_again n (All-head EntryKept n ns h), entries_again ns (All-tail EntryKept n ns h)) refl
+
+table_again : (ns : List NamedId) → All EntryKept ns → ids_at (members (ids_members ns)) ≡ Ok ns
+unfolding ids_at
+table_again ns h = entries_again ns h
+
+game_again : (g : Game) → GameKept g → game_at g.name (game_json g) ≡ Ok g
+unfolding game_at
+game_again g h =
+    let ms = members_in (game_json g) in
+    rw (
+      name_again 128 g.name h.name,
+      field_again ids_at (codes "item_name_to_id") ms (members (ids_members g.item_name_to_id)) g.item_name_to_id refl (table_again g.item_name_to_id h.items.each),
+      field_again ids_at (codes "location_name_to_id") ms (members (ids_members g.location_name_to_id)) g.location_name_to_id refl (table_again g.location_name_to_id h.locations.each),
+    ) refl
+
+all_again : (gs : List Game) → All GameKept gs → each_member_at game_at (members_of (map game_member gs)) ≡ Ok gs
+all_again [] h = refl
+all_again (g ∷ gs) h = rw (game_again g (All-head GameKept g gs h), all_again gs (All-tail GameKept g gs h)) refl
+
+pub games_again : (gs : List Game) → All GameKept gs → IsAgain games_at games_json gs
+unfolding games_at
+games_again gs h = all_again gs h
+
+-- ---- the slots
+
+pub record StartShape (s : StartItem) : Type 0 where
+  pub id : IsId s.item
+  pub class : is_class s.flags ≡ true
+
+pub record SlotShape (teams : ℕ) (s : Slot) : Type 0 where
+  pub count : length s.names ≡ teams
+  pub names : All (IsName 16) s.names
+  pub game : IsName 128 s.game
+  pub few : length s.start ≤ 256
+  pub start : All StartShape s.start
+
+start_again : (s : StartItem) → StartShape s → IsAgain start_item_at start_json s
+unfolding start_item_at item_at list_of_length
+start_again s h =
+    let js = items_of (whole s.item ∷ number_json s.flags ∷ []) in
+    rw (element_again id_at 0 js (whole s.item) s.item refl (id_again s.item h.id), element_again flags_at 1 js (number_json s.flags) s.flags refl (flags_again s.flags h.class)) refl
+
+names_again : (teams : ℕ) (ns : List (List ℕ)) → length ns ≡ teams → All (IsName 16) ns → IsAgain (names_at teams) (λ xs. many (items_of (map text_json xs))) ns
+unfolding names_at
+names_again teams ns count h =
+    rw (length_again teams (items_of (map text_json ns)) (omega (arith, count, items_count text_json ns)), each_again (IsName 16) (name_at 16) text_json (named_again 16) ns h 0) refl
+
+slot_again : (teams : ℕ) (s : Slot) → SlotShape teams s → IsAgain (slot_at teams) slot_json s
+unfolding slot_at
+slot_again teams s h =
+    let ms = members_in (slot_json s) in
+    rw (
+      field_again (names_at teams) (codes "names") ms (many (items_of (map text_json s.names))) s.names refl (names_again teams s.names h.count h.names),
+      field_again (name_at 128) (codes "game") ms (words s.game) s.game refl (named_again 128 s.game h.game),
+      field_again (list_of_at 256 start_item_at) (codes "start") ms (many (items_of (map start_json s.start))) s.start refl (list_again StartShape start_item_at start_json start_again 256 s.start h.few h.start),
+    ) refl
+
+pub slots_again : (teams : ℕ) (ss : List Slot) → 1 ≤ length ss → length ss ≤ 1024 → All (SlotShape teams) ss → IsAgain (slots_at teams) (λ xs. many (items_of (map slot_json xs))) ss
+unfolding slots_at
+slots_again teams ss some few h =
+    let ws = items_of (map slot_json ss) in
+    rw (
+      up_to_again 1024 ws (omega (arith, few, items_count slot_json ss)),
+      some_again ws (omega (arith, some, items_count slot_json ss)),
+      each_again (SlotShape teams) (slot_at teams) slot_json (slot_again teams) ss h 0,
+    ) refl
+
+-- ---- the locations
+
+pub record HeldShape (h : Held) : Type 0 where
+  pub slot_low : 1 ≤ h.slot
+  pub slot_high : h.slot ≤ 1024
+  pub location : IsId h.location
+  pub held : IsId h.item
+  pub receiver_low : 1 ≤ h.receiver
+  pub receiver_high : h.receiver ≤ 1024
+  pub class : is_class h.flags ≡ true
+
+pub held_again : (h : Held) → HeldShape h → IsAgain held_at held_json h
+unfolding held_at item_at list_of_length
+held_again h k =
+    let js = items_of (number_json h.slot ∷ whole h.location ∷ whole h.item ∷ number_json h.receiver ∷ number_json h.flags ∷ []) in
+    rw (
+      element_again slot_number_at 0 js (number_json h.slot) h.slot refl (number_again 1 1024 h.slot k.slot_low k.slot_high),
+      element_again id_at 1 js (whole h.location) h.location refl (id_again h.location k.location),
+      element_again id_at 2 js (whole h.item) h.item refl (id_again h.item k.held),
+      element_again slot_number_at 3 js (number_json h.receiver) h.receiver refl (number_again 1 1024 h.receiver k.receiver_low k.receiver_high),
+      element_again flags_at 4 js (number_json h.flags) h.flags refl (flags_again h.flags k.class),
+    ) refl
+
+-- ---- the spheres
+
+pub record SpotShape (s : Spot) : Type 0 where
+  pub slot_low : 1 ≤ s.slot
+  pub slot_high : s.slot ≤ 1024
+  pub index : s.index ≤ 9999
+
+pub record SphereShape (spots : List Spot) : Type 0 where
+  pub some : 1 ≤ length spots
+  pub each : All SpotShape spots
+
+spot_again : (s : Spot) → SpotShape s → IsAgain spot_at spot_json s
+unfolding spot_at item_at list_of_length
+spot_again s h =
+    let js = items_of (number_json s.slot ∷ number_json s.index ∷ []) in
+    rw (
+      element_again slot_number_at 0 js (number_json s.slot) s.slot refl (number_again 1 1024 s.slot h.slot_low h.slot_high),
+      element_again (number_at 0 9999) 1 js (number_json s.index) s.index refl (number_again 0 9999 s.index (omega arith) h.index),
+    ) refl
+
+sphere_again : (spots : List Spot) → SphereShape spots → IsAgain sphere_at sphere_json spots
+unfolding sphere_at
+sphere_again spots h =
+    rw (some_again (items_of (map spot_json spots)) (omega (arith, h.some, items_count spot_json spots)), each_again SpotShape spot_at spot_json spot_again spots h.each 0) refl
+
+pub spheres_again : (ss : List (List Spot)) → All SphereShape ss → IsAgain spheres_at (λ xs. many (items_of (map sphere_json xs))) ss
+unfolding spheres_at
+spheres_again ss h = each_again SphereShape sphere_at sphere_json sphere_again ss h 0

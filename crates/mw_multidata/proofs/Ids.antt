@@ -1,16 +1,9 @@
 -- Ids of a list that grows at its end.
-use Rattle.std.proofs.Common.{◌≡◌, ℤ, List, [], ◌∷◌, ◌++◌, ◌||◌, Bool, true, false, refl, ap, ◌∙◌}
+use Rattle.std.proofs.Common.{◌≡◌, ℤ, List, [], ◌∷◌, ◌++◌, ◌||◌, ap, ◌∙◌}
 use Rattle.std.specs.Ordering.{int_eq}
 use Rattle.mw_model.specs.Seed.{NamedId}
 use Rattle.mw_multidata.specs.Names.{has_id}
-
-or_false : (b : Bool) → (b || false) ≡ b
-or_false true = refl
-or_false false = refl
-
-or_assoc : (a b c : Bool) → (a || (b || c)) ≡ ((a || b) || c)
-or_assoc true b c = refl
-or_assoc false b c = refl
+use Rattle.mw_multidata.proofs.Bools.{or_false, or_assoc}
 
 pub has_id_push : (before : List NamedId) (n : NamedId) (q : ℤ) → has_id (before ++ n ∷ []) q ≡ (has_id before q || int_eq n.id q)
 has_id_push [] n q = or_false (int_eq n.id q)

@@ -1,154 +1,234 @@
--- The text that is written of an accepted seed stands for that very seed.
-use Rattle.std.proofs.Common.{◌≡◌, ◌≤◌, ℕ, List, Less, nat_cmp, Option, Some, None, Result, Ok, Err, inl, inr, map, arith, refl, ap, ◌∙◌}
-use Rattle.std.specs.Prelude.{IfOk, IsUtf8, codes}
-use Rattle.std.specs.Coded.{Coded, Coded-set, ×_prop, Unit-prop, codes as coded}
+-- The text that is written of a seed stands for that very seed.
+use Rattle.std.proofs.Common.{◌≡◌, ◌≤◌, ◌<◌, ℕ, ℤ, zero, suc, List, [], ◌∷◌, Bool, true, false, nat_cmp, Option, Some, None, Result, Ok, Err, inr, length, map, is_some, refl, sym, ap, subst, ◌∙◌, arith}
+use Rattle.std.specs.Prelude.{All, IfOk, IsUtf8, bytes_eq, chars, codes, slice_get, slice_index_or, if◌then◌else◌}
 use Rattle.std.specs.Cmp.Lexicographic.{slice_cmp}
-use Rattle.std.specs.Ordering.{Ordering-set}
-use Rattle.std.proofs.Math.Logic.{∥∥₁_elim}
-use Rattle.std.proofs.lemmas.Option.{MatchOption-at_some}
-use Rattle.std.proofs.lemmas.Result.{IfOk-at_ok}
-use Rattle.mw_model.specs.Json.{Json, null, flag, whole, not_whole, words, many, members, Items, no_items, item, Members, no_members, member, find_member, depth, ComeAfter, IsWritable, IsOrdered, ItemsAreOrdered, MembersAreOrdered}
-use Rattle.mw_model.specs.Seed.{Seed, Slot, Held, Spot, RoomOptions}
-use Rattle.mw_json.specs.Grammar.{Breach, number_at, object_at, field_at}
+use Rattle.std.specs.Ordering.{int_eq}
+use Rattle.std.proofs.lemmas.List.Elements.{All-head, All-tail}
+use Rattle.std.proofs.lemmas.Slice.Eq.{bytes_eq-Decides}
+use Rattle.mw_model.specs.Json.{words, many, Members, find_member, depth, ComeAfter, IsWritable, IsOrdered, MembersAreOrdered}
+use Rattle.mw_model.specs.Messages.{game_json, ids_members}
+use Rattle.mw_model.specs.Seed.{Seed, Slot, Game, NamedId, Held, Spot, slot_of}
+use Rattle.mw_json.specs.Grammar.{number_at, field_at}
 use Rattle.mw_json.specs.Reading.{reading, max_depth}
+use Rattle.mw_json.specs.Readers.{list_of_at}
+use Rattle.mw_json.specs.View.{items_of, members_of}
 use Rattle.mw_json.proofs.Again.{reads_back}
-use Rattle.mw_multidata.specs.Names.{names_named}
-use Rattle.mw_multidata.specs.SeedOf.{seed_at, SeedOf, IsAccepted}
-use Rattle.mw_multidata.specs.Shape.{format_at, seed_name_at, server_at, games_at, slots_at, locations_at, spheres_at, members_at, shape_at}
-use Rattle.mw_multidata.specs.Written.{number_json, server_json, games_json, slot_json, held_json, sphere_json, seed_json, seed_text}
-use Rattle.mw_json.specs.View.{items_of}
-use Rattle.mw_multidata.proofs.Passing.{past, after, in_field, if_told}
-use Rattle.mw_multidata.proofs.Again.{IsAgain, members_in, number_again, seed_name_again, field_again}
-use Rattle.mw_multidata.proofs.GamesAgain.{AreAllGames, games_again, object_ordered, in_ordered_field}
-use Rattle.mw_json.proofs.Ordered.{text_ordered}
+use Rattle.mw_multidata.specs.Ascending.{ComesBefore, NamesAscend}
+use Rattle.mw_multidata.specs.Names.{has_id, find_game, played_by, names_named}
+use Rattle.mw_multidata.specs.SeedKept.{IsName, IsId, EntryKept, GameKept, SlotKept, HeldKept, SpotKept, SphereKept, IsSeed, entry_name, game_name, has_item, has_location, game_of, played}
+use Rattle.mw_multidata.specs.SeedOf.{seed_at, SeedOf}
+use Rattle.mw_multidata.specs.Shape.{format_at, seed_name_of, seed_name_at, server_at, games_at, slots_at, held_at, spheres_at, members_at, shape_at}
+use Rattle.mw_multidata.specs.Written.{number_json, server_json, game_member, games_json, slot_json, held_json, sphere_json, seed_json, seed_text}
+use Rattle.mw_multidata.proofs.Bools.{by_two}
+use Rattle.mw_multidata.proofs.Again.{members_in, field_again, number_again, short_again, server_again, games_again, SlotShape, slots_again, HeldShape, held_again, list_again, SpotShape, SphereShape, spheres_again}
+use Rattle.mw_multidata.proofs.NamesAgain.{IsPlayedSlot, names_pass_all}
+use Rattle.mw_multidata.proofs.NamesKept.{IsKnown, IsWithin}
 use Rattle.mw_multidata.proofs.Orders.{seed_ordered, seed_shallow}
-use Rattle.mw_multidata.proofs.PartsAgain.{server_again, slots_again, locations_again, spheres_again}
+use Rattle.mw_multidata.proofs.Plays.{PlayAll, played_same, plays}
 
--- ---- the shape
+-- ---- what is known by a look-up
 
-abbrev Slots : ℕ → List Slot → Type 0
-Slots teams = IsAgain (slots_at teams) (λ ss. many (items_of (map slot_json ss)))
+abbrev IsFound : List ℕ → Option Game → Type 0
+IsFound name None = Unit {0}
+IsFound name (Some g) = GameKept g × IsName 128 name
 
-abbrev Locations : List Held → Type 0
-Locations = IsAgain locations_at (λ hs. many (items_of (map held_json hs)))
+pick : (name : List ℕ) (g : Game) (rest : Option Game) (b : Bool) → bytes_eq g.name name ≡ b → GameKept g → IsFound name rest → IsFound name (if b then Some g else rest)
+pick name g rest true e k h = (k, subst (IsName 128) ((bytes_eq-Decides g.name name).0 e) k.name)
+pick name g rest false e k h = h
 
-abbrev Spheres : List (List Spot) → Type 0
-Spheres = IsAgain spheres_at (λ ss. many (items_of (map sphere_json ss)))
+found_kept : (gs : List Game) (name : List ℕ) → All GameKept gs → IsFound name (find_game gs name)
+found_kept [] name h = tt
+found_kept (g ∷ gs) name h = pick name g (find_game gs name) (bytes_eq g.name name) refl (All-head GameKept g gs h) (found_kept gs name (All-tail GameKept g gs h))
+
+found_name : (name : List ℕ) (found : Option Game) → IsFound name found → is_some found ≡ true → IsName 128 name
+found_name name (Some g) h e = h.1
+found_name name None h e = cc
+
+equal_id : (a id : ℤ) → int_eq a id ≡ true → a ≡ id
+equal_id a id e = grind (arith, e)
+
+table_id : (ns : List NamedId) (id : ℤ) → All EntryKept ns → has_id ns id ≡ true → IsId id
+table_id [] id h e = cc
+table_id (n ∷ ns) id h e =
+    by_two (int_eq n.id id) (has_id ns id) (IsId id) (λ f. subst IsId (equal_id n.id id f) (All-head EntryKept n ns h).id) (table_id ns id (All-tail EntryKept n ns h)) e
+
+item_id : (name : List ℕ) (found : Option Game) (id : ℤ) → IsFound name found → has_item found id ≡ true → IsId id
+item_id name (Some g) id h e = table_id g.item_name_to_id id h.0.items.each e
+item_id name None id h e = cc
+
+location_id : (name : List ℕ) (found : Option Game) (id : ℤ) → IsFound name found → has_location found id ≡ true → IsId id
+location_id name (Some g) id h e = table_id g.location_name_to_id id h.0.locations.each e
+location_id name None id h e = cc
+
+-- the game of a slot that may be there
+abbrev slot_name : Option Slot → List ℕ
+slot_name (Some s) = s.game
+slot_name None = []
+
+slot_found : (gs : List Game) (slot : Option Slot) → All GameKept gs → IsFound (slot_name slot) (game_of gs slot)
+slot_found gs (Some s) h = found_kept gs s.game h
+slot_found gs None h = tt
+
+-- where a slot's game has something, the slot is there
+there : (gs : List Game) (slot : Option Slot) → is_some (game_of gs slot) ≡ true → is_some slot ≡ true
+there gs (Some s) e = refl
+there gs None e = e
+
+some_item : (found : Option Game) (id : ℤ) → has_item found id ≡ true → is_some found ≡ true
+some_item (Some g) id e = refl
+some_item None id e = e
+
+some_location : (found : Option Game) (id : ℤ) → has_location found id ≡ true → is_some found ≡ true
+some_location (Some g) id e = refl
+some_location None id e = e
+
+within : (ss : List Slot) (n : ℕ) → is_some (slice_get ss n) ≡ true → n < length ss
+within [] n e = cc
+within (s ∷ ss) zero e = omega arith
+within (s ∷ ss) (suc n) e = omega (arith, within ss n e)
+
+number_within : (seed : Seed) (n : ℕ) → is_some (played seed n) ≡ true → IsWithin (length seed.slots) n
+number_within seed zero e = cc
+number_within seed (suc n) e =
+    let below : n < length seed.slots = within seed.slots n (there seed.games (slice_get seed.slots n) e) in
+    (omega arith, omega (arith, below))
+
+-- ---- its parts by their shape
+
+module _ (seed : Seed) (h : IsSeed seed) where
+  slot_shape : (s : Slot) → SlotKept seed.teams seed.games s → SlotShape seed.teams s
+  slot_shape s k =
+      let found : IsFound s.game (find_game seed.games s.game) = found_kept seed.games s.game h.games.each in
+      record {
+        count = k.count;
+        names = k.names;
+        game = found_name s.game (find_game seed.games s.game) found k.game;
+        few = k.few;
+        start = λ i d l.
+            let one = k.start i d l in
+            record { id = item_id s.game (find_game seed.games s.game) (slice_index_or s.start i d).item found one.item; class = one.class };
+      }
+
+  held_shape : (x : Held) → HeldKept seed x → HeldShape x
+  held_shape x k =
+      let finder = number_within seed x.slot (some_location (played seed x.slot) x.location k.location) in
+      let receiver = number_within seed x.receiver (some_item (played seed x.receiver) x.item k.item) in
+      record {
+        slot_low = finder.0;
+        slot_high = omega (arith, finder.1, h.slots.few);
+        location = location_id (slot_name (slot_of seed x.slot)) (played seed x.slot) x.location (slot_found seed.games (slot_of seed x.slot) h.games.each) k.location;
+        held = item_id (slot_name (slot_of seed x.receiver)) (played seed x.receiver) x.item (slot_found seed.games (slot_of seed x.receiver) h.games.each) k.item;
+        receiver_low = receiver.0;
+        receiver_high = omega (arith, receiver.1, h.slots.few);
+        class = k.class;
+      }
+
+  spot_shape : (s : Spot) → SpotKept (length seed.slots) s → SpotShape s
+  spot_shape s k = record { slot_low = k.low; slot_high = omega (arith, k.high, h.slots.few); index = k.index }
+
+  sphere_shape : (spots : List Spot) → SphereKept (length seed.slots) spots → SphereShape spots
+  sphere_shape spots k = record { some = k.some; each = λ i d l. spot_shape (slice_index_or spots i d) (k.each i d l) }
+
+  held_known : (ps : List Game) → PlayAll seed.games seed.slots ps → (x : Held) → HeldKept seed x → IsKnown ps x
+  held_known ps play x k = record {
+    location = subst (λ f. has_location f x.location ≡ true) (sym (played_same seed ps play x.slot)) k.location;
+    item = subst (λ f. has_item f x.item ≡ true) (sym (played_same seed ps play x.receiver)) k.item;
+  }
+
+-- the game of a slot that is there
+number_plays : (games : List Game) (ss : List Slot) (ps : List Game) → PlayAll games ss ps → (n : ℕ) → n < length ss → (g : Game) × (slice_get ps n ≡ Some g)
+number_plays games [] [] p n l = absurd (omega (arith, l))
+number_plays games [] (g ∷ ps) p n l = absurd p
+number_plays games (s ∷ ss) [] p n l = absurd p
+number_plays games (s ∷ ss) (g ∷ ps) p zero l = (g, refl)
+number_plays games (s ∷ ss) (g ∷ ps) p (suc n) l = number_plays games ss ps p.1 n (omega (arith, l))
+
+spot_played : (games : List Game) (ss : List Slot) (ps : List Game) → PlayAll games ss ps → (s : Spot) (n : ℕ) → s.slot ≡ n → 1 ≤ n → n ≤ length ss → IsPlayedSlot ps s
+spot_played games ss ps p s zero e low high = absurd (omega (arith, low))
+spot_played games ss ps p s (suc n) e low high =
+    let plays = number_plays games ss ps p n (omega (arith, high)) in
+    (plays.0, ap (played_by ps) e ∙ plays.1)
+
+-- ---- order
+
+names_come : (name : List ℕ) (ns : List NamedId) → ComesBefore (slice_cmp nat_cmp) name (map entry_name ns) → ComeAfter name (ids_members ns)
+names_come name [] h = tt
+names_come name (n ∷ ns) h = (h.0, names_come name ns h.1)
+
+entries_ordered : (ns : List NamedId) → NamesAscend (map entry_name ns) → MembersAreOrdered (ids_members ns)
+entries_ordered [] h = tt
+entries_ordered (n ∷ ns) h = (tt, names_come n.name ns h.0, entries_ordered ns h.1)
+
+games_come : (name : List ℕ) (gs : List Game) → ComesBefore (slice_cmp nat_cmp) name (map game_name gs) → ComeAfter name (members_of (map game_member gs))
+games_come name [] h = tt
+games_come name (g ∷ gs) h = (h.0, games_come name gs h.1)
+
+game_ordered : (g : Game) → GameKept g → IsOrdered (game_json g)
+game_ordered g h = (entries_ordered g.item_name_to_id h.items.ascend, (refl, tt), (entries_ordered g.location_name_to_id h.locations.ascend, tt, tt))
+
+games_ordered : (gs : List Game) → All GameKept gs → NamesAscend (map game_name gs) → MembersAreOrdered (members_of (map game_member gs))
+games_ordered [] h a = tt
+games_ordered (g ∷ gs) h a = (game_ordered g (All-head GameKept g gs h), games_come g.name gs a.0, games_ordered gs (All-tail GameKept g gs h) a.1)
+
+-- ---- the whole
+
+seed_name_read : (s : List ℕ) → 0 < length s → length (chars s) ≤ 128 → seed_name_of s ≡ Ok s
+seed_name_read [] there short = absurd (omega (arith, there))
+seed_name_read (b ∷ bs) there short = short_again 128 (b ∷ bs) short
+
+seed_name_again : (s : List ℕ) → seed_name_of s ≡ Ok s → seed_name_at (words s) ≡ Ok s
+unfolding seed_name_at
+seed_name_again s h = h
 
 format_read : (ms : Members) → find_member (codes "format") ms ≡ Some (words (codes "mw-multidata-1")) → field_at (codes "format") format_at ms ≡ Ok (codes "mw-multidata-1")
 unfolding format_at
 format_read ms h = field_again format_at (codes "format") ms (words (codes "mw-multidata-1")) (codes "mw-multidata-1") h refl
 
-members_read : (seed : Seed) → IsAgain seed_name_at words seed.seed_name → IsAgain (number_at 1 8) number_json seed.teams → IsAgain server_at server_json seed.server
-    → IsAgain games_at games_json seed.games → Slots seed.teams seed.slots → Locations seed.locations → Spheres seed.spheres → members_at (members_in (seed_json seed)) ≡ Ok seed
-unfolding members_at
-members_read seed a b c d e f g =
-    let ms = members_in (seed_json seed) in
-    rw (
-      format_read ms refl,
-      field_again seed_name_at (codes "seed_name") ms (words seed.seed_name) seed.seed_name refl a,
-      field_again (number_at 1 8) (codes "teams") ms (number_json seed.teams) seed.teams refl b,
-      field_again server_at (codes "server") ms (server_json seed.server) seed.server refl c,
-      field_again games_at (codes "games") ms (games_json seed.games) seed.games refl d,
-      field_again (slots_at seed.teams) (codes "slots") ms (many (items_of (map slot_json seed.slots))) seed.slots refl e,
-      field_again locations_at (codes "locations") ms (many (items_of (map held_json seed.locations))) seed.locations refl f,
-      field_again spheres_at (codes "spheres") ms (many (items_of (map sphere_json seed.spheres))) seed.spheres refl g,
-    ) refl
+module _ (seed : Seed) (h : IsSeed seed) where
+  shape_read : shape_at (seed_json seed) ≡ Ok seed
+  unfolding shape_at members_at
+  shape_read =
+      let ms = members_in (seed_json seed) in
+      let slots : All (SlotShape seed.teams) seed.slots = λ k d l. slot_shape seed h (slice_index_or seed.slots k d) (h.slots.each k d l) in
+      let locations : All HeldShape seed.locations = λ k d l. held_shape seed h (slice_index_or seed.locations k d) (h.locations.each k d l) in
+      let spheres : All SphereShape seed.spheres = λ k d l. sphere_shape seed h (slice_index_or seed.spheres k d) (h.spheres k d l) in
+      rw (
+        format_read ms refl,
+        field_again seed_name_at (codes "seed_name") ms (words seed.seed_name) seed.seed_name refl (seed_name_again seed.seed_name (seed_name_read seed.seed_name h.name_there h.name_short)),
+        field_again (number_at 1 8) (codes "teams") ms (number_json seed.teams) seed.teams refl (number_again 1 8 seed.teams h.some_team h.few_teams),
+        field_again server_at (codes "server") ms (server_json seed.server) seed.server refl (server_again seed.server h.server),
+        field_again games_at (codes "games") ms (games_json seed.games) seed.games refl (games_again seed.games h.games.each),
+        field_again (slots_at seed.teams) (codes "slots") ms (many (items_of (map slot_json seed.slots))) seed.slots refl (slots_again seed.teams seed.slots h.slots.some h.slots.few slots),
+        field_again (list_of_at 16777216 held_at) (codes "locations") ms (many (items_of (map held_json seed.locations))) seed.locations refl
+            (list_again HeldShape held_at held_json held_again 16777216 seed.locations h.locations.few locations),
+        field_again spheres_at (codes "spheres") ms (many (items_of (map sphere_json seed.spheres))) seed.spheres refl (spheres_again seed.spheres spheres),
+      ) refl
 
-record IsShapeAgain (seed : Seed) : Type 0 where
-  again : members_at (members_in (seed_json seed)) ≡ Ok seed
-  ordered : IsOrdered (games_json seed.games)
+  names_read : names_named seed ≡ Ok tt
+  names_read =
+      let play = plays seed.games seed.slots (λ k d l. (h.slots.each k d l).game) in
+      let ps = play.0 in
+      let spots : All (All (IsPlayedSlot ps)) seed.spheres =
+      λ k d l i e m.
+      let kept = (h.spheres k d l).each i e m in
+      let spot = slice_index_or (slice_index_or seed.spheres k d) i e in
+      spot_played seed.games seed.slots ps play.1 spot spot.slot refl kept.low kept.high in
+      names_pass_all seed ps h.games.each h.slots.differ (λ k d l. (h.slots.each k d l).start) play.1
+      (λ k d l. held_known seed h ps play.1 (slice_index_or seed.locations k d) (h.locations.each k d l)) h.locations.ascend spots
 
-members_again : (ms : Members) → MembersAreOrdered ms → IfOk (members_at ms) IsShapeAgain
-unfolding members_at
-members_again ms o =
-    let P : Seed → Type 0 = IsShapeAgain in
-    let Name : List ℕ → Type 0 = IsAgain seed_name_at words in
-    let Teams : ℕ → Type 0 = IsAgain (number_at 1 8) number_json in
-    let Server : RoomOptions → Type 0 = IsAgain server_at server_json in
-    past P (field_at (codes "format") format_at ms) _ (λ format.
-    after Name P (field_at (codes "seed_name") seed_name_at ms) _ (in_field Name (codes "seed_name") seed_name_at ms seed_name_again) (λ seed_name a.
-    after Teams P (field_at (codes "teams") (number_at 1 8) ms) _ (in_field Teams (codes "teams") (number_at 1 8) ms (number_again 1 8)) (λ teams b.
-    after Server P (field_at (codes "server") server_at ms) _ (in_field Server (codes "server") server_at ms server_again) (λ server c.
-    after AreAllGames P (field_at (codes "games") games_at ms) _ (in_ordered_field AreAllGames (codes "games") games_at ms o games_again) (λ games d.
-    after (Slots teams) P (field_at (codes "slots") (slots_at teams) ms) _ (in_field (Slots teams) (codes "slots") (slots_at teams) ms (slots_again teams)) (λ slots e.
-    after Locations P (field_at (codes "locations") locations_at ms) _ (in_field Locations (codes "locations") locations_at ms locations_again) (λ locations f.
-    after Spheres P (field_at (codes "spheres") spheres_at ms) _ (in_field Spheres (codes "spheres") spheres_at ms spheres_again) (λ spheres g.
-    record { again = members_read _ a b c d.0 e f g; ordered = d.1 }))))))))
+  seed_read : seed_at (seed_json seed) ≡ Ok seed
+  unfolding seed_at
+  seed_read = rw (shape_read, names_read) refl
 
--- ---- the whole
+  ordered : IsOrdered (seed_json seed)
+  ordered = seed_ordered seed (games_ordered seed.games h.games.each h.games.ascend)
 
-abbrev IsRead : Seed → Type 0
-IsRead seed = (seed_at (seed_json seed) ≡ Ok seed) × IsOrdered (seed_json seed)
-
-shape_again : (j : Json) → IsOrdered j → IfOk (shape_at j) IsShapeAgain
-unfolding shape_at
-shape_again j o = after MembersAreOrdered IsShapeAgain (object_at j) _ (object_ordered j o) (λ ms p. members_again ms p)
-
-seed_read : (seed : Seed) (named : Unit {0}) → IsShapeAgain seed → names_named seed ≡ Ok named → seed_at (seed_json seed) ≡ Ok seed
-unfolding seed_at shape_at
-seed_read seed named h e = rw (h.again, e) refl
-
-tree_again : (j : Json) → IsOrdered j → IfOk (seed_at j) IsRead
-unfolding seed_at
-tree_again j o =
-    after IsShapeAgain IsRead (shape_at j) _ (shape_again j o) (λ seed h.
-    after (λ x. names_named seed ≡ Ok x) IsRead (names_named seed) _ (if_told (λ x. names_named seed ≡ Ok x) (names_named seed) (λ x e. e)) (λ named e.
-    (seed_read seed named h e, seed_ordered seed h.ordered)))
-
-file_again : (seed : Seed) → (bytes : List ℕ) × SeedOf bytes (Ok seed) → IsRead seed
-file_again seed (bytes, inl h) = cc
-file_again seed (bytes, inr (inl h)) = cc
-file_again seed (bytes, inr (inr (j, judged, e))) = IfOk-at_ok IsRead e (tree_again j (MatchOption-at_some (Unit {0}) IsOrdered j judged.read.is (text_ordered bytes)))
-
--- ---- it is one proof at most
-
-follows_prop : (k : List ℕ) (ms : Members) → IsProp (ComeAfter k ms)
-follows_prop k no_members = Unit-prop
-follows_prop k (member l j ms) = ×_prop (Ordering-set (slice_cmp nat_cmp k l) Less) (follows_prop k ms)
-
-mutual
-  ordered_prop : (j : Json) → IsProp (IsOrdered j)
-  ordered_prop null = Unit-prop
-  ordered_prop (flag b) = Unit-prop
-  ordered_prop (whole z) = Unit-prop
-  ordered_prop not_whole = Unit-prop
-  ordered_prop (words s) = Unit-prop
-  ordered_prop (many js) = items_prop js
-  ordered_prop (members ms) = members_prop ms
-
-  items_prop : (js : Items) → IsProp (ItemsAreOrdered js)
-  items_prop no_items = Unit-prop
-  items_prop (item j js) = ×_prop (ordered_prop j) (items_prop js)
-
-  members_prop : (ms : Members) → IsProp (MembersAreOrdered ms)
-  members_prop no_members = Unit-prop
-  members_prop (member k j ms) = hlevel (ordered_prop j, follows_prop k ms, members_prop ms)
-
-abbrev value_of : Result Seed Breach → Option Seed
-value_of (Ok seed) = Some seed
-value_of (Err e) = None
-
-told : (read : Result Seed Breach) (seed : Seed) → value_of read ≡ Some seed → read ≡ Ok seed
-told (Ok other) seed e = cc
-told (Err b) seed e = cc
-
-seed_code : Coded (Option Seed)
-seed_code = hlevel coded
-
-accepted_read : (seed : Seed) → IsAccepted seed → seed_at (seed_json seed) ≡ Ok seed
-accepted_read seed h = told (seed_at (seed_json seed)) seed (∥∥₁_elim h (Coded-set seed_code (value_of (seed_at (seed_json seed))) (Some seed)) (λ file. ap value_of (file_again seed file).0))
-
-accepted_ordered : (seed : Seed) → IsAccepted seed → IsOrdered (seed_json seed)
-accepted_ordered seed h = ∥∥₁_elim h (ordered_prop (seed_json seed)) (λ file. (file_again seed file).1)
-
-module _ (seed : Seed) (h : IsAccepted seed) where
   read_again : (bytes : List ℕ) → IsWritable (seed_json seed) → IsUtf8 bytes → bytes ≡ seed_text seed → SeedOf bytes (Ok seed)
   read_again bytes w utf8 is =
       let j = seed_json seed in
       let few : depth j ≤ max_depth = omega (arith, seed_shallow seed) in
-      let read : reading bytes ≡ Some j = ap reading is ∙ reads_back j w (accepted_ordered seed h) few in
-      inr (inr (j, record { read = record { utf8 = utf8; is = read }; deep = few }, accepted_read seed h))
+      let read : reading bytes ≡ Some j = ap reading is ∙ reads_back j w ordered few in
+      inr (inr (j, record { read = record { utf8 = utf8; is = read }; deep = few }, seed_read))
 
   -- what is written stands for the seed
   pub stands_for : {E : Type 0} (written : Result (List ℕ) E) → IsWritable (seed_json seed) → IfOk written (λ b. IsUtf8 b) → IfOk written (λ b. b ≡ seed_text seed) → IfOk written (λ b. SeedOf b (Ok seed))

@@ -1,5 +1,7 @@
+pub mod Ascending
 pub mod Names
 pub mod Parts
+pub mod SeedKept
 pub mod SeedOf
 pub mod Shape
 pub mod Written

@@ -16,7 +16,3 @@ seed_at j = do
 
 abbrev pub SeedOf : List ℕ → Result Seed Breach → Type 0
 SeedOf bytes outcome = FileOf seed_at bytes outcome
-
--- some file stands for this seed
-abbrev pub IsAccepted : Seed → Type 0
-IsAccepted seed = ∥ ((bytes : List ℕ) × SeedOf bytes (Ok seed)) ∥₁

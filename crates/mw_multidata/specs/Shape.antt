@@ -1,11 +1,11 @@
 -- The shape of a seed file: its value by kinds and ranges alone, or the first breach of them.
-use Rattle.std.specs.Prelude.{ℕ, ◌+◌, List, [], ◌∷◌, Result, Ok, bytes_eq, codes, if◌then◌else◌}
-use Rattle.mw_model.specs.Json.{Json, Items, no_items, item, Members, no_members, member}
+use Rattle.std.specs.Prelude.{ℕ, List, [], ◌∷◌, Result, Ok, bytes_eq, codes, if◌then◌else◌}
+use Rattle.mw_model.specs.Json.{Json, Members}
 use Rattle.mw_model.specs.Seed.{Seed, Slot, StartItem, Game, NamedId, Held, RoomOptions, Spot}
-use Rattle.mw_json.specs.Grammar.{Breach, ◌>>=◌, refused, under, number_at, text_at, short_text, name_of, name_at, list_at, list_up_to, object_at, field_at}
+use Rattle.mw_json.specs.Grammar.{Breach, ◌>>=◌, refused, number_at, text_at, short_text, name_of, name_at, list_at, list_up_to, object_at, field_at}
 use Rattle.mw_json.specs.declared.refusal.Kind.TheVariants.{WrongKind, OtherFormat}
-use Rattle.mw_json.specs.declared.refusal.Step.TheVariants.{Name, Index}
 use Rattle.mw_json.specs.Parts.{id_at, not_empty, list_of_length, element_at}
+use Rattle.mw_json.specs.Readers.{each_from, list_of_at, each_member_at}
 use Rattle.mw_json.specs.Settings.{password_at, permission_at, remaining_at}
 use Rattle.mw_multidata.specs.Parts.{slot_number_at, flags_at}
 
@@ -31,17 +31,10 @@ named_id_at name j = do
   id ← id_at j
   Ok record { name = named; id = id }
 
-abbrev pub named_ids : Members → Result (List NamedId) Breach
-named_ids no_members = Ok []
-named_ids (member name j ms) = do
-  first ← under (Name name) (named_id_at name j)
-  others ← named_ids ms
-  Ok (first ∷ others)
-
 unfoldable pub ids_at : Json → Result (List NamedId) Breach
 ids_at j = do
   ms ← object_at j
-  named_ids ms
+  each_member_at named_id_at ms
 
 unfoldable pub game_at : List ℕ → Json → Result Game Breach
 game_at name j = do
@@ -51,33 +44,18 @@ game_at name j = do
   locations ← field_at (codes "location_name_to_id") ids_at ms
   Ok record { name = named; item_name_to_id = items; location_name_to_id = locations }
 
-abbrev pub games_of : Members → Result (List Game) Breach
-games_of no_members = Ok []
-games_of (member name j ms) = do
-  first ← under (Name name) (game_at name j)
-  others ← games_of ms
-  Ok (first ∷ others)
-
 unfoldable pub games_at : Json → Result (List Game) Breach
 games_at j = do
   ms ← object_at j
-  games_of ms
+  each_member_at game_at ms
 
 -- ---- the slots
-
--- the names of a list, the first of which stands at this index
-abbrev pub names_from : ℕ → Items → Result (List (List ℕ)) Breach
-names_from i no_items = Ok []
-names_from i (item j js) = do
-  first ← under (Index i) (name_at 16 j)
-  others ← names_from (i + 1) js
-  Ok (first ∷ others)
 
 -- a name for each team
 unfoldable pub names_at : ℕ → Json → Result (List (List ℕ)) Breach
 names_at teams j = do
   js ← list_of_length teams j
-  names_from 0 js
+  each_from (name_at 16) 0 js
 
 unfoldable pub start_item_at : Json → Result StartItem Breach
 start_item_at j = do
@@ -86,38 +64,19 @@ start_item_at j = do
   flags ← element_at 1 flags_at js
   Ok record { item = id; flags = flags }
 
-abbrev pub start_from : ℕ → Items → Result (List StartItem) Breach
-start_from i no_items = Ok []
-start_from i (item j js) = do
-  first ← under (Index i) (start_item_at j)
-  others ← start_from (i + 1) js
-  Ok (first ∷ others)
-
-unfoldable pub start_at : Json → Result (List StartItem) Breach
-start_at j = do
-  js ← list_up_to 256 j
-  start_from 0 js
-
 unfoldable pub slot_at : ℕ → Json → Result Slot Breach
 slot_at teams j = do
   ms ← object_at j
   names ← field_at (codes "names") (names_at teams) ms
   game ← field_at (codes "game") (name_at 128) ms
-  start ← field_at (codes "start") start_at ms
+  start ← field_at (codes "start") (list_of_at 256 start_item_at) ms
   Ok record { names = names; game = game; start = start }
-
-abbrev pub slots_from : ℕ → ℕ → Items → Result (List Slot) Breach
-slots_from teams i no_items = Ok []
-slots_from teams i (item j js) = do
-  first ← under (Index i) (slot_at teams j)
-  others ← slots_from teams (i + 1) js
-  Ok (first ∷ others)
 
 unfoldable pub slots_at : ℕ → Json → Result (List Slot) Breach
 slots_at teams j = do
   js ← list_up_to 1024 j
   some ← not_empty js
-  slots_from teams 0 some
+  each_from (slot_at teams) 0 some
 
 -- ---- the locations
 
@@ -131,18 +90,6 @@ held_at j = do
   flags ← element_at 4 flags_at js
   Ok record { slot = slot; location = location; item = held; receiver = receiver; flags = flags }
 
-abbrev pub locations_from : ℕ → Items → Result (List Held) Breach
-locations_from i no_items = Ok []
-locations_from i (item j js) = do
-  first ← under (Index i) (held_at j)
-  others ← locations_from (i + 1) js
-  Ok (first ∷ others)
-
-unfoldable pub locations_at : Json → Result (List Held) Breach
-locations_at j = do
-  js ← list_up_to 16777216 j
-  locations_from 0 js
-
 -- ---- the spheres
 
 unfoldable pub spot_at : Json → Result Spot Breach
@@ -152,30 +99,16 @@ spot_at j = do
   index ← element_at 1 (number_at 0 9999) js
   Ok record { slot = slot; index = index }
 
-abbrev pub spots_from : ℕ → Items → Result (List Spot) Breach
-spots_from i no_items = Ok []
-spots_from i (item j js) = do
-  first ← under (Index i) (spot_at j)
-  others ← spots_from (i + 1) js
-  Ok (first ∷ others)
-
 unfoldable pub sphere_at : Json → Result (List Spot) Breach
 sphere_at j = do
   js ← list_at j
   some ← not_empty js
-  spots_from 0 some
-
-abbrev pub spheres_from : ℕ → Items → Result (List (List Spot)) Breach
-spheres_from i no_items = Ok []
-spheres_from i (item j js) = do
-  first ← under (Index i) (sphere_at j)
-  others ← spheres_from (i + 1) js
-  Ok (first ∷ others)
+  each_from spot_at 0 some
 
 unfoldable pub spheres_at : Json → Result (List (List Spot)) Breach
 spheres_at j = do
   js ← list_at j
-  spheres_from 0 js
+  each_from sphere_at 0 js
 
 -- ---- the whole
 
@@ -206,7 +139,7 @@ members_at ms = do
   server ← field_at (codes "server") server_at ms
   games ← field_at (codes "games") games_at ms
   slots ← field_at (codes "slots") (slots_at teams) ms
-  locations ← field_at (codes "locations") locations_at ms
+  locations ← field_at (codes "locations") (list_of_at 16777216 held_at) ms
   spheres ← field_at (codes "spheres") spheres_at ms
   Ok record { seed_name = seed_name; teams = teams; server = server; games = games; slots = slots; locations = locations; spheres = spheres }
 

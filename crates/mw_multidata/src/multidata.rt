@@ -2,7 +2,7 @@ use crate::seed::{Game, Held, Slot};
 use mw_base::{List, RoomOptions, SphereList, Text};
 use std::marker::Model;
 
-/// A seed: what some seed file stands for.
+/// A seed, which keeps the rules of its file's format. What keeps them is written and read again.
 #[derive(Debug, Drop)]
 pub struct Multidata {
     /// 1 to 128 characters.
@@ -23,7 +23,7 @@ pub struct Multidata {
 
 impl Model for Multidata {
     ghost use Rattle.mw_model.specs.Seed as plain;
-    ghost use Rattle.mw_multidata.specs.SeedOf.{IsAccepted};
+    ghost use Rattle.mw_multidata.specs.SeedKept.{IsSeed};
 
     ghost Value = { plain.Seed };
 
@@ -37,7 +37,7 @@ impl Model for Multidata {
       spheres = m.spheres;
     } };
 
-    ghost invariant = { λ m. IsAccepted record {
+    ghost invariant = { λ m. IsSeed record {
       seed_name = m.seed_name;
       teams = m.teams;
       server = m.server;

@@ -3,7 +3,8 @@ ghost use Rattle.mw_json.specs.View.{view};
 ghost use Rattle.mw_json.specs.Grammar.{Gives};
 ghost use Rattle.mw_json.specs.Files.{GivesFile};
 ghost use Rattle.mw_multidata.specs.Names.{names_named};
-ghost use Rattle.mw_multidata.specs.SeedOf.{IsAccepted, seed_at};
+ghost use Rattle.mw_multidata.specs.SeedKept.{IsSeed};
+ghost use Rattle.mw_multidata.specs.SeedOf.{seed_at};
 
 use crate::catalog::catalogs_of;
 use crate::location_names::judge_locations;
@@ -49,7 +50,7 @@ fn shape_of_file(alloc: Global, bytes: &[u8]) -> Result<Shape, Refusal>
 
 /// The seed that an accepted shape is.
 fn accepted(shape: Shape) -> Multidata
-    requires { IsAccepted shape }
+    requires { IsSeed shape }
     ensures { result ≡ shape }
 {
     let Shape {

@@ -1,50 +1,13 @@
-ghost use Rattle.std.specs.Prelude.{codes};
-ghost use Rattle.mw_json.specs.View.{view, members_view};
-ghost use Rattle.mw_json.specs.Grammar.{Gives, GivesBy, number_at, field_at};
-ghost use Rattle.mw_json.specs.Settings.{password_at, remaining_at, permission_at};
-ghost use Rattle.mw_base.specs.Permissions.{permission_number};
+ghost use Rattle.mw_json.specs.View.{view};
+ghost use Rattle.mw_json.specs.Grammar.{Gives};
 ghost use Rattle.mw_multidata.specs.Shape.{server_at};
 
-use mw_base::{Permission, RoomOptions, Text};
+use mw_base::RoomOptions;
 use mw_json::{
-    Member, Refusal, Tree, at_name, count_in, member_of, object_of, password_in,
-    permission_at_name, permission_in, remaining_in,
+    Refusal, Tree, count_in, field_in, field_seen, object_of, password_in, permission_in,
+    remaining_in,
 };
 use std::alloc::Global;
-
-#[tactic(auto, unfolding(mw_json::specs::Grammar::field_at))]
-fn password_member(alloc: Global, members: &[Member]) -> Result<Text, Refusal>
-    ensures { Gives result (field_at (codes "password") password_at (members_view members.now)) }
-{
-    let found = member_of(alloc, members, "password")?;
-    at_name(alloc, password_in(alloc, found), "password")
-}
-
-/// The count under a name.
-#[tactic(auto, unfolding(mw_json::specs::Grammar::field_at))]
-fn count_member(alloc: Global, members: &[Member], name: &str, most: u32) -> Result<u32, Refusal>
-    ensures { Gives result (field_at name.now (number_at 0 most) (members_view members.now)) }
-{
-    let found = member_of(alloc, members, name)?;
-    at_name(alloc, count_in(alloc, found, most), name)
-}
-
-/// The permission under a name.
-#[tactic(auto, unfolding(mw_json::specs::Grammar::field_at))]
-fn permission_member(alloc: Global, members: &[Member], name: &str) -> Result<Permission, Refusal>
-    ensures { GivesBy permission_number result (field_at name.now permission_at (members_view members.now)) }
-{
-    let found = member_of(alloc, members, name)?;
-    permission_at_name(alloc, permission_in(alloc, found), name)
-}
-
-#[tactic(auto, unfolding(mw_json::specs::Grammar::field_at))]
-fn remaining_member(alloc: Global, members: &[Member]) -> Result<Permission, Refusal>
-    ensures { GivesBy permission_number result (field_at (codes "remaining") remaining_at (members_view members.now)) }
-{
-    let found = member_of(alloc, members, "remaining")?;
-    permission_at_name(alloc, remaining_in(alloc, found), "remaining")
-}
 
 /// The settings of the room.
 #[tactic(auto, unfolding(crate::specs::Shape::server_at))]
@@ -52,12 +15,14 @@ pub(crate) fn server_of(alloc: Global, tree: &Tree) -> Result<RoomOptions, Refus
     ensures { Gives result (server_at (view tree.now)) }
 {
     let members = object_of(alloc, tree)?;
-    let password = password_member(alloc, members)?;
-    let hint_cost = count_member(alloc, members, "hint_cost", 1_000)?;
-    let location_check_points = count_member(alloc, members, "location_check_points", 1_000_000)?;
-    let release = permission_member(alloc, members, "release")?;
-    let collect = permission_member(alloc, members, "collect")?;
-    let remaining = remaining_member(alloc, members)?;
+    let password = field_in(alloc, members, "password", |a, t| password_in(a, t))?;
+    let hint_cost = field_in(alloc, members, "hint_cost", |a, t| count_in(a, t, 1_000))?;
+    let location_check_points = field_in(alloc, members, "location_check_points", |a, t| {
+        count_in(a, t, 1_000_000)
+    })?;
+    let release = field_seen(alloc, members, "release", |a, t| permission_in(a, t))?;
+    let collect = field_seen(alloc, members, "collect", |a, t| permission_in(a, t))?;
+    let remaining = field_seen(alloc, members, "remaining", |a, t| remaining_in(a, t))?;
     Ok(RoomOptions {
         password,
         hint_cost,

@@ -1,5 +1,5 @@
 ghost use Rattle.std.specs.Prelude.{◌≡◌, IfOk};
-ghost use Rattle.mw_multidata.specs.SeedOf.{IsAccepted};
+ghost use Rattle.mw_multidata.specs.SeedKept.{IsSeed};
 
 use crate::multidata::Multidata;
 use mw_base::Memory;
@@ -32,7 +32,7 @@ impl RoomTables {
     /// The seed.
     pub fn multidata(&self) -> &Multidata
         ensures value { result.now ≡ self.now }
-        ensures accepted { IsAccepted result.now }
+        ensures kept { IsSeed result.now }
     {
         let multidata = &self.multidata;
         let _ = &multidata.seed_name;

@@ -1,5 +1,4 @@
 pub mod OnlyPacket
 pub mod PacketsOf
-pub mod Reads
 pub mod View
 pub mod Whole

@@ -1,39 +1,29 @@
-ghost use Rattle.std.specs.Prelude.{◌≡◌, codes};
-ghost use Rattle.mw_model.specs.Json.{find_member};
+ghost use Rattle.std.specs.Prelude.{◌≡◌};
 ghost use Rattle.mw_json.specs.View.{view, members_view};
-ghost use Rattle.mw_packets_in.specs.PacketsOf.{connect_at, number_under, or_absent, texts_at, version_at};
-ghost use Rattle.mw_packets_in.specs.Reads.{Reads, ReadsBy};
+ghost use Rattle.mw_json.specs.Grammar.{Gives, GivesBy};
+ghost use Rattle.mw_packets_in.specs.PacketsOf.{connect_at, version_at};
 ghost use Rattle.mw_packets_in.specs.View.{packet_view};
 
 use crate::packet::{Packet, Version};
-use crate::parts::{
-    Unread, member_of, nullable_text, nullable_whole, object_of, text_of, texts_of, whole_of,
-};
+use crate::parts::{text_in, texts_in, whole_in};
 use crate::whole::holds_not_whole;
-use mw_base::{List, Text};
-use mw_json::{Member, Tree, find};
+use mw_json::{
+    Kind, Member, Refusal, Tree, field_if, field_in, field_or, null_or, object_of, refuse,
+};
 use std::alloc::Global;
-
-/// A whole number that has to be there.
-#[tactic(auto, unfolding(crate::specs::PacketsOf::number_under))]
-fn number_of(members: &[Member], name: &str) -> Result<i128, Unread>
-    ensures { Reads result (number_under name.now (members_view members.now)) }
-{
-    whole_of(member_of(members, name)?)
-}
 
 /// A version: an object with three whole numbers, in which all numbers are whole.
 #[tactic(auto, unfolding(crate::specs::PacketsOf::version_at))]
-fn version_of(tree: &Tree) -> Result<Version, Unread>
-    ensures { Reads result (version_at (view tree.now)) }
+fn version_of(alloc: Global, tree: &Tree) -> Result<Version, Refusal>
+    ensures { Gives result (version_at (view tree.now)) }
 {
-    let members = object_of(tree)?;
+    let members = object_of(alloc, tree)?;
     if holds_not_whole(tree) {
-        return Err(Unread::OtherKind);
+        return refuse(alloc, Kind::NotWhole);
     }
-    let major = number_of(members, "major")?;
-    let minor = number_of(members, "minor")?;
-    let build = number_of(members, "build")?;
+    let major = field_in(alloc, members, "major", whole_in)?;
+    let minor = field_in(alloc, members, "minor", whole_in)?;
+    let build = field_in(alloc, members, "build", whole_in)?;
     Ok(Version {
         major,
         minor,
@@ -41,31 +31,21 @@ fn version_of(tree: &Tree) -> Result<Version, Unread>
     })
 }
 
-/// A list of texts that may be absent.
-fn texts_or_absent(
-    alloc: Global,
-    members: &[Member],
-    name: &str,
-) -> Result<Option<List<Text>>, Unread>
-    ensures { Reads result (or_absent texts_at (find_member name.now (members_view members.now))) }
-{
-    match find(members, name) {
-        None => Ok(None),
-        Some(found) => Ok(Some(texts_of(alloc, found)?)),
-    }
-}
-
 /// A Connect's members.
 #[tactic(auto, unfolding(crate::specs::PacketsOf::connect_at))]
-pub(crate) fn connect_of(alloc: Global, members: &[Member]) -> Result<Packet, Unread>
-    ensures { ReadsBy packet_view result (connect_at (members_view members.now)) }
+pub(crate) fn connect_of(alloc: Global, members: &[Member]) -> Result<Packet, Refusal>
+    ensures { GivesBy packet_view result (connect_at (members_view members.now)) }
 {
-    let name = Text::of(alloc, text_of(member_of(members, "name")?)?)?;
-    let password = nullable_text(alloc, members, "password")?;
-    let game = nullable_text(alloc, members, "game")?;
-    let version = version_of(member_of(members, "version")?)?;
-    let items_handling = nullable_whole(members, "items_handling")?;
-    let tags = texts_or_absent(alloc, members, "tags")?;
+    let name = field_in(alloc, members, "name", text_in)?;
+    let password = field_or(alloc, members, "password", None, |a, t| {
+        null_or(a, t, text_in)
+    })?;
+    let game = field_or(alloc, members, "game", None, |a, t| null_or(a, t, text_in))?;
+    let version = field_in(alloc, members, "version", version_of)?;
+    let items_handling = field_or(alloc, members, "items_handling", None, |a, t| {
+        null_or(a, t, whole_in)
+    })?;
+    let tags = field_if(alloc, members, "tags", texts_in)?;
     Ok(Packet::Connect {
         name,
         password,

@@ -1,29 +1,31 @@
 ghost use Rattle.std.specs.Prelude.{◌≡◌, IfOk, option_map};
 ghost use Rattle.mw_json.specs.View.{view, members_view};
-ghost use Rattle.mw_packets_in.specs.OnlyPacket.{IsOnlyPacket, sole_packet};
+ghost use Rattle.mw_json.specs.Grammar.{GivesBy};
+ghost use Rattle.mw_packets_in.specs.OnlyPacket.{IsOnlyPacket, sole_at, sole_packet};
 ghost use Rattle.mw_packets_in.specs.PacketsOf.{checks_at, packet_at, packet_named};
-ghost use Rattle.mw_packets_in.specs.Reads.{ReadsBy};
 ghost use Rattle.mw_packets_in.specs.View.{packet_view};
 
 use crate::connect::connect_of;
 use crate::packet::Packet;
-use crate::parts::{Unread, list_of, member_of, object_of, text_of, wholes_of};
+use crate::parts::{text_in, wholes_in};
 use mw_base::Memory;
-use mw_json::{JsonError, Member, Tree, read_text};
+use mw_json::{
+    JsonError, Kind, Member, Refusal, Tree, field_in, list_of, object_of, read_text, refuse,
+};
 use std::alloc::Global;
 
 /// The members of LocationChecks.
 #[tactic(auto, unfolding(crate::specs::PacketsOf::checks_at))]
-fn checks_of(alloc: Global, members: &[Member]) -> Result<Packet, Unread>
-    ensures { ReadsBy packet_view result (checks_at (members_view members.now)) }
+fn checks_of(alloc: Global, members: &[Member]) -> Result<Packet, Refusal>
+    ensures { GivesBy packet_view result (checks_at (members_view members.now)) }
 {
-    let locations = wholes_of(alloc, member_of(members, "locations")?)?;
+    let locations = field_in(alloc, members, "locations", wholes_in)?;
     Ok(Packet::LocationChecks { locations })
 }
 
 /// The packet of a command.
-fn packet_by(alloc: Global, cmd: &str, members: &[Member]) -> Result<Packet, Unread>
-    ensures { ReadsBy packet_view result (packet_named cmd.now (members_view members.now)) }
+fn packet_by(alloc: Global, cmd: &str, members: &[Member]) -> Result<Packet, Refusal>
+    ensures { GivesBy packet_view result (packet_named cmd.now (members_view members.now)) }
 {
     if cmd == "Connect" {
         return connect_of(alloc, members);
@@ -34,29 +36,29 @@ fn packet_by(alloc: Global, cmd: &str, members: &[Member]) -> Result<Packet, Unr
     if cmd == "LocationChecks" {
         return checks_of(alloc, members);
     }
-    Err(Unread::OtherKind)
+    refuse(alloc, Kind::WrongKind)
 }
 
 /// A packet.
 #[tactic(auto, unfolding(crate::specs::PacketsOf::packet_at))]
-fn packet_of(alloc: Global, tree: &Tree) -> Result<Packet, Unread>
-    ensures { ReadsBy packet_view result (packet_at (view tree.now)) }
+fn packet_of(alloc: Global, tree: &Tree) -> Result<Packet, Refusal>
+    ensures { GivesBy packet_view result (packet_at (view tree.now)) }
 {
-    let members = object_of(tree)?;
-    let cmd = text_of(member_of(members, "cmd")?)?;
-    packet_by(alloc, cmd, members)
+    let members = object_of(alloc, tree)?;
+    let cmd = field_in(alloc, members, "cmd", text_in)?;
+    packet_by(alloc, cmd.as_str(), members)
 }
 
 /// The only packet of a message.
-#[tactic(auto, using(crate::proofs::Sole::no_sole), unfolding(crate::specs::OnlyPacket::sole_packet))]
-fn sole_of(alloc: Global, tree: &Tree) -> Result<Packet, Unread>
-    ensures { ReadsBy packet_view result (sole_packet (view tree.now)) }
+#[tactic(auto, using(crate::proofs::Sole::no_sole), unfolding(crate::specs::OnlyPacket::sole_at))]
+fn sole_of(alloc: Global, tree: &Tree) -> Result<Packet, Refusal>
+    ensures { GivesBy packet_view result (sole_at (view tree.now)) }
 {
-    let items = list_of(tree)?;
+    let items = list_of(alloc, tree)?;
     if items.len() == 1 {
         packet_of(alloc, &items[0])
     } else {
-        Err(Unread::OtherKind)
+        refuse(alloc, Kind::WrongKind)
     }
 }
 
@@ -65,8 +67,8 @@ fn packet_in(alloc: Global, tree: &Tree) -> Result<Option<Packet>, Memory>
 {
     match sole_of(alloc, tree) {
         Ok(packet) => Ok(Some(packet)),
-        Err(Unread::Memory) => Err(Memory),
-        Err(Unread::OtherKind) => Ok(None),
+        Err(Refusal::Memory) => Err(Memory),
+        Err(Refusal::Named { .. }) => Ok(None),
     }
 }
 

@@ -1,7 +1,11 @@
--- The members of RoomInfo in two halves.
+-- RoomInfo: the order of its games, and its members in two halves.
 use Rattle.std.specs.Prelude.{ℕ, pos, List, [], ◌∷◌, codes, map}
-use Rattle.mw_model.specs.Json.{Json, flag, many, members, no_items, whole, words}
-use Rattle.mw_model.specs.Messages.{RoomInfo, checksum_members, game_name, items_of, permissions_json, text_json, version_json}
+use Rattle.mw_model.specs.Json.{Json, MembersAreOrdered, flag, many, members, no_items, whole, words}
+use Rattle.mw_model.specs.Messages.{GameSum, RoomInfo, checksum_members, game_name, items_of, permissions_json, text_json, version_json}
+
+-- the games ascend strictly in byte order of their names, as the members of an object do
+abbrev pub GamesAscend : List GameSum → Type 0
+GamesAscend games = MembersAreOrdered (checksum_members games)
 
 -- up to the costs
 abbrev pub room_front : RoomInfo → List (List ℕ × Json)

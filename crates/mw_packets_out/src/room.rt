@@ -33,7 +33,7 @@ pub struct RoomInfo {
     pub hint_cost: u32,
     /// What a checked location is worth, 0 to 1,000,000.
     pub location_check_points: u32,
-    /// The games that are played, in byte order.
+    /// The games that are played, in byte order, no two of one name.
     pub games: List<GameSum>,
     /// The seed's name.
     pub seed_name: Text,
@@ -44,6 +44,7 @@ pub struct RoomInfo {
 impl Model for RoomInfo {
     ghost use Rattle.mw_base.specs.Permissions.{permission_number};
     ghost use Rattle.mw_model.specs.Messages as plain;
+    ghost use Rattle.mw_packets_out.specs.Room.{GamesAscend};
 
     ghost Value = { plain.RoomInfo };
 
@@ -58,4 +59,6 @@ impl Model for RoomInfo {
       seed_name = r.seed_name;
       time = r.time;
     } };
+
+    ghost invariant = { λ r. GamesAscend r.games };
 }

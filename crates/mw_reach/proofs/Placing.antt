@@ -1,5 +1,5 @@
 -- The table of a placement is one that reach takes.
-use Rattle.std.proofs.Common.{◌≡◌, ℕ, zero, suc, ◌+◌, ◌<◌, ◌≤◌, ◌^◌, Bool, true, false, cond, eqb, List, [], ◌∷◌, Option, Some, None, length, get_or, All, refl, sym, ap, subst, ◌∙◌, inl, inr, arith}
+use Rattle.std.proofs.Common.{◌≡◌, ℕ, zero, suc, ◌+◌, ◌<◌, ◌≤◌, Bool, true, false, cond, eqb, List, [], ◌∷◌, Option, Some, None, length, get_or, All, refl, sym, ap, subst, ◌∙◌, inl, inr, arith}
 use Rattle.std.specs.Prelude.{filter, flat_map, slice_get, sum_by}
 use Rattle.std.proofs.lemmas.Bool.{false≢true, cases_Bool, cases_lt}
 use Rattle.std.proofs.lemmas.List.{length-append, get_or_default}
@@ -8,10 +8,8 @@ use Rattle.std.proofs.lemmas.List.Elements.{All-nil, All-cons, All-append}
 use Rattle.std.proofs.lemmas.List.Sums.{sum_by-cons}
 use Rattle.mw_multi.specs.Joint.{Joint, Slot, AreNumbered, IsJoint, slot_items, item_total}
 use Rattle.mw_multi.specs.RulesKept.{is_progression_item}
-use Rattle.mw_multi.specs.Placement.{Put, slot_at, item_in, numbers_in, numbers_of, put_numbers, stands_at, standing, numbers_at, IsPlacement, IsPlaced}
+use Rattle.mw_multi.specs.Placement.{Put, slot_at, item_in, numbers_in, numbers_of, put_numbers, stands_at, standing, numbers_at, IsPlaced}
 use Rattle.mw_multi.specs.World.{Item}
-use Rattle.mw_multi.specs.Events.{events_of, with_events}
-use Rattle.mw_multi.proofs.Few.{events_are_few, puts_are_few, with_events_are_few}
 use Rattle.mw_reach.specs.Reach.{one_if}
 use Rattle.mw_reach.specs.Reached.{IsPlacedFor}
 use Rattle.mw_reach.proofs.Counting.{sum_below, sum_below-add, sum_below-le, sum_below-zero, sum_below-past, sum_below-one, sum_below-first}
@@ -115,24 +113,9 @@ placed-le slots puts table placed =
       puts-le (length table) puts,
     )
 
--- fewer than 2^31 items at locations are a table for reach
-pub placed_for : (joint : Joint) → IsJoint joint → (puts : List Put) (table : List (List ℕ)) → IsPlaced joint.slots puts table → length puts < 2 ^ 31 → IsPlacedFor joint table
-placed_for joint kept puts table placed few = record {
+-- what stands at locations of the joint is a table for reach
+pub placed_for : (joint : Joint) → IsJoint joint → (puts : List Put) (table : List (List ℕ)) → IsPlaced joint.slots puts table → IsPlacedFor joint table
+placed_for joint kept puts table placed = record {
   size = placed.size;
   items = λ p d h. rw (get_or_default table p d [] h, placed.entries p) (of_puts joint.slots kept.numbered (filter (stands_at p) puts));
-  few = omega (arith, placed-le joint.slots puts table placed);
 }
-
--- the tables of a placement, of the events alone, and of both
-pub placed_placement : (joint : Joint) → IsJoint joint → (puts : List Put) (table : List (List ℕ)) → IsPlacement joint puts → IsPlaced joint.slots puts table → IsPlacedFor joint table
-placed_placement joint kept puts table placement placed = placed_for joint kept puts table placed (omega (arith, puts_are_few joint puts kept placement))
-
-pub placed_events : (joint : Joint) → IsJoint joint → (table : List (List ℕ)) → IsPlaced joint.slots (events_of joint) table → IsPlacedFor joint table
-placed_events joint kept table placed = placed_for joint kept (events_of joint) table placed (omega (arith, events_are_few joint kept))
-
-pub placed_with_events : (joint : Joint) → IsJoint joint → (puts : List Put) (table : List (List ℕ)) → IsPlacement joint puts → IsPlaced joint.slots (with_events joint puts) table → IsPlacedFor joint table
-placed_with_events joint kept puts table placement placed = placed_for joint kept (with_events joint puts) table placed (omega (arith, with_events_are_few joint puts kept placement))
-
--- nothing at any place
-pub placed_nothing : (joint : Joint) → IsJoint joint → (table : List (List ℕ)) → IsPlaced joint.slots [] table → IsPlacedFor joint table
-placed_nothing joint kept table placed = placed_for joint kept [] table placed (omega arith)

@@ -1,14 +1,14 @@
 -- The entrances and locations of a slot, one by one.
 use Rattle.std.proofs.Common.{◌≡◌, ℕ, zero, suc, ◌+◌, ◌*◌, ◌<◌, ◌≤◌, All, List, [], ◌∷◌, ◌++◌, length, get_or, map, take, sym, ap, subst, ◌∙◌, arith}
 use Rattle.std.specs.Prelude.{flat_map}
-use Rattle.std.proofs.lemmas.List.{length-map, length-append, append_assoc, append-nil, get_or-map, get_or_append_left, get_or-append-add, get_or_read, map_push, take_more, length-take-le}
+use Rattle.std.proofs.lemmas.List.{length-map, length-append, append_assoc, append-nil, get_or-map, get_or_append_left, get_or-append-add, get_or_read, take_more, length-take-le}
 use Rattle.std.proofs.lemmas.List.Concat.{flat_map-append, get_or-flat_map}
 use Rattle.std.proofs.lemmas.List.Folds.{length-flat_map-take}
 use Rattle.std.proofs.lemmas.List.Sums.{sum_by-cons}
 use Rattle.mw_rules.specs.Rule.{Rule, never, IsWithin}
 use Rattle.mw_rules.specs.Ruling.{rule_at}
 use Rattle.mw_multi.specs.Joint.{Joint, Slot, AreNumbered, SlotKept, IsJoint, slot_items, slot_places, place_total, item_total}
-use Rattle.mw_multi.specs.Steps.{Step, rule_list, entrance_rule, location_rule, slot_rules, entrance_step, location_step, location_steps}
+use Rattle.mw_multi.specs.Steps.{Step, rule_list, entrance_rule, location_rule, slot_rules, location_step, location_steps}
 use Rattle.mw_multi.specs.World.{Entrance, Location}
 use Rattle.mw_multi.specs.WorldKept.{IsWorld, EntranceKept, LocationKept}
 use Rattle.mw_reach.specs.Building.{SlotFits, HasRules}
@@ -40,9 +40,6 @@ module _ (joint : Joint) (index : ℕ) (slot : Slot) (s : SlotFits joint index s
     pub entrance_start_fits : (from : ℕ) → from ≡ slot.first_place + e.from → StartFits rules slot (place_total joint.slots) record { from = from; rule = first_rule + i }
     entrance_start_fits from from_is = start_fits from e.from i e.rule from_is entrance_kept.starts rule_here.0 entrance_rule_is entrance_kept.rule.within
 
-    pub entrance_to_fits : e.to < length slot.world.regions
-    entrance_to_fits = entrance_kept.leads
-
   module _ (has : HasRules rules first_rule (map location_rule slot.world.locations)) (i : ℕ) (l : Location) (h : i < length slot.world.locations) (is : l ≡ get_or slot.world.locations i l) where
     location_kept : LocationKept slot.world l
     location_kept = subst (LocationKept slot.world) (sym is) (kept.locations.each i l h)
@@ -57,12 +54,6 @@ module _ (joint : Joint) (index : ℕ) (slot : Slot) (s : SlotFits joint index s
     location_start_fits from from_is = start_fits from l.region i l.rule from_is location_kept.region location_here.0 location_rule_is location_kept.rule.within
 
 -- one step more
-pub entrances_more : (slot : Slot) (front : List Step) (es : List Entrance) (i : ℕ) (e : Entrance) → i < length es → e ≡ get_or es i e
-    → (front ++ map (entrance_step slot) (take i es)) ++ entrance_step slot e ∷ [] ≡ front ++ map (entrance_step slot) (take (i + 1) es)
-entrances_more slot front es i e h is =
-    append_assoc front (map (entrance_step slot) (take i es)) (entrance_step slot e ∷ [])
-    ∙ ap (λ ss. front ++ ss) (sym (ap (map (entrance_step slot)) (take_more es i e h) ∙ map_push (entrance_step slot) (take i es) (get_or es i e) ∙ ap (λ x. map (entrance_step slot) (take i es) ++ entrance_step slot x ∷ []) (sym is)))
-
 location_steps_push : (slot : Slot) (n : ℕ) (ls : List Location) (l : Location) → location_steps slot n (ls ++ l ∷ []) ≡ location_steps slot n ls ++ location_step slot (n + length ls) l ∷ []
 location_steps_push slot n [] l = ap (λ k. location_step slot k l ∷ []) (omega arith)
 location_steps_push slot n (m ∷ ls) l =

@@ -60,17 +60,6 @@ pub room_left : (listed : List Bool) (p : ℕ) → p < length listed → places_
 room_left listed p h e = omega (arith, missing-set listed p h e)
 
 module _ (bag : Bag) (done : Places) where
-  pub none_asked : (listed : List Bool) (queue : List ℕ) (len : ℕ) → Wakes [] bag done listed queue len listed queue len
-  none_asked listed queue len = record {
-    grows = λ p e. e;
-    settled = tt;
-    sound = λ v l h. h;
-    longer = omega arith;
-    queued = λ head l q. q;
-    entries = λ e. e;
-    room = refl;
-  }
-
   -- a step that leads to a listed place, or isn't open
   pub not_listed : (step : Step) (listed : List Bool) (queue : List ℕ) (len : ℕ) → (places_of listed step.to ≡ true) ⊎ (is_open step bag done ≡ false) → Wakes (step ∷ []) bag done listed queue len listed queue len
   not_listed step listed queue len h = record {

@@ -1,5 +1,5 @@
 -- What was made for a joint.
-use Rattle.std.specs.Prelude.{ℕ, ◌≡◌, ◌<◌, ◌^◌, List, Bool, Some, length, sum_by}
+use Rattle.std.specs.Prelude.{ℕ, ◌≡◌, List, Bool, Some, length}
 use Rattle.mw_rules.specs.Holds.{Places, places_of}
 use Rattle.mw_multi.specs.Joint.{Joint, place_total, item_total}
 use Rattle.mw_multi.specs.Steps.{rule_list, steps_of}
@@ -14,11 +14,10 @@ use Rattle.mw_reach.specs.declared.reached.Reached.{Reached}
 abbrev pub IsBagFor : Joint → List ℕ → Type 0
 IsBagFor joint bag = length bag ≡ item_total joint.slots
 
--- an entry for each place of the joint, of the joint's items, and fewer than 2^31 together
+-- an entry for each place of the joint, of the joint's items
 pub record IsPlacedFor (joint : Joint) (placed : Placed) : Type 0 where
   pub size : length placed ≡ place_total joint.slots
   pub items : LiesWithin (item_total joint.slots) placed
-  pub few : sum_by length placed < 2 ^ 31
 
 -- the rows are the joint's steps, and there is room for each place and each item
 pub record IsWorkFor (joint : Joint) (work : Work) : Type 0 where

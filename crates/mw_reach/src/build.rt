@@ -29,7 +29,8 @@ fn add_ruled<R: Ruling>(
     requires to { to < place_total joint.now.slots }
     requires rows { AreJointRows joint.now rows.old }
     ensures kept { OnOk result (AreJointRows joint.now rows.new) }
-    ensures rows { OnOk result (rows.new.rows ≡ rows.old.rows ++ record { slot = index; start = Some start; to = to } ∷ []) }
+    ensures rows { OnOk result (rows.new.rows ≡ rows.old.rows
+        ++ record { slot = index; start = Some start; to = to } ∷ []) }
 {
     let named = rules.named(start.rule);
     add_step(
@@ -50,7 +51,8 @@ fn add_first(joint: &Joint, rows: &mut Rows, index: u32, slot: &Slot) -> Result<
     requires few { length rows.old.rows < 2 ^ 32 }
     requires rows { AreJointRows joint.now rows.old }
     ensures kept { OnOk result (AreJointRows joint.now rows.new) }
-    ensures steps { OnOk result (steps_in joint.now rows.new ≡ steps_in joint.now rows.old ++ origin_step slot.now ∷ []) }
+    ensures steps { OnOk result (steps_in joint.now rows.new ≡ steps_in joint.now rows.old
+        ++ origin_step slot.now ∷ []) }
     ensures many { OnOk result (length rows.new.rows ≡ length rows.old.rows + 1) }
 {
     let world = slot.world;
@@ -69,12 +71,15 @@ fn add_entrances<R: Ruling>(
 ) -> Result<(), Memory>
     requires rules { R.stands_for rules.now (rule_list joint.now) }
     requires slot { SlotFits joint.now index slot.now }
-    requires numbers { HasRules (rule_list joint.now) first_rule (map entrance_rule slot.now.world.entrances) }
+    requires numbers { HasRules (rule_list joint.now) first_rule
+        (map entrance_rule slot.now.world.entrances) }
     requires few { (length rows.old.rows + 10000 < 2 ^ 32) × (first_rule + 10000 < 2 ^ 32) }
     requires rows { AreJointRows joint.now rows.old }
     ensures kept { OnOk result (AreJointRows joint.now rows.new) }
-    ensures steps { OnOk result (steps_in joint.now rows.new ≡ steps_in joint.now rows.old ++ map (entrance_step slot.now) slot.now.world.entrances) }
-    ensures many { OnOk result (length rows.new.rows ≡ length rows.old.rows + length slot.now.world.entrances) }
+    ensures steps { OnOk result (steps_in joint.now rows.new ≡ steps_in joint.now rows.old
+        ++ map (entrance_step slot.now) slot.now.world.entrances) }
+    ensures many { OnOk result (length rows.new.rows ≡ length rows.old.rows
+        + length slot.now.world.entrances) }
 {
     let world = slot.world;
     for (i, entrance) in world.entrances.as_slice().iter().enumerate() {
@@ -99,12 +104,15 @@ fn add_locations<R: Ruling>(
 ) -> Result<(), Memory>
     requires rules { R.stands_for rules.now (rule_list joint.now) }
     requires slot { SlotFits joint.now index slot.now }
-    requires numbers { HasRules (rule_list joint.now) first_rule (map location_rule slot.now.world.locations) }
+    requires numbers { HasRules (rule_list joint.now) first_rule
+        (map location_rule slot.now.world.locations) }
     requires few { (length rows.old.rows + 10000 < 2 ^ 32) × (first_rule + 10000 < 2 ^ 32) }
     requires rows { AreJointRows joint.now rows.old }
     ensures kept { OnOk result (AreJointRows joint.now rows.new) }
-    ensures steps { OnOk result (steps_in joint.now rows.new ≡ steps_in joint.now rows.old ++ location_steps slot.now 0 slot.now.world.locations) }
-    ensures many { OnOk result (length rows.new.rows ≡ length rows.old.rows + length slot.now.world.locations) }
+    ensures steps { OnOk result (steps_in joint.now rows.new ≡ steps_in joint.now rows.old
+        ++ location_steps slot.now 0 slot.now.world.locations) }
+    ensures many { OnOk result (length rows.new.rows ≡ length rows.old.rows
+        + length slot.now.world.locations) }
 {
     let world = slot.world;
     let first_location = slot.first_place + world.regions.len() as u32;
@@ -134,8 +142,10 @@ fn add_slot<R: Ruling>(
     requires few { (length rows.old.rows + 30000 < 2 ^ 32) × (first_rule + 30000 < 2 ^ 32) }
     requires rows { AreJointRows joint.now rows.old }
     ensures kept { OnOk result (AreJointRows joint.now rows.new) }
-    ensures steps { OnOk result (steps_in joint.now rows.new ≡ steps_in joint.now rows.old ++ slot_steps slot.now) }
-    ensures many { OnOk result (length rows.new.rows ≡ length rows.old.rows + length (slot_rules slot.now)) }
+    ensures steps { OnOk result (steps_in joint.now rows.new ≡ steps_in joint.now rows.old
+        ++ slot_steps slot.now) }
+    ensures many { OnOk result (length rows.new.rows ≡ length rows.old.rows
+        + length (slot_rules slot.now)) }
 {
     let world = slot.world;
     add_first(joint, rows, index, slot)?;

@@ -1,7 +1,7 @@
 ghost use Rattle.std.specs.Prelude.{◌≡◌, ◌+◌, ◌≤◌, length};
 ghost use Rattle.mw_rules.specs.Holds.{bag_of};
 ghost use Rattle.mw_multi.specs.Steps.{rule_list};
-ghost use Rattle.mw_reach.specs.Goals.{unmet_goal as unmet_slot};
+ghost use Rattle.mw_reach.specs.Goals as plain;
 ghost use Rattle.mw_reach.specs.Reached.{IsMadeFor, KeepsRules, counts_in, places_in};
 
 use crate::build::rule_count;
@@ -22,7 +22,8 @@ pub fn unmet_goal_by<R: Ruling, L: Ledger>(
 ) -> Option<u16>
     requires rules { R.stands_for rules.now (rule_list joint.now) }
     requires reached { IsMadeFor joint.now reached.now }
-    ensures slot { result ≡ unmet_slot joint.now (bag_of (counts_in reached.now)) (places_in reached.now) }
+    ensures slot { result ≡ plain.unmet_goal joint.now (bag_of (counts_in reached.now))
+        (places_in reached.now) }
     ensures steps { steps.new ≤ steps.old + length joint.now.slots }
 {
     let done = reached.work.done.as_slice();
@@ -44,7 +45,8 @@ fn count_and_ask<L: Ledger>(blank: Blank, joint: &Joint, reached: &Reached) -> O
     requires parts { (blank.parts ≡ L.parts) × (blank.parts ≡ 1) }
     requires reached { IsMadeFor joint.now reached.now }
     requires rules { KeepsRules joint.now reached.now }
-    ensures { result ≡ unmet_slot joint.now (bag_of (counts_in reached.now)) (places_in reached.now) }
+    ensures { result ≡ plain.unmet_goal joint.now (bag_of (counts_in reached.now))
+        (places_in reached.now) }
 {
     let mut steps = Steps::<L>::new(blank);
     match &reached.trees {
@@ -58,7 +60,8 @@ fn count_and_ask<L: Ledger>(blank: Blank, joint: &Joint, reached: &Reached) -> O
 pub fn unmet_goal(joint: &Joint, reached: &Reached) -> Option<u16>
     requires reached { IsMadeFor joint.now reached.now }
     requires rules { KeepsRules joint.now reached.now }
-    ensures { result ≡ unmet_slot joint.now (bag_of (counts_in reached.now)) (places_in reached.now) }
+    ensures { result ≡ plain.unmet_goal joint.now (bag_of (counts_in reached.now))
+        (places_in reached.now) }
 {
     count_and_ask::<Brand>(Blank::new(1), joint, reached)
 }

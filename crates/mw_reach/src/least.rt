@@ -27,9 +27,12 @@ fn make_least<R: Ruling, L: Ledger>(
     requires placed { IsPlacedFor joint.now placed.now }
     requires into { IsWorkFor joint.now into.old }
     ensures kept { IsWorkFor joint.now into.new }
-    ensures least { IsLeast (steps_of joint.now) (bag_of base.now) placed.now (places_of into.new.done.items) }
-    ensures counts { (i : ℕ) → bag_of into.new.counts.items i ≡ bag_with (bag_of base.now) placed.now (places_of into.new.done.items) i }
-    ensures steps { steps.new ≤ steps.old + asks_allowed (steps_of joint.now) placed.now into.new.done.items }
+    ensures least { IsLeast (steps_of joint.now) (bag_of base.now) placed.now
+        (places_of into.new.done.items) }
+    ensures counts { (i : ℕ) → bag_of into.new.counts.items i
+        ≡ bag_with (bag_of base.now) placed.now (places_of into.new.done.items) i }
+    ensures steps { steps.new ≤ steps.old
+        + asks_allowed (steps_of joint.now) placed.now into.new.done.items }
 {
     reach_rows(
         joint,
@@ -62,8 +65,10 @@ pub fn reach_by<R: Ruling, L: Ledger>(
     ensures kept { IsMadeFor joint.now into.new }
     ensures rules { KeepsRules joint.now into.old → KeepsRules joint.now into.new }
     ensures least { IsLeast (steps_of joint.now) (bag_of base.now) placed.now (places_in into.new) }
-    ensures counts { (i : ℕ) → bag_of (counts_in into.new) i ≡ bag_with (bag_of base.now) placed.now (places_in into.new) i }
-    ensures steps { steps.new ≤ steps.old + asks_allowed (steps_of joint.now) placed.now (flags_in into.new) }
+    ensures counts { (i : ℕ) → bag_of (counts_in into.new) i
+        ≡ bag_with (bag_of base.now) placed.now (places_in into.new) i }
+    ensures steps { steps.new ≤ steps.old
+        + asks_allowed (steps_of joint.now) placed.now (flags_in into.new) }
 {
     make_least(joint, rules, base, placed, &mut into.work, steps);
 }
@@ -84,8 +89,10 @@ pub fn reach_counted<L: Ledger>(
     ensures kept { IsMadeFor joint.now into.new }
     ensures rules { KeepsRules joint.now into.new }
     ensures least { IsLeast (steps_of joint.now) (bag_of base.now) placed.now (places_in into.new) }
-    ensures counts { (i : ℕ) → bag_of (counts_in into.new) i ≡ bag_with (bag_of base.now) placed.now (places_in into.new) i }
-    ensures steps { steps.new ≤ steps.old + asks_allowed (steps_of joint.now) placed.now (flags_in into.new) }
+    ensures counts { (i : ℕ) → bag_of (counts_in into.new) i
+        ≡ bag_with (bag_of base.now) placed.now (places_in into.new) i }
+    ensures steps { steps.new ≤ steps.old
+        + asks_allowed (steps_of joint.now) placed.now (flags_in into.new) }
 {
     match &into.trees {
         Some(trees) => make_least(joint, trees, base, placed, &mut into.work, steps),
@@ -110,7 +117,8 @@ fn count_and_reach<L: Ledger>(
     ensures kept { IsMadeFor joint.now into.new }
     ensures rules { KeepsRules joint.now into.new }
     ensures least { IsLeast (steps_of joint.now) (bag_of base.now) placed.now (places_in into.new) }
-    ensures counts { (i : ℕ) → bag_of (counts_in into.new) i ≡ bag_with (bag_of base.now) placed.now (places_in into.new) i }
+    ensures counts { (i : ℕ) → bag_of (counts_in into.new) i
+        ≡ bag_with (bag_of base.now) placed.now (places_in into.new) i }
 {
     let mut steps = Steps::<L>::new(blank);
     reach_counted(joint, base, placed, into, &mut steps);
@@ -125,7 +133,8 @@ pub fn reach(joint: &Joint, base: &Bag, placed: &Placed, into: &mut Reached)
     ensures kept { IsMadeFor joint.now into.new }
     ensures rules { KeepsRules joint.now into.new }
     ensures least { IsLeast (steps_of joint.now) (bag_of base.now) placed.now (places_in into.new) }
-    ensures counts { (i : ℕ) → bag_of (counts_in into.new) i ≡ bag_with (bag_of base.now) placed.now (places_in into.new) i }
+    ensures counts { (i : ℕ) → bag_of (counts_in into.new) i
+        ≡ bag_with (bag_of base.now) placed.now (places_in into.new) i }
 {
     count_and_reach::<Brand>(Blank::new(1), joint, base, placed, into);
 }

@@ -14,7 +14,8 @@ use std::alloc::Global;
 pub(crate) fn work_of<R: Ruling>(alloc: Global, joint: &Joint, rules: &R) -> Result<Work, Memory>
     requires rules { R.stands_for rules.now (rule_list joint.now) }
     ensures for_joint { IfOk result (IsWorkFor joint.now) }
-    ensures empty { IfOk result (λ work. work.done.items ≡ replicate (place_total joint.now.slots) false) }
+    ensures empty { IfOk result (λ work. work.done.items
+        ≡ replicate (place_total joint.now.slots) false) }
 {
     let rows = rows_of(alloc, joint, rules)?;
     let places = joint.place_count() as usize;

@@ -42,7 +42,8 @@ impl Table {
     /// One more number for a key; `Memory` where memory ran out.
     pub fn note(&mut self, key: usize, number: u32) -> Result<(), Memory>
         requires { key < length self.old }
-        ensures noted { OnOk result (self.new ≡ slice_set self.old key (numbers_at self.old key ++ number ∷ [])) }
+        ensures noted { OnOk result (self.new
+            ≡ slice_set self.old key (numbers_at self.old key ++ number ∷ [])) }
     {
         self.entries[key].push(number)
     }

@@ -12,7 +12,8 @@ use mw_rules::Named;
 fn note_items(table: &mut Table, first: u32, items: &[u32], number: u32) -> Result<(), Memory>
     requires few { length table.old < 2 ^ 32 }
     requires items { All (λ i. first + i < length table.old) items.now }
-    ensures { OnOk result (IsNoted table.old table.new number (λ k. times_in k (shifted first items.now))) }
+    ensures { OnOk result (IsNoted table.old table.new number
+        (λ k. times_in k (shifted first items.now))) }
 {
     for &item in items {
         table.note((first + item) as usize, number)?;
@@ -23,7 +24,8 @@ fn note_items(table: &mut Table, first: u32, items: &[u32], number: u32) -> Resu
 /// Notes a number for a place, but not for the place where the step starts.
 fn note_other(table: &mut Table, start: u32, place: u32, number: u32) -> Result<(), Memory>
     requires { place < length table.old }
-    ensures { OnOk result (IsNoted table.old table.new number (but_at start (λ k. one_if (nat_eq place k)))) }
+    ensures { OnOk result (IsNoted table.old table.new number
+        (but_at start (λ k. one_if (nat_eq place k)))) }
 {
     if place == start {
         return Ok(());
@@ -42,7 +44,8 @@ fn note_places(
 ) -> Result<(), Memory>
     requires few { length table.old < 2 ^ 32 }
     requires places { All (λ p. first + p < length table.old) places.now }
-    ensures { OnOk result (IsNoted table.old table.new number (but_at start (λ k. times_in k (shifted first places.now)))) }
+    ensures { OnOk result (IsNoted table.old table.new number
+        (but_at start (λ k. times_in k (shifted first places.now)))) }
 {
     for &place in places {
         note_other(table, start, first + place, number)?;
@@ -61,7 +64,9 @@ fn note_start(
     requires few { length table.old < 2 ^ 32 }
     requires start { start < length table.old }
     requires places { All (λ p. first + p < length table.old) places.now }
-    ensures { OnOk result (IsNoted table.old table.new number (λ k. one_if (nat_eq start k) + but_at start (λ j. times_in j (shifted first places.now)) k)) }
+    ensures { OnOk result (IsNoted table.old table.new number
+        (λ k. one_if (nat_eq start k) + but_at start
+        (λ j. times_in j (shifted first places.now)) k)) }
 {
     table.note(start as usize, number)?;
     note_places(table, start, first, places, number)?;
@@ -71,9 +76,12 @@ fn note_start(
 /// Adds a step of a slot that starts nowhere. After `Memory` the rows are of no use.
 pub(crate) fn add_origin(rows: &mut Rows, slot: u32, to: u32) -> Result<(), Memory>
     requires few { length rows.old.rows < 2 ^ 32 }
-    ensures rows { OnOk result (rows.new.rows ≡ rows.old.rows ++ record { slot = slot; start = None; to = to } ∷ []) }
-    ensures origins { OnOk result (rows.new.origins ≡ rows.old.origins ++ length rows.old.rows ∷ []) }
-    ensures sizes { OnOk result ((length rows.new.by_place ≡ length rows.old.by_place) × (length rows.new.by_item ≡ length rows.old.by_item)) }
+    ensures rows { OnOk result (rows.new.rows ≡ rows.old.rows
+        ++ record { slot = slot; start = None; to = to } ∷ []) }
+    ensures origins { OnOk result (rows.new.origins ≡ rows.old.origins
+        ++ length rows.old.rows ∷ []) }
+    ensures sizes { OnOk result ((length rows.new.by_place ≡ length rows.old.by_place)
+        × (length rows.new.by_item ≡ length rows.old.by_item)) }
     ensures watched { OnOk result (AddsStep rows.old rows.new StartsNowhere) }
 {
     let number = rows.rows.len() as u32;
@@ -101,10 +109,13 @@ pub(crate) fn add_step(
     requires start { start.from < length rows.old.by_place }
     requires places { All (λ p. first_place + p < length rows.old.by_place) named.now.places }
     requires items { All (λ i. first_item + i < length rows.old.by_item) named.now.items }
-    ensures rows { OnOk result (rows.new.rows ≡ rows.old.rows ++ record { slot = slot; start = Some start; to = to } ∷ []) }
+    ensures rows { OnOk result (rows.new.rows ≡ rows.old.rows
+        ++ record { slot = slot; start = Some start; to = to } ∷ []) }
     ensures origins { OnOk result (rows.new.origins ≡ rows.old.origins) }
-    ensures sizes { OnOk result ((length rows.new.by_place ≡ length rows.old.by_place) × (length rows.new.by_item ≡ length rows.old.by_item)) }
-    ensures watched { OnOk result (AddsStep rows.old rows.new (StartsThere start.from first_place first_item named.now.items named.now.places)) }
+    ensures sizes { OnOk result ((length rows.new.by_place ≡ length rows.old.by_place)
+        × (length rows.new.by_item ≡ length rows.old.by_item)) }
+    ensures watched { OnOk result (AddsStep rows.old rows.new
+        (StartsThere start.from first_place first_item named.now.items named.now.places)) }
 {
     let number = rows.rows.len() as u32;
     let places = named.places.as_slice();

@@ -1,4 +1,4 @@
-ghost use Rattle.std.specs.Prelude.{◌≡◌, ◌<◌, ◌≤◌, ◌+◌, ◌^◌, ℕ, [], ◌∷◌, None, false, true, length, All, map, slice_index, slice_index_or, slice_set, sum_by};
+ghost use Rattle.std.specs.Prelude.{◌≡◌, ◌<◌, ◌≤◌, ◌+◌, ◌^◌, ℕ, [], ◌∷◌, None, false, true, length, All, map, slice_index, slice_index_or, slice_set};
 ghost use Rattle.mw_rules.specs.Holds.{Bag, Places, bag_of, places_of, holds as rule_holds};
 ghost use Rattle.mw_rules.specs.Rule.{IsWithin};
 ghost use Rattle.mw_rules.specs.Ruling.{rule_at};
@@ -35,7 +35,8 @@ fn add(place: u32, placed: &Placed, done: &mut [bool], counts: &mut [u32])
     requires new { places_of done.old place ≡ false }
     requires room { HasRoom placed.now done.old counts.old }
     ensures place { done.new ≡ slice_set done.old place true }
-    ensures counts { (i : ℕ) → bag_of counts.new i ≡ bag_of counts.old i + times_in i (numbers_at placed.now place) }
+    ensures counts { (i : ℕ) → bag_of counts.new i ≡ bag_of counts.old i
+        + times_in i (numbers_at placed.now place) }
 {
     done[place as usize] = true;
     count_items(placed.at(place), counts);
@@ -54,11 +55,16 @@ pub(crate) fn holds<R: Ruling, L: Ledger>(
     requires rules { R.stands_for rules.now (rule_list joint.now) }
     requires slot { slot < length joint.now.slots }
     requires rule { rule < length (rule_list joint.now) }
-    requires places { (slot_at joint.now slot).first_place + slot_places (slot_at joint.now slot) ≤ length done.now }
-    requires items { (slot_at joint.now slot).first_item + slot_items (slot_at joint.now slot) ≤ length counts.now }
-    requires within { IsWithin (slot_items (slot_at joint.now slot)) (slot_places (slot_at joint.now slot)) (rule_at (rule_list joint.now) rule) }
+    requires places { (slot_at joint.now slot).first_place + slot_places (slot_at joint.now slot)
+        ≤ length done.now }
+    requires items { (slot_at joint.now slot).first_item + slot_items (slot_at joint.now slot)
+        ≤ length counts.now }
+    requires within { IsWithin (slot_items (slot_at joint.now slot))
+        (slot_places (slot_at joint.now slot)) (rule_at (rule_list joint.now) rule) }
     ensures steps { steps.new ≡ steps.old + 1 }
-    ensures answer { result ≡ rule_holds (rule_at (rule_list joint.now) rule) (λ i. bag_of counts.now ((slot_at joint.now slot).first_item + i)) (λ p. places_of done.now ((slot_at joint.now slot).first_place + p)) }
+    ensures answer { result ≡ rule_holds (rule_at (rule_list joint.now) rule)
+        (λ i. bag_of counts.now ((slot_at joint.now slot).first_item + i))
+        (λ p. places_of done.now ((slot_at joint.now slot).first_place + p)) }
 {
     let slot = &joint.slots.as_slice()[slot as usize];
     let world = slot.world;
@@ -81,7 +87,8 @@ fn is_open<R: Ruling, L: Ledger>(
     requires rules { R.stands_for rules.now (rule_list joint.now) }
     requires row { RowFits joint.now (length done.now) (length counts.now) row.now }
     ensures steps { steps.new ≤ steps.old + 1 }
-    ensures answer { result ≡ step_is_open (step_of joint.now row.now) (bag_of counts.now) (places_of done.now) }
+    ensures answer { result ≡ step_is_open (step_of joint.now row.now) (bag_of counts.now)
+        (places_of done.now) }
 {
     match row.start {
         None => true,
@@ -109,7 +116,8 @@ fn ask<R: Ruling, L: Ledger>(
     requires tables { (length listed.old ≡ length done.now) × (length queue.old ≡ length done.now) }
     requires space { len + missing listed.old ≡ length listed.old }
     ensures steps { steps.new ≤ steps.old + 1 }
-    ensures woken { Wakes (step_of joint.now row.now ∷ []) (bag_of counts.now) (places_of done.now) listed.old queue.old len listed.new queue.new result }
+    ensures woken { Wakes (step_of joint.now row.now ∷ []) (bag_of counts.now)
+        (places_of done.now) listed.old queue.old len listed.new queue.new result }
 {
     let to = row.to as usize;
     if listed[to] || !is_open(joint, rules, row, done, counts, steps) {
@@ -139,7 +147,9 @@ fn wake<R: Ruling, L: Ledger>(
     requires tables { (length listed.old ≡ length done.now) × (length queue.old ≡ length done.now) }
     requires space { len + missing listed.old ≡ length listed.old }
     ensures steps { steps.new ≤ steps.old + length numbers.now }
-    ensures woken { Wakes (steps_at (map (step_of joint.now) rows.now) numbers.now) (bag_of counts.now) (places_of done.now) listed.old queue.old len listed.new queue.new result }
+    ensures woken { Wakes (steps_at (map (step_of joint.now) rows.now) numbers.now)
+        (bag_of counts.now) (places_of done.now) listed.old queue.old len listed.new queue.new
+        result }
 {
     let mut len = len;
     for &number in numbers {
@@ -177,7 +187,9 @@ fn wake_items<R: Ruling, L: Ledger>(
     requires tables { (length listed.old ≡ length done.now) × (length queue.old ≡ length done.now) }
     requires space { len + missing listed.old ≡ length listed.old }
     ensures steps { steps.new ≤ steps.old + length (numbers_of rows.now.by_item items.now) }
-    ensures woken { Wakes (steps_at (steps_in joint.now rows.now) (numbers_of rows.now.by_item items.now)) (bag_of counts.now) (places_of done.now) listed.old queue.old len listed.new queue.new result }
+    ensures woken { Wakes (steps_at (steps_in joint.now rows.now)
+        (numbers_of rows.now.by_item items.now)) (bag_of counts.now)
+        (places_of done.now) listed.old queue.old len listed.new queue.new result }
 {
     let mut len = len;
     for &item in items {
@@ -196,7 +208,8 @@ fn list_origin(row: &Row, listed: &mut [bool], queue: &mut [u32], len: usize) ->
     requires queue { length queue.old ≡ length listed.old }
     requires space { len + missing listed.old ≡ length listed.old }
     ensures space { result + missing listed.new ≡ length listed.new }
-    ensures woken { (step : Step) (bag : Bag) (done : Places) → step.to ≡ row.now.to → step_is_open step bag done ≡ true
+    ensures woken { (step : Step) (bag : Bag) (done : Places) → step.to ≡ row.now.to
+        → step_is_open step bag done ≡ true
         → Wakes (step ∷ []) bag done listed.old queue.old len listed.new queue.new result }
 {
     let to = row.to as usize;
@@ -215,7 +228,8 @@ fn begin(rows: &[Row], origins: &[u32], listed: &mut [bool], queue: &mut [u32]) 
     requires queue { length queue.old ≡ length listed.old }
     requires space { missing listed.old ≡ length listed.old }
     ensures { (joint : Joint) (bag : Bag) (done : Places)
-        → Wakes (steps_at (map (step_of joint) rows.now) origins.now) bag done listed.old queue.old 0 listed.new queue.new result }
+        → Wakes (steps_at (map (step_of joint) rows.now) origins.now) bag done listed.old queue.old
+        0 listed.new queue.new result }
 {
     let mut len = 0;
     for &number in origins {
@@ -240,7 +254,8 @@ fn visit<R: Ruling, L: Ledger>(
 ) -> usize
     requires rules { R.stands_for rules.now (rule_list joint.now) }
     requires rows { AreRows joint.now (length done.old) (length counts.old) rows.now }
-    requires tables { (length listed.old ≡ length done.old) × (length queue.old ≡ length done.old) × (length placed.now ≡ length done.old) }
+    requires tables { (length listed.old ≡ length done.old) × (length queue.old ≡ length done.old)
+        × (length placed.now ≡ length done.old) }
     requires items { LiesWithin (length counts.old) placed.now }
     requires place { place < length done.old }
     requires new { places_of done.old place ≡ false }
@@ -249,8 +264,9 @@ fn visit<R: Ruling, L: Ledger>(
     ensures steps { steps.new ≤ steps.old + cost_at rows.now placed.now place }
     ensures done { done.new ≡ slice_set done.old place true }
     ensures working { (base : Bag) (head : ℕ) → head < len → slice_index queue.old head ≡ place
-        → IsWorking (steps_in joint.now rows.now) base placed.now done.old counts.old listed.old queue.old head len
-        → IsWorking (steps_in joint.now rows.now) base placed.now done.new counts.new listed.new queue.new (head + 1) result }
+        → IsWorking (steps_in joint.now rows.now) base placed.now done.old counts.old listed.old
+        queue.old head len → IsWorking (steps_in joint.now rows.now) base placed.now done.new
+        counts.new listed.new queue.new (head + 1) result }
 {
     add(place, placed, done, counts);
     let table = rows.rows.as_slice();
@@ -280,15 +296,19 @@ fn take_next<R: Ruling, L: Ledger>(
 ) -> usize
     requires rules { R.stands_for rules.now (rule_list joint.now) }
     requires rows { AreRows joint.now (length done.old) (length counts.old) rows.now }
-    requires tables { (length listed.old ≡ length done.old) × (length queue.old ≡ length done.old) × (length placed.now ≡ length done.old) }
+    requires tables { (length listed.old ≡ length done.old) × (length queue.old ≡ length done.old)
+        × (length placed.now ≡ length done.old) }
     requires items { LiesWithin (length counts.old) placed.now }
     requires waits { head < len }
     requires entries { AreListed listed.old queue.old len }
     requires room { HasRoom placed.now done.old counts.old }
     requires space { len + missing listed.old ≡ length listed.old }
-    ensures steps { steps.new + paid rows.now placed.now done.old ≤ steps.old + paid rows.now placed.now done.new }
-    ensures working { (base : Bag) → IsWorking (steps_in joint.now rows.now) base placed.now done.old counts.old listed.old queue.old head len
-        → IsWorking (steps_in joint.now rows.now) base placed.now done.new counts.new listed.new queue.new (head + 1) result }
+    ensures steps { steps.new + paid rows.now placed.now done.old ≤ steps.old
+        + paid rows.now placed.now done.new }
+    ensures working { (base : Bag) → IsWorking
+        (steps_in joint.now rows.now) base placed.now done.old counts.old listed.old queue.old head
+        len → IsWorking (steps_in joint.now rows.now) base placed.now done.new counts.new listed.new
+        queue.new (head + 1) result }
 {
     let place = queue[head];
     if done[place as usize] {
@@ -314,15 +334,20 @@ pub(crate) fn reach_rows<R: Ruling, L: Ledger>(
 )
     requires rules { R.stands_for rules.now (rule_list joint.now) }
     requires rows { AreRows joint.now (length done.old) (length base.now) rows.now }
-    requires tables { (length listed.old ≡ length done.old) × (length queue.old ≡ length done.old) × (length placed.now ≡ length done.old) }
+    requires tables { (length listed.old ≡ length done.old) × (length queue.old ≡ length done.old)
+        × (length placed.now ≡ length done.old) }
     requires counts { length counts.old ≡ length base.now }
     requires items { LiesWithin (length base.now) placed.now }
-    requires few { sum_by length placed.now < 2 ^ 31 }
     requires small { All (λ n. n < 2 ^ 31) base.now }
-    ensures steps { steps.new ≤ steps.old + asks_allowed (steps_in joint.now rows.now) placed.now done.new }
-    ensures least { IsLeast (steps_in joint.now rows.now) (bag_of base.now) placed.now (places_of done.new) }
-    ensures counts { (i : ℕ) → bag_of counts.new i ≡ bag_with (bag_of base.now) placed.now (places_of done.new) i }
+    ensures steps { steps.new ≤ steps.old
+        + asks_allowed (steps_in joint.now rows.now) placed.now done.new }
+    ensures least { IsLeast (steps_in joint.now rows.now) (bag_of base.now) placed.now
+        (places_of done.new) }
+    ensures counts { (i : ℕ) → bag_of counts.new i
+        ≡ bag_with (bag_of base.now) placed.now (places_of done.new) i }
 {
+    // Asking for the length makes known what the table keeps.
+    let _ = placed.len();
     done.fill(false);
     listed.fill(false);
     counts.copy_from_slice(base);

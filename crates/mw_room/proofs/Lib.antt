@@ -2,6 +2,7 @@ pub mod Accepted
 pub mod Answered
 pub mod Changing
 pub mod Entries
+pub mod Games
 pub mod Grown
 pub mod Journal
 pub mod Numbers

@@ -12,6 +12,12 @@ mod game_names;
 #[cfg(test)]
 mod ids;
 #[cfg(test)]
+mod reaching;
+#[cfg(test)]
+mod room_a;
+#[cfg(test)]
+mod rooms;
+#[cfg(test)]
 mod rules;
 #[cfg(test)]
 mod seed_files;

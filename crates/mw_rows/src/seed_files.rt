@@ -1,10 +1,8 @@
+use crate::room_a::ROOM_A;
 use mw_json::{kind_word, path_words};
 use mw_multidata::{DataRefusal, RoomTables, read, write};
 use std::alloc::Global;
 use std::test::Fail;
-
-const ROOM_A: &str =
-    r#"{"format":"mw-multidata-1","games":{"G":{"item_name_to_id":{"Boots":5,"Coin":8,"Map":9,"Sword":7},"location_name_to_id":{"A1":101,"A2":102,"B1":201}}},"locations":[[1,101,7,2,1],[1,102,8,1,0],[2,201,9,1,2]],"seed_name":"A","server":{"collect":"goal","hint_cost":10,"location_check_points":1,"password":"","release":"goal","remaining":"goal"},"slots":[{"game":"G","names":["Ann"],"start":[[5,0]]},{"game":"G","names":["Bob"],"start":[]}],"spheres":[],"teams":1}"#;
 
 /// The kind and the path of a file's refusal, or `accepted`.
 fn answer(alloc: Global, text: &str) -> Result<String, Fail> {

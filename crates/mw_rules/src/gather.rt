@@ -58,7 +58,8 @@ pub(crate) fn gather_places(rule: &Rule, into: &mut Vec<u32>) -> Result<(), Memo
 /// Adds the places in the rules, in their order.
 #[cycle(gather_places)]
 fn gather_places_of(rules: &[Rule], into: &mut Vec<u32>) -> Result<(), Memory>
-    ensures { OnOk result (into.new.items ≡ into.old.items ++ places_in_all (rules_view rules.now)) }
+    ensures { OnOk result (into.new.items ≡ into.old.items
+        ++ places_in_all (rules_view rules.now)) }
 {
     for rule in rules {
         gather_places(rule, into)?;

@@ -44,7 +44,8 @@ fn eval_all(rules: &[Rule], counts: &[u32], places: &[bool]) -> bool
 #[cycle(eval)]
 fn eval_some(rules: &[Rule], counts: &[u32], places: &[bool]) -> bool
     requires { AreWithin (length counts.now) (length places.now) (rules_view rules.now) }
-    ensures { result ≡ some_holds (rules_view rules.now) (bag_of counts.now) (places_of places.now) }
+    ensures { result ≡ some_holds (rules_view rules.now) (bag_of counts.now)
+        (places_of places.now) }
 {
     for rule in rules {
         if eval(rule, counts, places) {

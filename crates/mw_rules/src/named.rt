@@ -31,7 +31,8 @@ impl Named {
 /// The items that the rule names, each once, ascending.
 fn items_of(alloc: Global, rule: &Rule) -> Result<List<u32>, Memory>
     ensures ascend { IfOk result (λ items. IsStrictlyIncreasing items) }
-    ensures named { IfOk result (λ items. (i : ℕ) → is_among items i ≡ is_among (items_in (view rule.now)) i) }
+    ensures named { IfOk result (λ items. (i : ℕ)
+        → is_among items i ≡ is_among (items_in (view rule.now)) i) }
 {
     let mut items = Vec::new(alloc);
     gather_items(rule, &mut items)?;
@@ -41,7 +42,8 @@ fn items_of(alloc: Global, rule: &Rule) -> Result<List<u32>, Memory>
 /// The places that the rule names, each once, ascending.
 fn places_of(alloc: Global, rule: &Rule) -> Result<List<u32>, Memory>
     ensures ascend { IfOk result (λ places. IsStrictlyIncreasing places) }
-    ensures named { IfOk result (λ places. (p : ℕ) → is_among places p ≡ is_among (places_in (view rule.now)) p) }
+    ensures named { IfOk result (λ places. (p : ℕ)
+        → is_among places p ≡ is_among (places_in (view rule.now)) p) }
 {
     let mut places = Vec::new(alloc);
     gather_places(rule, &mut places)?;

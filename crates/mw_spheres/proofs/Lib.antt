@@ -6,6 +6,6 @@ pub mod Only
 pub mod Playing
 pub mod Reaching
 pub mod Showing
-pub mod Single
+pub mod OnePlaythrough
 pub mod Sparing
 pub mod Taking

@@ -1,10 +1,9 @@
 -- Tables with what stands at some places alone.
-use Rattle.std.proofs.Common.{◌≡◌, ◌≢◌, ℕ, suc, ◌<◌, ◌≤◌, Bool, true, false, ◌⊎◌, List, [], ◌∷◌, length, set, All, refl, sym, ap, subst, ◌∙◌, inl, inr, arith, get_or-set_same, get_or-set_other, length-set}
-use Rattle.std.specs.Prelude.{sum_by, nat_lt, if◌then◌else◌}
+use Rattle.std.proofs.Common.{◌≡◌, ◌≢◌, ℕ, ◌<◌, ◌≤◌, Bool, true, false, ◌⊎◌, List, [], length, set, All, refl, sym, ap, subst, ◌∙◌, inl, inr, arith, get_or-set_same, get_or-set_other, length-set}
+use Rattle.std.specs.Prelude.{nat_lt, if◌then◌else◌}
 use Rattle.std.proofs.lemmas.Bool.{cases_eq, cases_lt}
 use Rattle.std.proofs.lemmas.List.{get_or_default, get_or_past, same_lists}
 use Rattle.std.proofs.lemmas.List.FromFn.{get_or-map-range_with_len, length-map-range_with_len}
-use Rattle.std.proofs.lemmas.List.Sums.{sum_by-cons}
 use Rattle.mw_rules.specs.Holds.{places_of}
 use Rattle.mw_multi.specs.Joint.{Joint, item_total}
 use Rattle.mw_multi.specs.Placement.{numbers_at}
@@ -59,20 +58,9 @@ put_back table p h =
 
 -- ---- for reach
 
-sum-le : (a b : Placed) → ((k : ℕ) → length (numbers_at a k) ≤ length (numbers_at b k)) → sum_by length a ≤ sum_by length b
-sum-le [] b h = omega arith
-sum-le (x ∷ a) [] h = omega (arith, sum_by-cons length x a, h 0, sum-le a [] (λ k. h (suc k)))
-sum-le (x ∷ a) (y ∷ b) h = omega (arith, sum_by-cons length x a, sum_by-cons length y b, h 0, sum-le a b (λ k. h (suc k)))
-
 -- each place has what it has in the other table, or nothing
 abbrev pub HasFewer : Placed → Placed → Type 0
 HasFewer table other = (p : ℕ) → (numbers_at table p ≡ []) ⊎ (numbers_at table p ≡ numbers_at other p)
-
-fewer-le : (xs ys : List ℕ) → ((xs ≡ []) ⊎ (xs ≡ ys)) → length xs ≤ length ys
-fewer-le xs ys e = elim e [
-  | inl none ↦ let empty = ap length none in omega arith
-  | inr same ↦ let equal = ap length same in omega arith
-]
 
 fewer_items : (items : ℕ) (xs ys : List ℕ) → ((xs ≡ []) ⊎ (xs ≡ ys)) → All (λ i. i < items) ys → All (λ i. i < items) xs
 fewer_items items xs ys e all = elim e [
@@ -85,17 +73,7 @@ fewer_fits joint table other size fewer fits = record {
   size = size ∙ fits.size;
   items = λ p d h. rw (get_or_default table p d [] h)
       (fewer_items (item_total joint.slots) (numbers_at table p) (numbers_at other p) (fewer p) (fits.items p [] (omega arith)));
-  few = omega (arith, sum-le table other (λ k. fewer-le (numbers_at table k) (numbers_at other k) (fewer k)), fits.few);
 }
-
-cleared_fewer : (table : Placed) (p : ℕ) → p < length table → HasFewer (set table p []) table
-cleared_fewer table p h q = elim (cases_eq q p) [
-  | inl here ↦ inl (ap (numbers_at (set table p [])) here ∙ get_or-set_same table p [] [] h)
-  | inr other ↦ inr (at_cleared table p q other)
-]
-
-pub cleared_fits : (joint : Joint) (table : Placed) (p : ℕ) → p < length table → IsPlacedFor joint table → IsPlacedFor joint (set table p [])
-cleared_fits joint table p h fits = fewer_fits joint (set table p []) table (length-set table p []) (cleared_fewer table p h) fits
 
 only_fewer : (b : Bool) (xs : List ℕ) → ((if b then xs else []) ≡ []) ⊎ ((if b then xs else []) ≡ xs)
 only_fewer true xs = inr refl

@@ -1,26 +1,27 @@
 -- What a playthrough needs.
 use Rattle.std.proofs.Common.{◌≡◌, ◌≢◌, ℕ, suc, ◌≤◌, Bool, true, false, cond, eqb, List, [], ◌∷◌, length, get_or, map, set, All, Option, None, Some, refl, sym, ap, subst, ◌∙◌, inl, inr, arith, get_or-set_same, get_or-set_other, length-set}
-use Rattle.std.specs.Prelude.{filter, if◌then◌else◌}
-use Rattle.std.proofs.lemmas.Bool.{true≢false, cases_Bool, cases_eq, cases_lt, or_cases, eqb-true}
+use Rattle.std.specs.Prelude.{◌&&◌, not, filter, if◌then◌else◌}
+use Rattle.std.proofs.lemmas.Bool.{true≢false, and_parts, cases_Bool, cases_eq, cases_lt, or_cases, eqb-true}
+use Rattle.std.proofs.lemmas.Bool.Decides.{Decides-eqb}
 use Rattle.std.proofs.lemmas.List.{get_or_past}
+use Rattle.std.proofs.lemmas.List.FromFn.{get_or-map-range_with_len, length-map-range_with_len}
 use Rattle.std.proofs.lemmas.List.Elements.{All-nil, All-cons}
 use Rattle.mw_model.specs.Seed.{Spot}
 use Rattle.mw_rules.specs.Holds.{Places, places_of}
 use Rattle.mw_rules.specs.Laws.{HasNoLess}
 use Rattle.mw_rules.specs.Names.{is_among}
-use Rattle.mw_multi.specs.Joint.{Joint}
+use Rattle.mw_multi.specs.Joint.{Slot, Joint}
 use Rattle.mw_multi.specs.Bags.{start_count}
-use Rattle.mw_multi.specs.Placement.{numbers_at}
+use Rattle.mw_multi.specs.Placement.{Put, numbers_at}
 use Rattle.mw_multi.specs.Steps.{steps_of}
 use Rattle.mw_reach.specs.Reach.{Placed, times_in, found_from, bag_with}
 use Rattle.mw_reach.specs.Goals.{IsBeatable}
 use Rattle.mw_reach.proofs.Beating.{goals_more, least_of_beatable}
 use Rattle.mw_reach.proofs.SameLeast.{Closed-less}
-use Rattle.mw_spheres.specs.Spots.{spot_place, placement_table}
+use Rattle.mw_spheres.specs.Spots.{spot_place, is_listed, placement_table}
 use Rattle.mw_spheres.specs.Spheres.{listed}
 use Rattle.mw_spheres.specs.Unmet.{IsFirstUnmet}
-use Rattle.mw_spheres.specs.Playthrough.{only, after, IsThinned, is_kept}
-use Rattle.mw_spheres.specs.Laws.{NoneToSpare}
+use Rattle.mw_spheres.specs.Playthrough.{only, after, IsThinned, is_kept, IsPlaythrough, other_at, others, NoneToSpare}
 use Rattle.mw_spheres.proofs.Only.{only-at}
 use Rattle.mw_spheres.proofs.Playing.{all_listed}
 
@@ -120,12 +121,43 @@ all_pass : (f : Spot → Bool) (spheres : List (List Spot)) → All (All (λ s. 
 all_pass f [] = All-nil (All (λ s. f s ≡ true))
 all_pass f (s ∷ spheres) = All-cons (All (λ s. f s ≡ true)) (filter f s) (map (filter f) spheres) (passes f s) (all_pass f spheres)
 
-pub none_to_spare : NoneToSpare
-none_to_spare joint puts spheres played is i d h beatable =
+kept_entries : (slots : List Slot) (kept : List Bool) (entries : List Spot) (p : ℕ) → All (λ s. is_kept slots kept s ≡ true) entries → is_listed slots entries p ≡ true → places_of kept p ≡ true
+kept_entries slots kept [] p all e = absurd (true≢false (sym e))
+kept_entries slots kept (s ∷ entries) p all e = elim (or_cases (eqb (spot_place slots s) p) (is_listed slots entries p) e) [
+  | inl here ↦ subst (λ q. places_of kept q ≡ true) (eqb-true (spot_place slots s) p here) (all 0 s (omega arith))
+  | inr later ↦ kept_entries slots kept entries p (λ k d h. all (suc k) d (omega (arith, h))) later
+]
+
+either : (b : Bool) (xs : List ℕ) → xs ≡ [] → (if b then xs else []) ≡ []
+either true xs e = e
+either false xs e = refl
+
+others-at : (slots : List Slot) (table : Placed) (entries : List Spot) (place p : ℕ) → numbers_at (others slots table entries place) p ≡ other_at slots table entries place p
+others-at slots table entries place p = elim (cases_lt p (length table)) [
+  | inl within ↦ get_or-map-range_with_len (other_at slots table entries place) 0 (length table) p p [] within (omega arith)
+  | inr past ↦
+      get_or_past (others slots table entries place) p [] (omega (arith, length-map-range_with_len (other_at slots table entries place) 0 (length table)))
+      ∙ sym (either (is_listed slots entries p && not (eqb p place)) (numbers_at table p) (get_or_past table p [] past))
+]
+
+not_there : (p place : ℕ) → not (eqb p place) ≡ true → p ≢ place
+not_there p place e same = let equal = (Decides-eqb p place).1 same in cc
+
+pub none_to_spare : (joint : Joint) (puts : List Put) (spheres played : List (List Spot)) → IsPlaythrough joint puts spheres played → NoneToSpare joint puts played
+none_to_spare joint puts spheres played is = λ i d h beatable.
+    let slots = joint.slots in
+    let table = placement_table joint puts in
     let spot = get_or (listed played) i d in
-    let p = spot_place joint.slots spot in
-    let kept : places_of is.kept p ≡ true =
-    all_listed (λ s. is_kept joint.slots is.kept s ≡ true) played (subst (All (All (λ s. is_kept joint.slots is.kept s ≡ true))) (sym is.is) (all_pass (is_kept joint.slots is.kept) spheres)) i d h in
-    let places : List ℕ = map (spot_place joint.slots) (listed spheres) in
-    let among : is_among places p ≡ true = sym (is.entries p) ∙ thinned_shrinks joint (placement_table joint puts) places is.first is.kept p is.thinned kept in
-    needed joint (placement_table joint puts) places is.first is.kept p is.thinned among kept beatable
+    let p = spot_place slots spot in
+    let all_kept : All (λ s. is_kept slots is.kept s ≡ true) (listed played) =
+    all_listed (λ s. is_kept slots is.kept s ≡ true) played (subst (All (All (λ s. is_kept slots is.kept s ≡ true))) (sym is.is) (all_pass (is_kept slots is.kept) spheres)) in
+    let kept : places_of is.kept p ≡ true = all_kept i d h in
+    let places : List ℕ = map (spot_place slots) (listed spheres) in
+    let among : is_among places p ≡ true = sym (is.entries p) ∙ thinned_shrinks joint table places is.first is.kept p is.thinned kept in
+    let stay : (q : ℕ) → (is_listed slots (listed played) q && not (eqb q p)) ≡ true → places_of (set is.kept p false) q ≡ true = λ q e.
+    let parts = and_parts (is_listed slots (listed played) q) (not (eqb q p)) e in
+    get_or-set_other is.kept p q false false (not_there q p parts.1) ∙ kept_entries slots is.kept (listed played) q all_kept parts.0 in
+    needed joint table places is.first is.kept p is.thinned among kept
+    (beatable_more joint (others slots table (listed played) p) (only (set is.kept p false) table)
+    (λ j q. rw (others-at slots table (listed played) p q, only-at (set is.kept p false) table q)
+    (kept_more j (is_listed slots (listed played) q && not (eqb q p)) (places_of (set is.kept p false) q) (numbers_at table q) (stay q))) beatable)

@@ -80,15 +80,6 @@ gathered_none slots table w taken bag = record {
 
 module _ (slots : List Slot) (table : Placed) (w : Places) (first : List Bool) (start : List ℕ) (spots : List Spot) (bound : ℕ) (taken : List Bool) (bag : List ℕ) (found : List Spot)
     (before : Gathered slots table w first start spots bound taken bag found) where
-  pub gathered_later : (more : ℕ) → bound ≤ more → Gathered slots table w first start spots more taken bag found
-  gathered_later more h = record {
-    due = before.due;
-    flags = before.flags;
-    later = λ p l. before.later p (omega arith);
-    counts = before.counts;
-    fewer = before.fewer;
-  }
-
   module _ (spot : Spot) (h : bound ≤ spot_place slots spot) where
     -- whether the location is due can be asked of what is taken now
     due_now : ((w (spot_place slots spot) && holds_progression table (spot_place slots spot)) && not (places_of taken (spot_place slots spot))) ≡ is_due slots table w (places_of first) spot

@@ -1,4 +1,4 @@
--- Locations taken into a sphere one after the other.
+-- For proofs alone: locations taken into a sphere one after the other.
 use Rattle.std.specs.Prelude.{◌≡◌, ℕ, ◌+◌, ◌<◌, ◌≤◌, ◌^◌, ◌||◌, List, Bool, filter, length}
 use Rattle.mw_model.specs.Seed.{Spot}
 use Rattle.mw_rules.specs.Holds.{Places, bag_of, places_of}

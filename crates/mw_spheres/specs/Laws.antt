@@ -1,12 +1,12 @@
 -- What is true of spheres and playthroughs.
-use Rattle.std.specs.Prelude.{◌≡◌, List, All, slice_set, false}
+use Rattle.std.specs.Prelude.{◌≡◌, List}
 use Rattle.mw_model.specs.Seed.{Spot}
 use Rattle.mw_multi.specs.Joint.{Joint, IsJoint}
 use Rattle.mw_multi.specs.Placement.{Put, IsPlacement}
 use Rattle.mw_reach.specs.Goals.{IsBeatable}
-use Rattle.mw_spheres.specs.Spots.{spot_place, placement_table}
-use Rattle.mw_spheres.specs.Spheres.{IsSpheres, listed, Shows}
-use Rattle.mw_spheres.specs.Playthrough.{only, IsPlaythrough}
+use Rattle.mw_spheres.specs.Spots.{placement_table}
+use Rattle.mw_spheres.specs.Spheres.{IsSpheres, Shows}
+use Rattle.mw_spheres.specs.Playthrough.{IsPlaythrough}
 
 -- a placement has one list of spheres
 abbrev pub SpheresAreOne : Type 0
@@ -16,7 +16,6 @@ SpheresAreOne = (joint : Joint) (puts : List Put) (a b : List (List Spot)) → I
 abbrev pub SpheresShow : Type 0
 SpheresShow = (joint : Joint) (puts : List Put) (spheres : List (List Spot)) → IsJoint joint → IsPlacement joint puts → IsBeatable joint (placement_table joint puts) → IsSpheres joint puts spheres → Shows joint puts spheres
 
--- without any one entry of a playthrough the others alone leave a goal unmet
-abbrev pub NoneToSpare : Type 0
-NoneToSpare = (joint : Joint) (puts : List Put) (spheres played : List (List Spot)) (is : IsPlaythrough joint puts spheres played)
-    → All (λ spot. IsBeatable joint (only (slice_set is.kept (spot_place joint.slots spot) false) (placement_table joint puts)) → ⊥) (listed played)
+-- a placement with its spheres has one playthrough
+abbrev pub PlaythroughsAreOne : Type 0
+PlaythroughsAreOne = (joint : Joint) (puts : List Put) (spheres a b : List (List Spot)) → IsPlaythrough joint puts spheres a → IsPlaythrough joint puts spheres b → a ≡ b

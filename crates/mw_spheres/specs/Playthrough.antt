@@ -1,11 +1,12 @@
 -- The playthrough: the entries of the spheres that the goals need.
-use Rattle.std.specs.Prelude.{◌≡◌, ℕ, List, [], ◌∷◌, Option, Some, None, Bool, false, filter, length, map, slice_set, if◌then◌else◌}
+use Rattle.std.specs.Prelude.{◌≡◌, ℕ, List, [], ◌∷◌, Option, Some, None, Bool, ◌&&◌, not, false, All, filter, length, map, nat_eq, slice_set, if◌then◌else◌}
 use Rattle.std.specs.List.{range_with_len}
 use Rattle.mw_model.specs.Seed.{Spot}
 use Rattle.mw_rules.specs.Holds.{places_of}
 use Rattle.mw_multi.specs.Joint.{Slot, Joint, place_total}
 use Rattle.mw_multi.specs.Placement.{Put, numbers_at}
 use Rattle.mw_reach.specs.Reach.{Placed}
+use Rattle.mw_reach.specs.Goals.{IsBeatable}
 use Rattle.mw_spheres.specs.Spots.{spot_place, is_listed, placement_table}
 use Rattle.mw_spheres.specs.Spheres.{listed}
 use Rattle.mw_spheres.specs.Unmet.{IsFirstUnmet}
@@ -46,3 +47,18 @@ pub record IsPlaythrough (joint : Joint) (puts : List Put) (spheres played : Lis
   pub kept : List Bool
   pub thinned : IsThinned joint (placement_table joint puts) (map (spot_place joint.slots) (listed spheres)) first kept
   pub is : played ≡ map (filter (is_kept joint.slots kept)) spheres
+
+-- ---- nothing to spare
+
+-- what stands at one of these entries other than the one at a place
+abbrev pub other_at : List Slot → Placed → List Spot → ℕ → ℕ → List ℕ
+other_at slots table entries place p = if is_listed slots entries p && not (nat_eq p place) then numbers_at table p else []
+
+-- what stands at these entries, but for the one at a place, as the whole placement
+abbrev pub others : List Slot → Placed → List Spot → ℕ → Placed
+others slots table entries place = map (other_at slots table entries place) (range_with_len 0 (length table))
+
+-- without any one of the entries the others alone leave a goal unmet
+abbrev pub NoneToSpare : Joint → List Put → List (List Spot) → Type 0
+NoneToSpare joint puts played =
+    All (λ spot. IsBeatable joint (others joint.slots (placement_table joint puts) (listed played) (spot_place joint.slots spot)) → ⊥) (listed played)

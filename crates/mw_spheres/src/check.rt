@@ -1,7 +1,8 @@
 ghost use Rattle.std.specs.Prelude.{◌≡◌, ◌≤◌, [], All, OnOk, length, slice_index_or};
 ghost use Rattle.mw_multi.specs.Placement.{IsPlacement};
 ghost use Rattle.mw_spheres.specs.Spheres.{IsSpheres};
-ghost use Rattle.mw_spheres.specs.Check.{same_spot, compare_places as places_compared, compare_spheres as spheres_compared, IsChecked};
+ghost use Rattle.mw_spheres.specs.Check as plain;
+ghost use Rattle.mw_spheres.specs.Check.{same_spot, IsChecked};
 
 use crate::refusal::CheckRefusal;
 use crate::sphere::spheres_of;
@@ -21,7 +22,7 @@ fn same(a: Spot, b: Spot) -> bool
 
 /// Compares the places of the sphere of this number, from 0.
 fn compare_places(sphere: u64, claimed: &[Spot], due: &[Spot]) -> Result<(), CheckRefusal>
-    ensures { result ≡ places_compared sphere claimed.now due.now }
+    ensures { result ≡ plain.compare_places sphere claimed.now due.now }
 {
     for (index, &place) in claimed.iter().enumerate() {
         if index >= due.len() || !same(place, due[index]) {
@@ -49,7 +50,7 @@ fn sphere_at(spheres: &[List<Spot>], number: usize) -> &[Spot]
 
 /// Compares the spheres from the first on.
 fn compare_spheres(claimed: &[List<Spot>], due: &[List<Spot>]) -> Result<(), CheckRefusal>
-    ensures { result ≡ spheres_compared 0 claimed.now due.now }
+    ensures { result ≡ plain.compare_spheres 0 claimed.now due.now }
 {
     for (number, sphere) in claimed.iter().enumerate() {
         compare_places(number as u64, sphere.as_slice(), sphere_at(due, number))?;

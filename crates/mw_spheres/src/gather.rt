@@ -1,7 +1,7 @@
 ghost use Rattle.std.specs.Prelude.{◌≡◌, ◌<◌, ◌≤◌, ◌+◌, ◌^◌, ◌++◌, ◌∷◌, ◌&&◌, [], ℕ, List, Bool, Some, OnOk, All, false, true, length, not, slice_get, slice_set};
-ghost use Rattle.mw_model.specs.Seed.{Spot as PlainSpot};
+ghost use Rattle.mw_model.specs.Seed as plain;
 ghost use Rattle.mw_rules.specs.Holds.{bag_of, places_of};
-ghost use Rattle.mw_multi.specs.Joint.{Slot as PlainSlot, place_total, slot_places};
+ghost use Rattle.mw_multi.specs.Joint.{Slot, place_total, slot_places};
 ghost use Rattle.mw_multi.specs.Steps.{location_place};
 ghost use Rattle.mw_multi.specs.Placement.{numbers_at};
 ghost use Rattle.mw_reach.specs.Reach.{times_in};
@@ -34,7 +34,8 @@ fn take(table: &Placed, place: u32, taken: &mut [bool], bag: &mut Bag)
     ensures room { HasRoom table.now taken.new bag.new }
     ensures size { length bag.new ≡ length bag.old }
     ensures taken { taken.new ≡ slice_set taken.old place true }
-    ensures counts { (i : ℕ) → bag_of bag.new i ≡ bag_of bag.old i + times_in i (numbers_at table.now place) }
+    ensures counts { (i : ℕ) → bag_of bag.new i ≡ bag_of bag.old i
+        + times_in i (numbers_at table.now place) }
 {
     taken[place as usize] = true;
     add_items(table.at(place), bag);
@@ -44,7 +45,8 @@ fn take(table: &Placed, place: u32, taken: &mut [bool], bag: &mut Bag)
 fn is_due(table: &Placed, reached: &Reached, place: u32, taken: &[bool]) -> bool
     requires place { place < length table.now }
     requires size { length taken.now ≡ length table.now }
-    ensures { result ≡ ((places_in reached.now place && holds_progression table.now place) && not (places_of taken.now place)) }
+    ensures { result ≡ ((places_in reached.now place && holds_progression table.now place)
+        && not (places_of taken.now place)) }
 {
     reached.has(place) && !table.at(place).is_empty() && !taken[place as usize]
 }
@@ -64,9 +66,12 @@ fn visit(
     requires room { HasRoom table.now taken.old bag.old }
     ensures room { HasRoom table.now taken.new bag.new }
     ensures size { length bag.new ≡ length bag.old }
-    ensures gathered { OnOk result ((first : List Bool) (start : List ℕ) (spots : List PlainSpot) (bound : ℕ) → bound ≤ spot_place joint.now.slots spot
-        → Gathered joint.now.slots table.now (places_in reached.now) first start spots bound taken.old bag.old sphere.old
-        → Gathered joint.now.slots table.now (places_in reached.now) first start (spots ++ spot ∷ []) (spot_place joint.now.slots spot + 1) taken.new bag.new sphere.new) }
+    ensures gathered { OnOk result ((first : List Bool) (start : List ℕ) (spots : List plain.Spot)
+        (bound : ℕ) → bound ≤ spot_place joint.now.slots spot
+        → Gathered joint.now.slots table.now
+        (places_in reached.now) first start spots bound taken.old bag.old sphere.old
+        → Gathered joint.now.slots table.now (places_in reached.now) first start
+        (spots ++ spot ∷ []) (spot_place joint.now.slots spot + 1) taken.new bag.new sphere.new) }
 {
     let place = place_of(joint, spot);
     if !is_due(table, reached, place, taken) {
@@ -92,10 +97,13 @@ pub(crate) fn visit_slot(
     requires room { HasRoom table.now taken.old bag.old }
     ensures room { HasRoom table.now taken.new bag.new }
     ensures size { length bag.new ≡ length bag.old }
-    ensures gathered { OnOk result ((s : PlainSlot) (first : List Bool) (start : List ℕ) (spots : List PlainSpot) (bound : ℕ) → slice_get joint.now.slots before ≡ Some s
-        → bound ≤ s.first_place
-        → Gathered joint.now.slots table.now (places_in reached.now) first start spots bound taken.old bag.old sphere.old
-        → Gathered joint.now.slots table.now (places_in reached.now) first start (spots ++ slot_spots (before + 1) s) (s.first_place + slot_places s) taken.new bag.new sphere.new) }
+    ensures gathered { OnOk result ((s : Slot) (first : List Bool) (start : List ℕ)
+        (spots : List plain.Spot) (bound : ℕ) → slice_get joint.now.slots before ≡ Some s
+        → bound ≤ s.first_place → Gathered joint.now.slots table.now
+        (places_in reached.now) first start spots bound taken.old bag.old sphere.old
+        → Gathered joint.now.slots table.now (places_in reached.now) first start
+        (spots ++ slot_spots (before + 1) s)
+        (s.first_place + slot_places s) taken.new bag.new sphere.new) }
 {
     let slot = &joint.slots.as_slice()[before];
     let world = slot.world;

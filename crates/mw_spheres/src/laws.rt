@@ -1,5 +1,5 @@
 //! What is true of spheres and playthroughs, whatever the joint and the placement are.
-ghost use Rattle.mw_spheres.specs.Laws.{SpheresAreOne, SpheresShow, NoneToSpare};
+ghost use Rattle.mw_spheres.specs.Laws.{SpheresAreOne, SpheresShow, PlaythroughsAreOne};
 
 /// A placement has one list of spheres.
 pub fn spheres_are_one()
@@ -12,7 +12,7 @@ pub fn spheres_show()
     ensures { SpheresShow }
 {}
 
-/// No entry of a playthrough can be left out alone with each goal still met.
-pub fn none_to_spare()
-    ensures { NoneToSpare }
+/// A placement with its spheres has one playthrough.
+pub fn playthroughs_are_one()
+    ensures { PlaythroughsAreOne }
 {}

@@ -13,7 +13,7 @@ mod thin;
 mod unmet;
 
 pub use check::check_spheres;
-pub use laws::{none_to_spare, spheres_are_one, spheres_show};
+pub use laws::{playthroughs_are_one, spheres_are_one, spheres_show};
 pub use played::playthrough;
 pub use refusal::CheckRefusal;
 pub use sphere::spheres;

@@ -3,7 +3,7 @@ ghost use Rattle.mw_rules.specs.Holds.{places_of};
 ghost use Rattle.mw_multi.specs.Placement.{IsPlacement};
 ghost use Rattle.mw_spheres.specs.Spots.{IsSpot, spot_place};
 ghost use Rattle.mw_spheres.specs.Spheres.{IsSpheres, listed};
-ghost use Rattle.mw_spheres.specs.Playthrough.{is_kept, IsPlaythrough};
+ghost use Rattle.mw_spheres.specs.Playthrough.{is_kept, IsPlaythrough, NoneToSpare};
 
 use crate::place::place_of;
 use crate::table::table_for;
@@ -16,7 +16,8 @@ use std::alloc::Global;
 /// Adds the places of a sphere.
 fn push_places(joint: &Joint, sphere: &[Spot], places: &mut Vec<u32>) -> Result<(), Memory>
     requires { All (IsSpot joint.now.slots) sphere.now }
-    ensures { OnOk result (places.new.items ≡ places.old.items ++ map (spot_place joint.now.slots) sphere.now) }
+    ensures { OnOk result (places.new.items ≡ places.old.items
+        ++ map (spot_place joint.now.slots) sphere.now) }
 {
     for &spot in sphere {
         places.push(place_of(joint, spot))?;
@@ -27,7 +28,8 @@ fn push_places(joint: &Joint, sphere: &[Spot], places: &mut Vec<u32>) -> Result<
 /// The places of all spheres.
 fn all_places(alloc: Global, joint: &Joint, spheres: &[List<Spot>]) -> Result<Vec<u32>, Memory>
     requires { All (All (IsSpot joint.now.slots)) spheres.now }
-    ensures { IfOk result (λ places. places.items ≡ map (spot_place joint.now.slots) (listed spheres.now)) }
+    ensures { IfOk result (λ places. places.items
+        ≡ map (spot_place joint.now.slots) (listed spheres.now)) }
 {
     let mut places = Vec::new(alloc);
     for sphere in spheres {
@@ -73,7 +75,8 @@ fn kept_spheres(
     spheres: &[List<Spot>],
 ) -> Result<SphereList, Memory>
     requires { All (All (IsSpot joint.now.slots)) spheres.now }
-    ensures { IfOk result (λ found. found ≡ map (filter (is_kept joint.now.slots kept.now)) spheres.now) }
+    ensures { IfOk result (λ found. found
+        ≡ map (filter (is_kept joint.now.slots kept.now)) spheres.now) }
 {
     let mut found = List::new(alloc);
     for sphere in spheres {
@@ -84,8 +87,8 @@ fn kept_spheres(
 
 /// The entries of a placement's spheres that the goals need: the entries are asked from the last to the first, and one is
 /// dropped where each goal holds with the starting items and the other kept entries as the whole placement. Each entry
-/// stays in its sphere, so a sphere may be left empty: an entry's number, from 0, is its list's. `Memory` where memory
-/// ran out.
+/// stays in its sphere, so a sphere may be left empty: an entry's number, from 0, is its list's. No entry that is left can be
+/// left out alone with each goal still met. `Memory` where memory ran out.
 pub fn playthrough(
     alloc: Global,
     joint: &Joint,
@@ -94,7 +97,8 @@ pub fn playthrough(
 ) -> Result<SphereList, Memory>
     requires placement { IsPlacement joint.now placement.now }
     requires spheres { IsSpheres joint.now placement.now spheres.now }
-    ensures { IfOk result (IsPlaythrough joint.now placement.now spheres.now) }
+    ensures played { IfOk result (IsPlaythrough joint.now placement.now spheres.now) }
+    ensures spare { IfOk result (NoneToSpare joint.now placement.now) }
 {
     let mut table = table_for(alloc, joint, placement)?;
     let places = all_places(alloc, joint, spheres.as_slice())?;

@@ -1,5 +1,5 @@
 ghost use Rattle.std.specs.Prelude.{◌≡◌, ◌≤◌, ◌+◌, ◌++◌, ℕ, [], List, IfOk, length, sum_by};
-ghost use Rattle.mw_model.specs.Seed.{Spot as PlainSpot};
+ghost use Rattle.mw_model.specs.Seed as plain;
 ghost use Rattle.mw_multi.specs.Joint.{IsJoint};
 ghost use Rattle.mw_multi.specs.Placement.{IsPlacement, IsPlaced};
 ghost use Rattle.mw_reach.specs.Reached.{IsBagFor, IsPlacedFor, IsMadeFor, KeepsRules};
@@ -34,8 +34,12 @@ fn next_sphere(
     ensures rules { KeepsRules joint.now reached.new }
     ensures bag { IsBagFor joint.now bag.new }
     ensures room { HasRoom table.now taken.new bag.new }
-    ensures sphere { IfOk result (λ sphere. (earlier : List PlainSpot) → IsInHand joint.now table.now earlier taken.old bag.old → IsSphere joint.now table.now earlier sphere) }
-    ensures hand { IfOk result (λ sphere. (earlier : List PlainSpot) → IsInHand joint.now table.now earlier taken.old bag.old → IsInHand joint.now table.now (earlier ++ sphere) taken.new bag.new) }
+    ensures sphere { IfOk result (λ sphere. (earlier : List plain.Spot)
+        → IsInHand joint.now table.now earlier taken.old bag.old
+        → IsSphere joint.now table.now earlier sphere) }
+    ensures hand { IfOk result (λ sphere. (earlier : List plain.Spot)
+        → IsInHand joint.now table.now earlier taken.old bag.old
+        → IsInHand joint.now table.now (earlier ++ sphere) taken.new bag.new) }
     ensures fewer { IfOk result (λ sphere. missing taken.new + length sphere ≡ missing taken.old) }
 {
     let slots = joint.slots.len();

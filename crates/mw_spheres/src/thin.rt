@@ -2,7 +2,7 @@ ghost use Rattle.std.specs.Prelude.{◌≡◌, ◌<◌, ◌^◌, ◌++◌, ◌||
 ghost use Rattle.mw_rules.specs.Names.{is_among};
 ghost use Rattle.mw_rules.specs.Holds.{places_of};
 ghost use Rattle.mw_multi.specs.Bags.{start_count, IsBagOf};
-ghost use Rattle.mw_reach.specs.Reach.{Placed as PlainPlaced};
+ghost use Rattle.mw_reach.specs.Reach as plain;
 ghost use Rattle.mw_reach.specs.Reached.{IsPlacedFor, IsMadeFor, KeepsRules};
 ghost use Rattle.mw_spheres.specs.Playthrough.{only, IsAsked, IsThinned};
 
@@ -28,7 +28,7 @@ pub(crate) fn clear_others(alloc: Global, table: &mut Placed, kept: &[bool])
     requires few { length table.old < 2 ^ 32 }
     ensures { table.new ≡ only kept.now table.old }
 {
-    for place in 0..kept.len() {
+    for place in 0..table.len() {
         if !kept[place] {
             table.swap(place as u32, &mut List::new(alloc));
         }
@@ -54,8 +54,11 @@ fn ask(
     ensures table { IsPlacedFor joint.now table.new }
     ensures reached { IsMadeFor joint.now reached.new }
     ensures rules { KeepsRules joint.now reached.new }
-    ensures asked { (full : PlainPlaced) → table.old ≡ only kept.old full → (table.new ≡ only kept.new full) × IsAsked joint.now full place kept.old kept.new }
+    ensures asked { (full : plain.Placed) → table.old ≡ only kept.old full
+        → (table.new ≡ only kept.new full) × IsAsked joint.now full place kept.old kept.new }
 {
+    // Asking for the length makes known what the table keeps.
+    let _ = table.len();
     let mut numbers = List::new(alloc);
     table.swap(place, &mut numbers);
     match first_unmet(joint, start, table, reached) {
@@ -80,7 +83,8 @@ pub(crate) fn thin(
     requires rules { KeepsRules joint.now reached.old }
     requires places { All (λ p. p < length table.old) places.now }
     requires size { length kept.old ≡ length table.old }
-    ensures { (full : PlainPlaced) → table.old ≡ only kept.old full → IsThinned joint.now full places.now kept.old kept.new }
+    ensures { (full : plain.Placed) → table.old ≡ only kept.old full
+        → IsThinned joint.now full places.now kept.old kept.new }
 {
     let mut left = places.len();
     while left > 0 {

@@ -14,15 +14,16 @@ use Rattle.mw_multi.specs.Names.{IsName, NamesDiffer, IdsDiffer}
 use Rattle.mw_multi.specs.RulesKept.{RuleKept}
 use Rattle.mw_multi.specs.World.{Item, Entrance, Location, PoolEntry, place_count}
 use Rattle.mw_multi.specs.WorldKept.{IsIdOrNone, item_name, item_id, is_event, has_id, entrance_name, EntranceKept, location_name, location_id, event_fits, LocationKept, copies, EntryKept, is_filler, IsWorld}
-use Rattle.mw_tables.specs.Names.{demand, index_of, index_of_id, is_at, stands_first, id_stands_first, names_once}
+use Rattle.mw_multi.specs.Indexes.{index_of_name, index_of_id}
+use Rattle.mw_tables.specs.Names.{demand, is_at, stands_first, id_stands_first, names_once}
 use Rattle.mw_tables.specs.Raw.{RawEntrance, RawLocation, RawEntry, RawWorld}
 use Rattle.mw_tables.specs.RuleNames.{region_named, item_such, raw_location_name, rule_named}
 use Rattle.mw_tables.specs.Small.{IsSmall}
-use Rattle.mw_tables.specs.WorldNames.{item_named, items_named, raw_entrance_name, entrance_named, entrances_named, raw_location_id, known_event, event_named, location_named, locations_named, entry_named, entries_named, may_fill, NamedWorld, world_names}
+use Rattle.mw_tables.specs.WorldNames.{item_named, items_named, raw_entrance_name, entrance_named, entrances_named, raw_location_id, event_named, location_named, locations_named, entry_named, entries_named, may_fill, NamedWorld, world_names}
 use Rattle.mw_tables.specs.WorldOf.{resolved}
 use Rattle.mw_tables.specs.WorldShape.{entry_count, world_shape_at}
 use Rattle.mw_tables.proofs.Distinct.{FirstAt, FirstIdAt, names_differ, ids_differ}
-use Rattle.mw_tables.proofs.Passing.{after, within}
+use Rattle.mw_json.proofs.Passing.{after, within}
 use Rattle.mw_tables.proofs.RuleResolved.{places, region_within, Passes, such_passes, rule_resolved}
 use Rattle.mw_tables.proofs.Shaped.{RawEntranceKept, EventStands, RawLocationKept, RawEntryKept, IsShaped, world_shaped, shaped_is_small}
 
@@ -32,8 +33,8 @@ is_there : (i : ℕ) (found : Option ℕ) → is_at i found ≡ true → found �
 is_there i (Some k) h = let same : k ≡ i = grind (arith, common_steps) in ap Some same
 is_there i None h = cc
 
-name_first : (kind : Kind) (names : List (List ℕ)) (i : ℕ) (name : List ℕ) (b : Bool) → stands_first names i name ≡ b → IfOk (demand kind b) (λ _. index_of names name ≡ Some i)
-name_first kind names i name true e = is_there i (index_of names name) e
+name_first : (kind : Kind) (names : List (List ℕ)) (i : ℕ) (name : List ℕ) (b : Bool) → stands_first names i name ≡ b → IfOk (demand kind b) (λ _. index_of_name names name ≡ Some i)
+name_first kind names i name true e = is_there i (index_of_name names name) e
 name_first kind names i name false e = tt
 
 -- what an id has to be to stand first
@@ -56,7 +57,7 @@ id_and_others whole i None ids h k = k
 once : (whole : List (List ℕ)) (i : ℕ) (ns : List (List ℕ)) → IfOk (names_once whole i ns) (λ _. FirstAt whole i ns)
 once whole i [] = tt
 once whole i (n ∷ ns) =
-    let First : Unit {0} → Type 0 = λ _. index_of whole n ≡ Some i in
+    let First : Unit {0} → Type 0 = λ _. index_of_name whole n ≡ Some i in
     after First (λ _. FirstAt whole i (n ∷ ns)) (under (Index i) (demand DuplicateName (stands_first whole i n))) _ (within First (Index i) (demand DuplicateName (stands_first whole i n)) (name_first DuplicateName whole i n (stands_first whole i n) refl)) (λ first h.
     IfOk-weaker (names_once whole (i + 1) ns) (λ _. FirstAt whole (i + 1) ns) (λ _. FirstAt whole i (n ∷ ns)) (λ others k. (h, k)) (once whole (i + 1) ns))
 
@@ -66,12 +67,12 @@ abbrev ItemsFirst : RawWorld → ℕ → List Item → Unit {0} → Type 0
 ItemsFirst w i xs t = FirstAt (map item_name w.items) i (map item_name xs) × FirstIdAt (map item_id w.items) i (map item_id xs)
 
 abbrev ItemFirst : RawWorld → ℕ → Item → Unit {0} → Type 0
-ItemFirst w i x t = (index_of (map item_name w.items) x.name ≡ Some i) × IdFirst (map item_id w.items) i x.id
+ItemFirst w i x t = (index_of_name (map item_name w.items) x.name ≡ Some i) × IdFirst (map item_id w.items) i x.id
 
 item_first : (w : RawWorld) (i : ℕ) (x : Item) → IfOk (item_named w i x) (ItemFirst w i x)
 unfolding item_named
 item_first w i x =
-    let NameFirst : Unit {0} → Type 0 = λ _. index_of (map item_name w.items) x.name ≡ Some i in
+    let NameFirst : Unit {0} → Type 0 = λ _. index_of_name (map item_name w.items) x.name ≡ Some i in
     let OwnFirst : Unit {0} → Type 0 = λ _. IdFirst (map item_id w.items) i x.id in
     let name = demand DuplicateName (stands_first (map item_name w.items) i x.name) in
     let id = demand DuplicateId (id_stands_first (map item_id w.items) i x.id) in
@@ -95,12 +96,12 @@ record NamedEntranceKept (w : RawWorld) (e : Entrance) : Type 0 where
 record EntranceNamed (w : RawWorld) (i : ℕ) (raw : RawEntrance) (e : Entrance) : Type 0 where
   kept : NamedEntranceKept w e
   same : e.name ≡ raw.name
-  first : index_of (map raw_entrance_name w.entrances) raw.name ≡ Some i
+  first : index_of_name (map raw_entrance_name w.entrances) raw.name ≡ Some i
 
 entrance_keeps : (w : RawWorld) (i : ℕ) (e : RawEntrance) → RawEntranceKept e → IfOk (entrance_named w i e) (EntranceNamed w i e)
 unfolding entrance_named
 entrance_keeps w i e h =
-    let NameFirst : Unit {0} → Type 0 = λ _. index_of (map raw_entrance_name w.entrances) e.name ≡ Some i in
+    let NameFirst : Unit {0} → Type 0 = λ _. index_of_name (map raw_entrance_name w.entrances) e.name ≡ Some i in
     let name = demand DuplicateName (stands_first (map raw_entrance_name w.entrances) i e.name) in
     let Region : ℕ → Type 0 = λ r. r < length w.regions in
     after NameFirst (EntranceNamed w i e) (under (Name (codes "name")) name) _ (within NameFirst (Name (codes "name")) name (name_first DuplicateName (map raw_entrance_name w.entrances) i e.name (stands_first (map raw_entrance_name w.entrances) i e.name) refl)) (λ t first.
@@ -135,11 +136,10 @@ record LocationNamed (w : RawWorld) (i : ℕ) (raw : RawLocation) (l : Location)
   kept : NamedLocationKept w l
   same : l.name ≡ raw.name
   same_id : l.id ≡ raw.id
-  first : index_of (map raw_location_name w.locations) raw.name ≡ Some i
+  first : index_of_name (map raw_location_name w.locations) raw.name ≡ Some i
   id_first : IdFirst (map raw_location_id w.locations) i raw.id
 
-known_event_fits : (w : RawWorld) (name : List ℕ) → IfOk (known_event w name) (λ e. event_fits w.items None e ≡ true)
-unfolding known_event
+known_event_fits : (w : RawWorld) (name : List ℕ) → IfOk (event_named w (Some name)) (λ e. event_fits w.items None e ≡ true)
 known_event_fits w name = after (Passes is_event w) (λ e. event_fits w.items None e ≡ true) (item_such is_event UnknownName w name) _ (such_passes is_event UnknownName w name) (λ i h. h.1)
 
 event_keeps : (w : RawWorld) (id : Option ℤ) (event : Option (List ℕ)) → EventStands id event → IfOk (event_named w event) (λ e. event_fits w.items id e ≡ true)
@@ -151,7 +151,7 @@ event_keeps w None (Some name) h = known_event_fits w name
 location_keeps : (w : RawWorld) (i : ℕ) (l : RawLocation) → RawLocationKept l → IfOk (location_named w i l) (LocationNamed w i l)
 unfolding location_named
 location_keeps w i l h =
-    let NameFirst : Unit {0} → Type 0 = λ _. index_of (map raw_location_name w.locations) l.name ≡ Some i in
+    let NameFirst : Unit {0} → Type 0 = λ _. index_of_name (map raw_location_name w.locations) l.name ≡ Some i in
     let name = demand DuplicateName (stands_first (map raw_location_name w.locations) i l.name) in
     let OwnFirst : Unit {0} → Type 0 = λ _. IdFirst (map raw_location_id w.locations) i l.id in
     let id = demand DuplicateId (id_stands_first (map raw_location_id w.locations) i l.id) in

@@ -1,9 +1,9 @@
 -- Names and ids that each stand at no earlier place are distinct.
-use Rattle.std.proofs.Common.{◌≡◌, ℕ, ℤ, suc, ◌+◌, ◌<◌, List, [], ◌∷◌, ◌++◌, length, Bool, true, false, Option, Some, None, option_map, if◌then◌else◌, refl, ap, subst, arith, length-append}
+use Rattle.std.proofs.Common.{◌≡◌, ℕ, ℤ, suc, ◌+◌, ◌<◌, List, [], ◌∷◌, ◌++◌, length, Bool, true, false, Option, Some, None, option_map, if◌then◌else◌, refl, sym, subst, arith, append_assoc, length-append}
 use Rattle.std.specs.Prelude.{bytes_eq, filter_map}
 use Rattle.std.specs.List.{IsDistinct, AllByRecursion}
 use Rattle.std.specs.Ordering.{int_eq}
-use Rattle.mw_tables.specs.Names.{index_of, index_of_id}
+use Rattle.mw_multi.specs.Indexes.{index_of_name, index_of_id}
 
 -- ---- what a found place says of the ones before it
 
@@ -19,10 +19,10 @@ further false None j n e h = let never : ⊥ = cc in absurd never
 further_id : (found : Option ℕ) (j n : ℕ) → option_map suc found ≡ Some j → suc n < j → (m : ℕ) × (found ≡ Some m) × (n < m)
 further_id found j n e h = further false found j n e h
 
-name_passed : (before : List (List ℕ)) (x : List ℕ) (rest : List (List ℕ)) (q : List ℕ) (j : ℕ) → index_of (before ++ x ∷ rest) q ≡ Some j → length before < j → bytes_eq x q ≡ false
+name_passed : (before : List (List ℕ)) (x : List ℕ) (rest : List (List ℕ)) (q : List ℕ) (j : ℕ) → index_of_name (before ++ x ∷ rest) q ≡ Some j → length before < j → bytes_eq x q ≡ false
 name_passed [] x rest q j e h = not_here (bytes_eq x q) _ j e h
 name_passed (y ∷ before) x rest q j e h =
-    let more = further (bytes_eq y q) (index_of (before ++ x ∷ rest) q) j (length before) e h in
+    let more = further (bytes_eq y q) (index_of_name (before ++ x ∷ rest) q) j (length before) e h in
     name_passed before x rest q more.0 more.1 more.2
 
 id_passed : (before : List (Option ℤ)) (x : ℤ) (rest : List (Option ℤ)) (q : ℤ) (j : ℕ) → index_of_id (before ++ Some x ∷ rest) q ≡ Some j → length before < j → int_eq x q ≡ false
@@ -38,7 +38,7 @@ id_passed (None ∷ before) x rest q j e h =
 
 abbrev pub FirstAt : List (List ℕ) → ℕ → List (List ℕ) → Type 0
 FirstAt whole i [] = Unit {0}
-FirstAt whole i (n ∷ ns) = (index_of whole n ≡ Some i) × FirstAt whole (i + 1) ns
+FirstAt whole i (n ∷ ns) = (index_of_name whole n ≡ Some i) × FirstAt whole (i + 1) ns
 
 abbrev pub FirstIdAt : List (Option ℤ) → ℕ → List (Option ℤ) → Type 0
 FirstIdAt whole i [] = Unit {0}
@@ -58,8 +58,7 @@ ids_apart before x rest i (Some y ∷ ids) h first = (id_passed before x rest y 
 ids_apart before x rest i (None ∷ ids) h first = ids_apart before x rest (i + 1) ids (omega arith) first
 
 pub regroup : {A : Type 0} (front : List A) (x : A) (xs : List A) → front ++ x ∷ xs ≡ (front ++ x ∷ []) ++ xs
-regroup [] x xs = refl
-regroup (y ∷ front) x xs = ap (λ zs. y ∷ zs) (regroup front x xs)
+regroup front x xs = sym (append_assoc front (x ∷ []) xs)
 
 one_longer : {A : Type 0} (front : List A) (x : A) → length front + 1 ≡ length (front ++ x ∷ [])
 one_longer front x = omega (arith, length-append front (x ∷ []))

@@ -1,9 +1,5 @@
 pub mod Accepted
 pub mod Distinct
-pub mod Fronts
-pub mod Indexing
-pub mod Passing
-pub mod PlayerStep
 pub mod PlayersAccepted
 pub mod RawKept
 pub mod Read

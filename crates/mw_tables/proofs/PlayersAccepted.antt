@@ -11,21 +11,20 @@ use Rattle.std.proofs.lemmas.Result.{IfOk-weaker, IfOk-at_ok}
 use Rattle.mw_model.specs.Json.{Json, Items, no_items, item, Members, no_members, member}
 use Rattle.mw_json.specs.Grammar.{Breach, under, number_at, text_at, name_of, name_at, list_at, items_length, list_up_to, object_at, field_at}
 use Rattle.mw_json.specs.Parts.{not_empty, list_of_length}
+use Rattle.mw_json.specs.Readers.{each_from, field_or_at, each_member_at}
 use Rattle.mw_json.specs.Settings.{password_at, remaining_at, permission_at}
 use Rattle.mw_json.specs.declared.refusal.Kind.TheVariants.{WrongKind, TooMany, NameTooLong, DuplicateName}
 use Rattle.mw_json.specs.declared.refusal.Step.TheVariants.{Name, Index}
 use Rattle.mw_multi.specs.Names.{IsName}
 use Rattle.mw_multi.specs.Players.{StartEntry, Player, Players}
 use Rattle.mw_multi.specs.PlayersKept.{RoomKept, StartKept, start_count, OptionsKept, PlayerKept, player_names, IsPlayers}
-use Rattle.mw_tables.specs.Lists.{each_from, field_or}
 use Rattle.mw_tables.specs.Names.{demand}
 use Rattle.mw_tables.specs.PlayersOf.{has_name, names_differ, players_named}
-use Rattle.mw_tables.specs.PlayersShape.{room_at, usual_room, wishes_at, start_entry_at, start_entries, start_inventory_at, options_at, no_options, team_names_at, player_at, players_from, player_list_at, players_shape_at}
-use Rattle.mw_tables.specs.WorldShape.{format_at}
+use Rattle.mw_tables.specs.PlayersShape.{room_at, usual_room, wishes_at, start_entry_at, start_inventory_at, options_at, no_options, team_names_at, player_at, player_list_at, players_shape_at}
+use Rattle.mw_tables.specs.WorldShape.{format_in}
 use Rattle.mw_tables.proofs.Distinct.{regroup}
-use Rattle.mw_tables.proofs.Passing.{past, after, within, where_true, in_field}
-use Rattle.mw_tables.proofs.RawKept.{field_or_kept}
-use Rattle.mw_tables.proofs.Read.{name_of-kept, name_kept, number_kept, each_kept}
+use Rattle.mw_json.proofs.Passing.{past, after, within, where_true, in_field}
+use Rattle.mw_tables.proofs.Read.{name_of-kept, name_kept, number_kept, in_field_or, either, each_kept, each_member_kept}
 
 -- ---- the room
 
@@ -42,16 +41,12 @@ password_kept j = past IsPassword (text_at j) _ (λ s. where_true IsPassword (na
 abbrev IsRemaining : ℕ → Type 0
 IsRemaining n = n ≤ 2
 
-chosen : (b : Bool) (n : ℕ) (other : Result ℕ Breach) → n ≤ 2 → IfOk other IsRemaining → IfOk (if b then Ok n else other) IsRemaining
-chosen true n other h k = h
-chosen false n other h k = k
-
 remaining_kept : (j : Json) → IfOk (remaining_at j) IsRemaining
 unfolding remaining_at
 remaining_kept j = past IsRemaining (text_at j) _ (λ s.
-    chosen (bytes_eq s (codes "disabled")) 0 _ (omega arith)
-    (chosen (bytes_eq s (codes "enabled")) 1 _ (omega arith)
-    (chosen (bytes_eq s (codes "goal")) 2 _ (omega arith) tt)))
+    either IsRemaining (bytes_eq s (codes "disabled")) (Ok 0) _ (omega arith)
+    (either IsRemaining (bytes_eq s (codes "enabled")) (Ok 1) _ (omega arith)
+    (either IsRemaining (bytes_eq s (codes "goal")) (Ok 2) _ (omega arith) tt)))
 
 abbrev IsUpTo : ℕ → ℕ → Type 0
 IsUpTo most n = (0 ≤ n) × (n ≤ most)
@@ -60,12 +55,12 @@ room_kept : (j : Json) → IfOk (room_at j) RoomKept
 unfolding room_at chars
 room_kept j =
     past RoomKept (object_at j) _ (λ ms.
-    after IsPassword RoomKept (field_or (codes "password") [] password_at ms) _ (field_or_kept IsPassword (codes "password") [] password_at ms (omega arith) password_kept) (λ password p.
-    after (IsUpTo 1000) RoomKept (field_or (codes "hint_cost") 10 (number_at 0 1000) ms) _ (field_or_kept (IsUpTo 1000) (codes "hint_cost") 10 (number_at 0 1000) ms (omega arith, omega arith) (number_kept 0 1000)) (λ hint_cost c.
-    after (IsUpTo 1000000) RoomKept (field_or (codes "location_check_points") 1 (number_at 0 1000000) ms) _ (field_or_kept (IsUpTo 1000000) (codes "location_check_points") 1 (number_at 0 1000000) ms (omega arith, omega arith) (number_kept 0 1000000)) (λ points l.
-    past RoomKept (field_or (codes "release") 6 permission_at ms) _ (λ release.
-    past RoomKept (field_or (codes "collect") 6 permission_at ms) _ (λ collect.
-    after IsRemaining RoomKept (field_or (codes "remaining") 2 remaining_at ms) _ (field_or_kept IsRemaining (codes "remaining") 2 remaining_at ms (omega arith) remaining_kept) (λ remaining r.
+    after IsPassword RoomKept (field_or_at (codes "password") [] password_at ms) _ (in_field_or IsPassword (codes "password") [] password_at ms (omega arith) password_kept) (λ password p.
+    after (IsUpTo 1000) RoomKept (field_or_at (codes "hint_cost") 10 (number_at 0 1000) ms) _ (in_field_or (IsUpTo 1000) (codes "hint_cost") 10 (number_at 0 1000) ms (omega arith, omega arith) (number_kept 0 1000)) (λ hint_cost c.
+    after (IsUpTo 1000000) RoomKept (field_or_at (codes "location_check_points") 1 (number_at 0 1000000) ms) _ (in_field_or (IsUpTo 1000000) (codes "location_check_points") 1 (number_at 0 1000000) ms (omega arith, omega arith) (number_kept 0 1000000)) (λ points l.
+    past RoomKept (field_or_at (codes "release") 6 permission_at ms) _ (λ release.
+    past RoomKept (field_or_at (codes "collect") 6 permission_at ms) _ (λ collect.
+    after IsRemaining RoomKept (field_or_at (codes "remaining") 2 remaining_at ms) _ (in_field_or IsRemaining (codes "remaining") 2 remaining_at ms (omega arith) remaining_kept) (λ remaining r.
     record { password = p; hint_cost = c.1; location_check_points = l.1; remaining = r })))))))
 
 usual_kept : RoomKept usual_room
@@ -88,12 +83,6 @@ entry_kept name j =
     after (λ c. (1 ≤ c) × (c ≤ 256)) StartKept (number_at 1 256 j) _ (number_kept 1 256 j) (λ count c.
     record { name = n; low = c.0; high = c.1 }))
 
-entries_kept : (ms : Members) → IfOk (start_entries ms) (All StartKept)
-entries_kept no_members = All-nil StartKept
-entries_kept (member name j ms) =
-    after StartKept (All StartKept) (under (Name name) (start_entry_at name j)) _ (within StartKept (Name name) (start_entry_at name j) (entry_kept name j)) (λ first h.
-    after (All StartKept) (All StartKept) (start_entries ms) _ (entries_kept ms) (λ others k. All-cons StartKept first others h k))
-
 record StartsKept (ss : List StartEntry) : Type 0 where
   each : All StartKept ss
   together : sum_by start_count ss ≤ 256
@@ -105,7 +94,7 @@ starts_kept : (j : Json) → IfOk (start_inventory_at j) StartsKept
 unfolding start_inventory_at
 starts_kept j =
     past StartsKept (object_at j) _ (λ ms.
-    after (All StartKept) StartsKept (start_entries ms) _ (entries_kept ms) (λ ss h.
+    after (All StartKept) StartsKept (each_member_at start_entry_at ms) _ (each_member_kept StartKept start_entry_at entry_kept ms) (λ ss h.
     where_true StartsKept (nat_le (sum_by start_count ss) 256) ss TooMany (λ e. record { each = h; together = few_items (sum_by start_count ss) e })))
 
 options_kept : (j : Json) → IfOk (options_at j) OptionsKept
@@ -113,11 +102,11 @@ unfolding options_at
 options_kept j =
     let Wishes = All (IsName 128) in
     past OptionsKept (object_at j) _ (λ ms.
-    after Wishes OptionsKept (field_or (codes "local_items") [] wishes_at ms) _ (field_or_kept Wishes (codes "local_items") [] wishes_at ms (All-nil (IsName 128)) wishes_kept) (λ local a.
-    after Wishes OptionsKept (field_or (codes "non_local_items") [] wishes_at ms) _ (field_or_kept Wishes (codes "non_local_items") [] wishes_at ms (All-nil (IsName 128)) wishes_kept) (λ non_local b.
-    after Wishes OptionsKept (field_or (codes "exclude_locations") [] wishes_at ms) _ (field_or_kept Wishes (codes "exclude_locations") [] wishes_at ms (All-nil (IsName 128)) wishes_kept) (λ exclude c.
-    after Wishes OptionsKept (field_or (codes "priority_locations") [] wishes_at ms) _ (field_or_kept Wishes (codes "priority_locations") [] wishes_at ms (All-nil (IsName 128)) wishes_kept) (λ priority d.
-    after StartsKept OptionsKept (field_or (codes "start_inventory") [] start_inventory_at ms) _ (field_or_kept StartsKept (codes "start_inventory") [] start_inventory_at ms (record { each = All-nil StartKept; together = omega arith }) starts_kept) (λ start s.
+    after Wishes OptionsKept (field_or_at (codes "local_items") [] wishes_at ms) _ (in_field_or Wishes (codes "local_items") [] wishes_at ms (All-nil (IsName 128)) wishes_kept) (λ local a.
+    after Wishes OptionsKept (field_or_at (codes "non_local_items") [] wishes_at ms) _ (in_field_or Wishes (codes "non_local_items") [] wishes_at ms (All-nil (IsName 128)) wishes_kept) (λ non_local b.
+    after Wishes OptionsKept (field_or_at (codes "exclude_locations") [] wishes_at ms) _ (in_field_or Wishes (codes "exclude_locations") [] wishes_at ms (All-nil (IsName 128)) wishes_kept) (λ exclude c.
+    after Wishes OptionsKept (field_or_at (codes "priority_locations") [] wishes_at ms) _ (in_field_or Wishes (codes "priority_locations") [] wishes_at ms (All-nil (IsName 128)) wishes_kept) (λ priority d.
+    after StartsKept OptionsKept (field_or_at (codes "start_inventory") [] start_inventory_at ms) _ (in_field_or StartsKept (codes "start_inventory") [] start_inventory_at ms (record { each = All-nil StartKept; together = omega arith }) starts_kept) (λ start s.
     record { local_items = a; non_local_items = b; exclude_locations = c; priority_locations = d; start_inventory = s.each; together = s.together }))))))
 
 no_options_kept : OptionsKept no_options
@@ -141,18 +130,11 @@ player_kept teams j =
     past (PlayerKept teams) (object_at j) _ (λ ms.
     after (HasNames teams) (PlayerKept teams) (field_at (codes "names") (team_names_at teams) ms) _ (in_field (HasNames teams) (codes "names") (team_names_at teams) ms (team_names_kept teams)) (λ names n.
     after (IsName 128) (PlayerKept teams) (field_at (codes "world") (name_at 128) ms) _ (in_field (IsName 128) (codes "world") (name_at 128) ms (name_kept 128)) (λ world w.
-    after OptionsKept (PlayerKept teams) (field_or (codes "options") no_options options_at ms) _ (field_or_kept OptionsKept (codes "options") no_options options_at ms no_options_kept options_kept) (λ options o.
+    after OptionsKept (PlayerKept teams) (field_or_at (codes "options") no_options options_at ms) _ (in_field_or OptionsKept (codes "options") no_options options_at ms no_options_kept options_kept) (λ options o.
     record { count = n.0; names = n.1; world = w; options = o }))))
 
 abbrev AreKept : ℕ → ℕ → List Player → Type 0
 AreKept teams count ps = (length ps ≡ count) × All (PlayerKept teams) ps
-
-from_kept : (teams i : ℕ) (js : Items) → IfOk (players_from teams i js) (AreKept teams (items_length js))
-from_kept teams i no_items = (refl, All-nil (PlayerKept teams))
-from_kept teams i (item j js) =
-    after (PlayerKept teams) (AreKept teams (items_length (item j js))) (under (Index i) (player_at teams j)) _ (within (PlayerKept teams) (Index i) (player_at teams j) (player_kept teams j)) (λ first h.
-    after (AreKept teams (items_length js)) (AreKept teams (items_length (item j js))) (players_from teams (i + 1) js) _ (from_kept teams (i + 1) js) (λ others k.
-    (omega (arith, k.0), All-cons (PlayerKept teams) first others h k.1)))
 
 record ListKept (teams : ℕ) (ps : List Player) : Type 0 where
   some_players : 1 ≤ length ps
@@ -169,9 +151,9 @@ players_kept teams j =
     after (λ js. items_length js ≤ 1024) (ListKept teams) (list_up_to 1024 j) _
     (past (λ js. items_length js ≤ 1024) (list_at j) _ (λ js. where_true (λ js. items_length js ≤ 1024) _ js TooMany (λ e. grind (arith, common_steps)))) (λ js h.
     after (λ some. (some ≡ js) × (1 ≤ items_length js)) (ListKept teams) (not_empty js) _ (some_there js) (λ some k.
-    IfOk-weaker (players_from teams 0 some) (AreKept teams (items_length some)) (ListKept teams)
+    IfOk-weaker (each_from (player_at teams) 0 some) (AreKept teams (items_length some)) (ListKept teams)
     (λ ps l. record { some_players = omega (arith, l.0, ap items_length k.0, k.1); few_players = omega (arith, l.0, ap items_length k.0, h); each = l.1 })
-    (from_kept teams 0 some)))
+    (each_kept (PlayerKept teams) (player_at teams) (player_kept teams) 0 some)))
 
 -- ---- the whole
 
@@ -188,9 +170,9 @@ shaped : (j : Json) → IfOk (players_shape_at j) IsShaped
 unfolding players_shape_at
 shaped j =
     past IsShaped (object_at j) _ (λ ms.
-    past IsShaped (field_at (codes "format") (format_at (codes "mw-players-1")) ms) _ (λ format.
-    after IsTeams IsShaped (field_or (codes "teams") 1 (number_at 1 8) ms) _ (field_or_kept IsTeams (codes "teams") 1 (number_at 1 8) ms (omega arith, omega arith) (number_kept 1 8)) (λ teams t.
-    after RoomKept IsShaped (field_or (codes "room") usual_room room_at ms) _ (field_or_kept RoomKept (codes "room") usual_room room_at ms usual_kept room_kept) (λ room r.
+    past IsShaped (format_in (codes "mw-players-1") ms) _ (λ format.
+    after IsTeams IsShaped (field_or_at (codes "teams") 1 (number_at 1 8) ms) _ (in_field_or IsTeams (codes "teams") 1 (number_at 1 8) ms (omega arith, omega arith) (number_kept 1 8)) (λ teams t.
+    after RoomKept IsShaped (field_or_at (codes "room") usual_room room_at ms) _ (in_field_or RoomKept (codes "room") usual_room room_at ms usual_kept room_kept) (λ room r.
     after (ListKept teams) IsShaped (field_at (codes "players") (player_list_at teams) ms) _ (in_field (ListKept teams) (codes "players") (player_list_at teams) ms (players_kept teams)) (λ players p.
     record { some_teams = t.0; few_teams = t.1; room = r; players = p })))))
 

@@ -3,16 +3,17 @@ use Rattle.std.proofs.Common.{◌≡◌, ◌≤◌, ℕ, ◌+◌, ◌&&◌, List
 use Rattle.std.specs.Prelude.{IfOk, bytes_eq, codes, nat_le}
 use Rattle.std.proofs.lemmas.Grind.{common_steps}
 use Rattle.std.proofs.lemmas.Result.{IfOk-weaker}
-use Rattle.mw_model.specs.Json.{Json, null, flag, whole, not_whole, words, many, members, Items, no_items, item, Members, no_members, member, find_member}
-use Rattle.mw_json.specs.Grammar.{Breach, under, refused, number_at, name_at, object_at}
+use Rattle.mw_model.specs.Json.{Json, null, flag, whole, not_whole, words, many, members, Items, no_items, item, Members, no_members, member}
+use Rattle.mw_json.specs.Grammar.{Breach, ◌>>=◌, under, refused, number_at, name_at, object_at, field_at}
+use Rattle.mw_json.specs.Parts.{there}
+use Rattle.mw_json.specs.Readers.{field_or_at}
 use Rattle.mw_json.specs.declared.refusal.Kind.TheVariants.{WrongKind, RuleTooLarge}
 use Rattle.mw_json.specs.declared.refusal.Step.TheVariants.{Name, Index}
 use Rattle.mw_multi.specs.RulesKept.{IsCount}
 use Rattle.mw_tables.specs.Raw.{RawRule, always, never, has, has_all, has_any, has_count, reach_region, reach_location, all_of, some_of, RawRules, no_rules, a_rule, rules_of, nodes, depth}
-use Rattle.mw_tables.specs.Lists.{first_at, field_or}
-use Rattle.mw_tables.specs.RuleShape.{names_at, has_at, has_all_at, has_any_at, has_count_at, region_at, location_at, place_at, can_reach_at, reach_in, count_in, leaf_in, leaf_or, all_or, some_or, there, form_at, rules_under, rules_at, rules_from, rule_at}
-use Rattle.mw_tables.proofs.Passing.{past, after, within, where_true}
-use Rattle.mw_tables.proofs.Read.{name_kept, number_kept, list_kept}
+use Rattle.mw_tables.specs.RuleShape.{names_at, has_at, has_all_at, has_any_at, has_count_at, region_at, location_at, has_member, place_at, reach_at, leaf_in, leaf_or, all_or, some_or, form_at, rules_under, rules_at, rules_from, rule_at}
+use Rattle.mw_json.proofs.Passing.{past, after, within, where_true, in_field}
+use Rattle.mw_tables.proofs.Read.{name_kept, number_kept, list_kept, in_field_or, either}
 use Rattle.mw_multi.specs.Names.{IsName}
 
 -- each list of names and each count in the rule is in its limits
@@ -53,63 +54,48 @@ ListKept rs = AreInLimits (rules_of rs)
 abbrev IsShort : List (List ℕ) → Type 0
 IsShort ns = length ns ≤ 64
 
-module _ {A : Type 0} (P : A → Type 0) where
-  pub first_kept : (found : Option Json) (read : Json → Result A Breach) (next : Result A Breach) → ((j : Json) → IfOk (read j) P) → IfOk next P → IfOk (first_at found read next) P
-  first_kept (Some j) read next h k = h j
-  first_kept None read next h k = k
-
-  pub field_or_kept : (name : List ℕ) (absent : A) (read : Json → Result A Breach) (ms : Members) → P absent → ((j : Json) → IfOk (read j) P) → IfOk (field_or name absent read ms) P
-  field_or_kept name absent read ms here h = first_kept (find_member name ms) (λ j. under (Name name) (read j)) (Ok absent) (λ j. within P (Name name) (read j) (h j)) here
-
 names_short : (j : Json) → IfOk (names_at j) IsShort
 names_short j = IfOk-weaker (names_at j) (λ ns. (length ns ≤ 64) × All (IsName 128) ns) IsShort (λ ns h. h.0) (list_kept (IsName 128) (name_at 128) (name_kept 128) 64 j)
 
 count_kept : (j : Json) → IfOk (number_at 1 10000 j) IsCount
 count_kept j = IfOk-weaker (number_at 1 10000 j) (λ n. (1 ≤ n) × (n ≤ 10000)) IsCount (λ n h. record { low = h.0; high = h.1 }) (number_kept 1 10000 j)
 
-has_kept : (ms : Members) (j : Json) → IfOk (has_at ms j) LeafKept
+has_kept : (ms : Members) → IfOk (has_at ms) InLimits
 unfolding has_at
-has_kept ms j =
-    past LeafKept (under (Name (codes "has")) (name_at 128 j)) _ (λ name.
-    after IsCount LeafKept (field_or (codes "count") 1 (number_at 1 10000) ms) _ (field_or_kept IsCount (codes "count") 1 (number_at 1 10000) ms (record { low = omega arith; high = omega arith }) count_kept) (λ count h. h))
+has_kept ms =
+    past InLimits (field_at (codes "has") (name_at 128) ms) _ (λ name.
+    after IsCount InLimits (field_or_at (codes "count") 1 (number_at 1 10000) ms) _ (in_field_or IsCount (codes "count") 1 (number_at 1 10000) ms (record { low = omega arith; high = omega arith }) count_kept) (λ count h. h))
 
-has_all_kept : (j : Json) → IfOk (has_all_at j) LeafKept
+has_all_kept : (ms : Members) → IfOk (has_all_at ms) InLimits
 unfolding has_all_at
-has_all_kept j = after IsShort LeafKept (under (Name (codes "has_all")) (names_at j)) _ (within IsShort (Name (codes "has_all")) (names_at j) (names_short j)) (λ names h. h)
+has_all_kept ms = after IsShort InLimits (field_at (codes "has_all") names_at ms) _ (in_field IsShort (codes "has_all") names_at ms names_short) (λ names h. h)
 
-has_any_kept : (j : Json) → IfOk (has_any_at j) LeafKept
+has_any_kept : (ms : Members) → IfOk (has_any_at ms) InLimits
 unfolding has_any_at
-has_any_kept j = after IsShort LeafKept (under (Name (codes "has_any")) (names_at j)) _ (within IsShort (Name (codes "has_any")) (names_at j) (names_short j)) (λ names h. h)
+has_any_kept ms = after IsShort InLimits (field_at (codes "has_any") names_at ms) _ (in_field IsShort (codes "has_any") names_at ms names_short) (λ names h. h)
 
-has_count_kept : (j k : Json) → IfOk (has_count_at j k) LeafKept
+has_count_kept : (ms : Members) → IfOk (has_count_at ms) InLimits
 unfolding has_count_at
-has_count_kept j k =
-    after IsShort LeafKept (under (Name (codes "count")) (names_at j)) _ (within IsShort (Name (codes "count")) (names_at j) (names_short j)) (λ names h.
-    after IsCount LeafKept (under (Name (codes "at_least")) (number_at 1 10000 k)) _ (within IsCount (Name (codes "at_least")) (number_at 1 10000 k) (count_kept k)) (λ least l. (h, l)))
+has_count_kept ms =
+    after IsShort InLimits (field_at (codes "count") names_at ms) _ (in_field IsShort (codes "count") names_at ms names_short) (λ names h.
+    after IsCount InLimits (field_at (codes "at_least") (number_at 1 10000) ms) _ (in_field IsCount (codes "at_least") (number_at 1 10000) ms count_kept) (λ least l. (h, l)))
 
 place_kept : (j : Json) → IfOk (place_at j) InLimits
 unfolding place_at region_at location_at
 place_kept j = past InLimits (object_at j) _ (λ ms.
-    first_kept InLimits (find_member (codes "region") ms) region_at _ (λ r. past InLimits (under (Name (codes "region")) (name_at 128 r)) _ (λ n. tt))
-    (first_kept InLimits (find_member (codes "location") ms) location_at (refused WrongKind) (λ l. past InLimits (under (Name (codes "location")) (name_at 128 l)) _ (λ n. tt)) tt))
+    either InLimits (has_member (codes "region") ms) (region_at ms) _ (past InLimits (field_at (codes "region") (name_at 128) ms) _ (λ n. tt))
+    (either InLimits (has_member (codes "location") ms) (location_at ms) (refused WrongKind) (past InLimits (field_at (codes "location") (name_at 128) ms) _ (λ n. tt)) tt))
 
-can_reach_kept : (j : Json) → IfOk (can_reach_at j) LeafKept
-unfolding can_reach_at
-can_reach_kept j = after InLimits LeafKept (under (Name (codes "can_reach")) (place_at j)) _ (within InLimits (Name (codes "can_reach")) (place_at j) (place_kept j)) (λ place h. h)
-
-reach_kept : (ms : Members) → IfOk (reach_in ms) LeafKept
-reach_kept ms = first_kept LeafKept (find_member (codes "can_reach") ms) can_reach_at (Ok None) can_reach_kept tt
-
-count_in_kept : (ms : Members) → IfOk (count_in ms) LeafKept
-count_in_kept ms =
-    first_kept LeafKept (find_member (codes "count") ms) (λ j. first_at (find_member (codes "at_least") ms) (has_count_at j) (reach_in ms)) (reach_in ms)
-    (λ j. first_kept LeafKept (find_member (codes "at_least") ms) (has_count_at j) (reach_in ms) (has_count_kept j) (reach_kept ms)) (reach_kept ms)
+form : (read : Result RawRule Breach) → IfOk read InLimits → IfOk (there read) LeafKept
+form read h = after InLimits LeafKept read _ h (λ rule k. k)
 
 leaf_kept : (ms : Members) → IfOk (leaf_in ms) LeafKept
 leaf_kept ms =
-    first_kept LeafKept (find_member (codes "has") ms) (has_at ms) _ (has_kept ms)
-    (first_kept LeafKept (find_member (codes "has_all") ms) has_all_at _ has_all_kept
-    (first_kept LeafKept (find_member (codes "has_any") ms) has_any_at (count_in ms) has_any_kept (count_in_kept ms)))
+    either LeafKept (has_member (codes "has") ms) (there (has_at ms)) _ (form (has_at ms) (has_kept ms))
+    (either LeafKept (has_member (codes "has_all") ms) (there (has_all_at ms)) _ (form (has_all_at ms) (has_all_kept ms))
+    (either LeafKept (has_member (codes "has_any") ms) (there (has_any_at ms)) _ (form (has_any_at ms) (has_any_kept ms))
+    (either LeafKept (has_member (codes "count") ms && has_member (codes "at_least") ms) (there (has_count_at ms)) _ (form (has_count_at ms) (has_count_kept ms))
+    (either LeafKept (has_member (codes "can_reach") ms) (there (reach_at ms)) (Ok None) (form (reach_at ms) (in_field InLimits (codes "can_reach") place_at ms place_kept)) tt))))
 
 leaf_or_kept : (leaf : Option RawRule) (next : Result RawRule Breach) → LeafKept leaf → IfOk next InLimits → IfOk (leaf_or leaf next) InLimits
 leaf_or_kept (Some r) next h k = h
@@ -126,10 +112,6 @@ some_or_kept None next h k = k
 there_kept : (read : Result (List RawRule) Breach) → IfOk read ListKept → IfOk (there read) FoundKept
 there_kept (Ok rs) h = h
 there_kept (Err e) h = tt
-
-either : (b : Bool) (x y : Result (Option (List RawRule)) Breach) → IfOk x FoundKept → IfOk y FoundKept → IfOk (if b then x else y) FoundKept
-either true x y h k = h
-either false x y h k = k
 
 mutual
   form_kept : (j : Json) → IfOk (form_at j) InLimits
@@ -148,7 +130,7 @@ mutual
   under_kept : (name : List ℕ) (ms : Members) → IfOk (rules_under name ms) FoundKept
   under_kept name no_members = tt
   under_kept name (member k j ms) =
-      either (bytes_eq k name) (there (under (Name name) (rules_at j))) (rules_under name ms) (there_kept (under (Name name) (rules_at j)) (within ListKept (Name name) (rules_at j) (rules_kept j))) (under_kept name ms)
+      either FoundKept (bytes_eq k name) (there (under (Name name) (rules_at j))) (rules_under name ms) (there_kept (under (Name name) (rules_at j)) (within ListKept (Name name) (rules_at j) (rules_kept j))) (under_kept name ms)
 
   rules_kept : (j : Json) → IfOk (rules_at j) ListKept
   rules_kept (many js) = from_kept 0 js

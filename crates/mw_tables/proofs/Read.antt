@@ -1,19 +1,20 @@
 -- What is known of the names, numbers and lists that a grammar gives.
-use Rattle.std.proofs.Common.{◌≡◌, ◌<◌, ◌≤◌, ℕ, ◌+◌, ◌==◌, ◌||◌, List, [], ◌∷◌, length, Bool, true, false, Result, if◌then◌else◌, All, refl, arith}
+use Rattle.std.proofs.Common.{◌≡◌, ◌<◌, ◌≤◌, ℕ, ◌+◌, ◌==◌, ◌||◌, List, [], ◌∷◌, length, Bool, true, false, Option, Some, None, Result, Ok, if◌then◌else◌, All, refl, arith}
 use Rattle.std.specs.Prelude.{IfOk, chars, nat_le, nat_lt}
 use Rattle.std.proofs.lemmas.Grind.{common_steps}
 use Rattle.std.proofs.lemmas.Int.{ints}
 use Rattle.std.proofs.lemmas.List.Elements.{All-nil, All-cons}
 use Rattle.std.proofs.lemmas.Result.{IfOk-weaker}
-use Rattle.mw_model.specs.Json.{Json, Items, no_items, item}
+use Rattle.mw_model.specs.Json.{Json, null, flag, whole, not_whole, words, many, members, Items, no_items, item, Members, no_members, member, find_member}
 use Rattle.mw_json.specs.Grammar.{Breach, under, refused, has_control, short_text, name_of, name_at, number_at, text_at, list_at, items_length, list_up_to}
 use Rattle.mw_json.specs.declared.refusal.Kind.TheVariants.{WrongKind, NameTooLong, TooMany}
-use Rattle.mw_json.specs.declared.refusal.Step.TheVariants.{Index}
-use Rattle.mw_json.specs.Parts.{id_at}
+use Rattle.mw_json.specs.declared.refusal.Step.TheVariants.{Name, Index}
+use Rattle.mw_json.specs.Parts.{id_at, null_or_at}
+use Rattle.mw_json.specs.Readers.{each_from, list_of_at, first_at, field_or_at, each_member_at}
 use Rattle.mw_json.proofs.Numbers.{number_in_range}
 use Rattle.mw_multi.specs.Names.{IsName, IsId}
-use Rattle.mw_tables.specs.Lists.{each_from, list_of_at}
-use Rattle.mw_tables.proofs.Passing.{past, after, within, where_true, if_told}
+use Rattle.mw_multi.specs.WorldKept.{IsIdOrNone}
+use Rattle.mw_json.proofs.Passing.{past, after, within, where_true, if_told}
 
 -- ---- names
 
@@ -56,6 +57,32 @@ pub id_kept : (j : Json) → IfOk (id_at j) IsId
 unfolding id_at
 id_kept j = after (λ n. (1 ≤ n) × (n ≤ 9007199254740991)) IsId (number_at 1 9007199254740991 j) _ (number_kept 1 9007199254740991 j) (λ n h. record { low = omega (arith, ints, h.0); high = omega (arith, ints, h.1) })
 
+-- an id that may be null
+pub id_or_null_kept : (j : Json) → IfOk (null_or_at id_at j) IsIdOrNone
+id_or_null_kept null = tt
+id_or_null_kept (flag b) = after IsId IsIdOrNone (id_at (flag b)) _ (id_kept (flag b)) (λ id h. h)
+id_or_null_kept (whole z) = after IsId IsIdOrNone (id_at (whole z)) _ (id_kept (whole z)) (λ id h. h)
+id_or_null_kept not_whole = after IsId IsIdOrNone (id_at not_whole) _ (id_kept not_whole) (λ id h. h)
+id_or_null_kept (words s) = after IsId IsIdOrNone (id_at (words s)) _ (id_kept (words s)) (λ id h. h)
+id_or_null_kept (many js) = after IsId IsIdOrNone (id_at (many js)) _ (id_kept (many js)) (λ id h. h)
+id_or_null_kept (members ms) = after IsId IsIdOrNone (id_at (members ms)) _ (id_kept (members ms)) (λ id h. h)
+
+-- ---- what may be absent
+
+module _ {A : Type 0} (P : A → Type 0) where
+  first_kept : (found : Option Json) (read : Json → Result A Breach) (next : Result A Breach) → ((j : Json) → IfOk (read j) P) → IfOk next P → IfOk (first_at found read next) P
+  first_kept (Some j) read next h k = h j
+  first_kept None read next h k = k
+
+  pub in_field_or : (name : List ℕ) (absent : A) (read : Json → Result A Breach) (ms : Members) → P absent → ((j : Json) → IfOk (read j) P) → IfOk (field_or_at name absent read ms) P
+  unfolding field_or_at
+  in_field_or name absent read ms here h = first_kept (find_member name ms) (λ j. under (Name name) (read j)) (Ok absent) (λ j. within P (Name name) (read j) (h j)) here
+
+  -- one or the other
+  pub either : (first : Bool) (read next : Result A Breach) → IfOk read P → IfOk next P → IfOk (if first then read else next) P
+  either true read next h k = h
+  either false read next h k = k
+
 -- ---- lists
 
 module _ {A : Type 0} (P : A → Type 0) (read : Json → Result A Breach) (kept : (j : Json) → IfOk (read j) P) where
@@ -73,3 +100,10 @@ module _ {A : Type 0} (P : A → Type 0) (read : Json → Result A Breach) (kept
       after (λ js. items_length js ≤ most) (λ xs. (length xs ≤ most) × All P xs) (list_up_to most j) _
       (past (λ js. items_length js ≤ most) (list_at j) _ (λ js. where_true (λ js. items_length js ≤ most) _ js TooMany (λ e. grind (arith, common_steps)))) (λ js h.
       IfOk-weaker (each_from read 0 js) (λ xs. (length xs ≡ items_length js) × All P xs) (λ xs. (length xs ≤ most) × All P xs) (λ xs k. (omega (arith, h, k.0), k.1)) (each_kept 0 js))
+
+-- each member is kept
+pub each_member_kept : {A : Type 0} (P : A → Type 0) (read : List ℕ → Json → Result A Breach) → ((name : List ℕ) (j : Json) → IfOk (read name j) P) → (ms : Members) → IfOk (each_member_at read ms) (All P)
+each_member_kept P read kept no_members = All-nil P
+each_member_kept P read kept (member name j ms) =
+    after P (All P) (under (Name name) (read name j)) _ (within P (Name name) (read name j) (kept name j)) (λ first h.
+    after (All P) (All P) (each_member_at read ms) _ (each_member_kept P read kept ms) (λ others k. All-cons P first others h k))

@@ -18,12 +18,13 @@ use Rattle.mw_multi.specs.World.{Item}
 use Rattle.mw_multi.specs.WorldKept.{item_name}
 use Rattle.mw_multi.specs.RulesKept as whole
 use Rattle.mw_multi.specs.RulesKept.{IsItemList, IsCount, IsInLimits, is_progression_item, IsProgressionAt, RuleKept}
-use Rattle.mw_tables.specs.Names.{demand, known, index_of}
+use Rattle.mw_multi.specs.Indexes.{index_of_name}
+use Rattle.mw_tables.specs.Names.{demand, known}
 use Rattle.mw_tables.specs.Raw.{RawWorld, RawRule, always, never, has, has_all, has_any, has_count, reach_region, reach_location, all_of, some_of, RawRules, no_rules, a_rule, nodes, nodes_of, depth, depth_of}
 use Rattle.mw_tables.specs.RuleNames.{region_named, known_item, item_such, rule_item, listed_item, listed_items, raw_location_name, location_place, rule_named, rules_named}
 use Rattle.mw_tables.proofs.Distinct.{regroup}
-use Rattle.mw_tables.proofs.Indexing.{index_of-within}
-use Rattle.mw_tables.proofs.Passing.{after, within}
+use Rattle.mw_multi.proofs.Indexing.{index_of_name-within}
+use Rattle.mw_json.proofs.Passing.{after, within}
 use Rattle.mw_tables.proofs.RawKept.{InLimits, AreInLimits, RawRuleKept}
 
 -- how many places a world has
@@ -41,10 +42,10 @@ demanded kind true = refl
 demanded kind false = tt
 
 pub region_within : (w : RawWorld) (name : List ℕ) → IfOk (region_named w name) (λ i. i < length w.regions)
-region_within w name = known_within (index_of w.regions name) (length w.regions) (index_of-within w.regions name)
+region_within w name = known_within (index_of_name w.regions name) (length w.regions) (index_of_name-within w.regions name)
 
 item_within : (w : RawWorld) (name : List ℕ) → IfOk (known_item w name) (λ i. i < length w.items)
-item_within w name = subst (λ n. IfOk (known_item w name) (λ i. i < n)) (length-map w.items item_name) (known_within (index_of (map item_name w.items) name) (length (map item_name w.items)) (index_of-within (map item_name w.items) name))
+item_within w name = subst (λ n. IfOk (known_item w name) (λ i. i < n)) (length-map w.items item_name) (known_within (index_of_name (map item_name w.items) name) (length (map item_name w.items)) (index_of_name-within (map item_name w.items) name))
 
 -- an item that is there, and passes
 abbrev pub Passes : (Option Item → Bool) → RawWorld → ℕ → Type 0
@@ -59,8 +60,8 @@ such_passes test kind w name =
 place_within : (w : RawWorld) (name : List ℕ) → IfOk (location_place w name) (λ p. p < places w)
 unfolding location_place
 place_within w name =
-    after (λ i. i < length (map raw_location_name w.locations)) (λ p. p < places w) (known (index_of (map raw_location_name w.locations) name)) _
-    (known_within (index_of (map raw_location_name w.locations) name) (length (map raw_location_name w.locations)) (index_of-within (map raw_location_name w.locations) name)) (λ i h.
+    after (λ i. i < length (map raw_location_name w.locations)) (λ p. p < places w) (known (index_of_name (map raw_location_name w.locations) name)) _
+    (known_within (index_of_name (map raw_location_name w.locations) name) (length (map raw_location_name w.locations)) (index_of_name-within (map raw_location_name w.locations) name)) (λ i h.
     omega (arith, h, length-map w.locations raw_location_name))
 
 -- ---- lists of items

@@ -6,34 +6,19 @@ use Rattle.mw_model.specs.Json.{Json, null, flag, whole, not_whole, words, many,
 use Rattle.mw_json.specs.Grammar.{under, other_kind, number_at, name_at, text_at, list_at, object_at, field_at, items_length}
 use Rattle.mw_json.specs.declared.refusal.Kind.TheVariants.{WrongKind, TooMany}
 use Rattle.mw_json.specs.declared.refusal.Step.TheVariants.{Name}
-use Rattle.mw_json.specs.Parts.{id_at}
+use Rattle.mw_json.specs.Parts.{id_at, null_or_at}
+use Rattle.mw_json.specs.Readers.{each_from, list_of_at, field_or_at}
 use Rattle.mw_multi.specs.Names.{IsName, IsId}
 use Rattle.mw_multi.specs.RulesKept.{is_progression}
 use Rattle.mw_multi.specs.WorldKept.{IsIdOrNone, ItemKept}
 use Rattle.mw_multi.specs.declared.item.Class.{Class}
 use Rattle.mw_tables.specs.Raw.{RawEntrance, RawLocation, RawEntry, RawWorld}
-use Rattle.mw_tables.specs.Lists.{each_from, field_or}
 use Rattle.mw_tables.specs.RuleShape.{rule_at}
 use Rattle.mw_tables.specs.Small.{IsSmall}
-use Rattle.mw_tables.specs.WorldShape.{some_id_at, id_or_null_at, class_of, class_at, item_at, entrance_at, kind_at, event_at, event_in, location_at, entry_at, entry_count, pool_at, regions_at, items_at, entrances_at, locations_at, format_at, world_members, world_shape_at}
-use Rattle.mw_tables.proofs.Passing.{past, after, where_true, in_field}
-use Rattle.mw_tables.proofs.RawKept.{RawRuleKept, rule_kept, first_kept}
-use Rattle.mw_tables.proofs.Read.{name_kept, number_kept, id_kept, each_kept, list_kept}
-
--- ---- ids
-
-some_id_kept : (j : Json) → IfOk (some_id_at j) IsIdOrNone
-unfolding some_id_at
-some_id_kept j = after IsId IsIdOrNone (id_at j) _ (id_kept j) (λ id h. h)
-
-id_or_null_kept : (j : Json) → IfOk (id_or_null_at j) IsIdOrNone
-id_or_null_kept null = tt
-id_or_null_kept (flag b) = some_id_kept (flag b)
-id_or_null_kept (whole z) = some_id_kept (whole z)
-id_or_null_kept not_whole = some_id_kept not_whole
-id_or_null_kept (words s) = some_id_kept (words s)
-id_or_null_kept (many js) = some_id_kept (many js)
-id_or_null_kept (members ms) = some_id_kept (members ms)
+use Rattle.mw_tables.specs.WorldShape.{format_in, class_word_at, class_at, item_at, entrance_at, kind_at, event_in, location_at, entry_at, entry_count, pool_at, world_shape_at}
+use Rattle.mw_json.proofs.Passing.{past, after, where_true, in_field}
+use Rattle.mw_tables.proofs.RawKept.{RawRuleKept, rule_kept}
+use Rattle.mw_tables.proofs.Read.{name_kept, number_kept, id_or_null_kept, in_field_or, each_kept, list_kept}
 
 -- ---- items
 
@@ -43,16 +28,14 @@ Fits id class = (is_some id || is_progression class) ≡ true
 class_kept : (id : Option ℤ) (j : Json) → IfOk (class_at id j) (Fits id)
 unfolding class_at
 class_kept id j =
-    past (Fits id) (text_at j) _ (λ s.
-    past (Fits id) (class_of s) _ (λ class.
-    where_true (Fits id) (is_some id || is_progression class) class WrongKind (λ e. e)))
+    past (Fits id) (class_word_at j) _ (λ class. where_true (Fits id) (is_some id || is_progression class) class WrongKind (λ e. e))
 
 item_kept : (j : Json) → IfOk (item_at j) ItemKept
 unfolding item_at
 item_kept j =
     past ItemKept (object_at j) _ (λ ms.
     after (IsName 128) ItemKept (field_at (codes "name") (name_at 128) ms) _ (in_field (IsName 128) (codes "name") (name_at 128) ms (name_kept 128)) (λ name n.
-    after IsIdOrNone ItemKept (field_at (codes "id") id_or_null_at ms) _ (in_field IsIdOrNone (codes "id") id_or_null_at ms id_or_null_kept) (λ id i.
+    after IsIdOrNone ItemKept (field_at (codes "id") (null_or_at id_at) ms) _ (in_field IsIdOrNone (codes "id") (null_or_at id_at) ms id_or_null_kept) (λ id i.
     after (Fits id) ItemKept (field_at (codes "class") (class_at id) ms) _ (in_field (Fits id) (codes "class") (class_at id) ms (class_kept id)) (λ class c.
     record { name = n; id = i; event = c }))))
 
@@ -87,7 +70,7 @@ pub record RawLocationKept (l : RawLocation) : Type 0 where
   pub rule : RawRuleKept l.rule
   pub event : EventStands l.id l.event
 
-none_there : (id : ℤ) (j : Json) → IfOk (under (Name (codes "event")) (other_kind j)) (EventStands (Some id))
+none_there : (id : ℤ) (j : Json) → IfOk (other_kind {A = Option (List ℕ)} j) (EventStands (Some id))
 none_there id null = tt
 none_there id (flag b) = tt
 none_there id (whole z) = tt
@@ -96,22 +79,18 @@ none_there id (words s) = tt
 none_there id (many js) = tt
 none_there id (members ms) = tt
 
-event_there : (ms : Members) → IfOk (event_at ms) (EventStands None)
-unfolding event_at
-event_there ms = past (EventStands None) (field_at (codes "event") (name_at 128) ms) _ (λ name. tt)
-
 event_kept : (id : Option ℤ) (ms : Members) → IfOk (event_in id ms) (EventStands id)
-event_kept None ms = event_there ms
-event_kept (Some id) ms = first_kept (EventStands (Some id)) (find_member (codes "event") ms) (λ j. under (Name (codes "event")) (other_kind j)) (Ok None) (none_there id) tt
+event_kept None ms = past (EventStands None) (field_at (codes "event") (name_at 128) ms) _ (λ name. tt)
+event_kept (Some id) ms = in_field_or (EventStands (Some id)) (codes "event") None other_kind ms tt (none_there id)
 
 location_kept : (j : Json) → IfOk (location_at j) RawLocationKept
 unfolding location_at
 location_kept j =
     past RawLocationKept (object_at j) _ (λ ms.
     after (IsName 128) RawLocationKept (field_at (codes "name") (name_at 128) ms) _ (in_field (IsName 128) (codes "name") (name_at 128) ms (name_kept 128)) (λ name n.
-    after IsIdOrNone RawLocationKept (field_at (codes "id") id_or_null_at ms) _ (in_field IsIdOrNone (codes "id") id_or_null_at ms id_or_null_kept) (λ id i.
+    after IsIdOrNone RawLocationKept (field_at (codes "id") (null_or_at id_at) ms) _ (in_field IsIdOrNone (codes "id") (null_or_at id_at) ms id_or_null_kept) (λ id i.
     past RawLocationKept (field_at (codes "region") (name_at 128) ms) _ (λ region.
-    past RawLocationKept (field_or (codes "kind") _ kind_at ms) _ (λ kind.
+    past RawLocationKept (field_or_at (codes "kind") _ kind_at ms) _ (λ kind.
     after RawRuleKept RawLocationKept (field_at (codes "rule") rule_at ms) _ (in_field RawRuleKept (codes "rule") rule_at ms rule_kept) (λ rule r.
     after (EventStands id) RawLocationKept (event_in id ms) _ (event_kept id ms) (λ event e.
     record { name = n; id = i; rule = r; event = e })))))))
@@ -161,24 +140,21 @@ pub record IsShaped (w : RawWorld) : Type 0 where
   pub pool : RawPoolKept w.pool
   pub goal : RawRuleKept w.goal
 
-members_shaped : (ms : Members) → IfOk (world_members ms) IsShaped
-unfolding world_members
-members_shaped ms =
-    past IsShaped (field_at (codes "format") (format_at (codes "mw-world-1")) ms) _ (λ format.
+pub world_shaped : (j : Json) → IfOk (world_shape_at j) IsShaped
+unfolding world_shape_at
+world_shaped j =
+    past IsShaped (object_at j) _ (λ ms.
+    past IsShaped (format_in (codes "mw-world-1") ms) _ (λ format.
     after (IsName 128) IsShaped (field_at (codes "game") (name_at 128) ms) _ (in_field (IsName 128) (codes "game") (name_at 128) ms (name_kept 128)) (λ game g.
-    past IsShaped (field_or (codes "origin") (codes "Menu") (name_at 128) ms) _ (λ origin.
-    after (IsLimited (IsName 128) 5000) IsShaped (field_at (codes "regions") regions_at ms) _ (in_field (IsLimited (IsName 128) 5000) (codes "regions") regions_at ms (list_kept (IsName 128) (name_at 128) (name_kept 128) 5000)) (λ regions r.
-    after (IsLimited ItemKept 10000) IsShaped (field_at (codes "items") items_at ms) _ (in_field (IsLimited ItemKept 10000) (codes "items") items_at ms (list_kept ItemKept item_at item_kept 10000)) (λ items i.
-    after (IsLimited RawEntranceKept 10000) IsShaped (field_at (codes "entrances") entrances_at ms) _ (in_field (IsLimited RawEntranceKept 10000) (codes "entrances") entrances_at ms (list_kept RawEntranceKept entrance_at entrance_kept 10000)) (λ entrances e.
-    after (IsLimited RawLocationKept 10000) IsShaped (field_at (codes "locations") locations_at ms) _ (in_field (IsLimited RawLocationKept 10000) (codes "locations") locations_at ms (list_kept RawLocationKept location_at location_kept 10000)) (λ locations l.
+    past IsShaped (field_or_at (codes "origin") (codes "Menu") (name_at 128) ms) _ (λ origin.
+    after (IsLimited (IsName 128) 5000) IsShaped (field_at (codes "regions") (list_of_at 5000 (name_at 128)) ms) _ (in_field (IsLimited (IsName 128) 5000) (codes "regions") (list_of_at 5000 (name_at 128)) ms (list_kept (IsName 128) (name_at 128) (name_kept 128) 5000)) (λ regions r.
+    after (IsLimited ItemKept 10000) IsShaped (field_at (codes "items") (list_of_at 10000 item_at) ms) _ (in_field (IsLimited ItemKept 10000) (codes "items") (list_of_at 10000 item_at) ms (list_kept ItemKept item_at item_kept 10000)) (λ items i.
+    after (IsLimited RawEntranceKept 10000) IsShaped (field_at (codes "entrances") (list_of_at 10000 entrance_at) ms) _ (in_field (IsLimited RawEntranceKept 10000) (codes "entrances") (list_of_at 10000 entrance_at) ms (list_kept RawEntranceKept entrance_at entrance_kept 10000)) (λ entrances e.
+    after (IsLimited RawLocationKept 10000) IsShaped (field_at (codes "locations") (list_of_at 10000 location_at) ms) _ (in_field (IsLimited RawLocationKept 10000) (codes "locations") (list_of_at 10000 location_at) ms (list_kept RawLocationKept location_at location_kept 10000)) (λ locations l.
     after RawPoolKept IsShaped (field_at (codes "pool") pool_at ms) _ (in_field RawPoolKept (codes "pool") pool_at ms pool_kept) (λ pool p.
     past IsShaped (field_at (codes "filler") (name_at 128) ms) _ (λ filler.
     after RawRuleKept IsShaped (field_at (codes "goal") rule_at ms) _ (in_field RawRuleKept (codes "goal") rule_at ms rule_kept) (λ goal o.
-    record { game = g; regions = r; items = i; entrances = e; locations = l; pool = p; goal = o }))))))))))
-
-pub world_shaped : (j : Json) → IfOk (world_shape_at j) IsShaped
-unfolding world_shape_at
-world_shaped j = past IsShaped (object_at j) _ (λ ms. members_shaped ms)
+    record { game = g; regions = r; items = i; entrances = e; locations = l; pool = p; goal = o })))))))))))
 
 pub shaped_is_small : (w : RawWorld) → IsShaped w → IsSmall w
 shaped_is_small w h = record { regions = omega (arith, h.regions.0); items = h.items.0; entrances = h.entrances.0; locations = h.locations.0 }

@@ -1,6 +1,4 @@
-pub mod Lists
 pub mod Names
-pub mod Noting
 pub mod PlayersOf
 pub mod PlayersShape
 pub mod Raw
@@ -11,6 +9,7 @@ pub mod RuleNames
 pub mod RuleShape
 pub mod Sizes
 pub mod Small
+pub mod Tables
 pub mod WorldNames
 pub mod WorldOf
 pub mod WorldShape

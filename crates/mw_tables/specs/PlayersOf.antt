@@ -21,11 +21,15 @@ names_differ before i (n ∷ ns) = do
   differs ← under (Index i) (demand DuplicateName (not (has_name before n)))
   names_differ (before ++ n ∷ []) (i + 1) ns
 
+-- the same of the names of the player at an index
+abbrev pub player_named : List (List ℕ) → ℕ → List (List ℕ) → Check
+player_named before i names = under (Index i) (under (Name (codes "names")) (names_differ before 0 names))
+
 -- over all teams and slots
 abbrev pub players_named : List (List ℕ) → ℕ → List Player → Check
 players_named before i [] = Ok tt
 players_named before i (p ∷ ps) = do
-  first ← under (Index i) (under (Name (codes "names")) (names_differ before 0 p.names))
+  first ← player_named before i p.names
   players_named (before ++ p.names) (i + 1) ps
 
 -- its shape, then its names

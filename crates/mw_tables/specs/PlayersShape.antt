@@ -1,16 +1,15 @@
 -- The shape of a players file: its value by kinds and ranges alone, or the first breach of them.
-use Rattle.std.specs.Prelude.{ℕ, ◌+◌, nat_le, sum_by, List, [], ◌∷◌, Result, Ok, codes, if◌then◌else◌}
-use Rattle.mw_model.specs.Json.{Json, Items, no_items, item, Members, no_members, member}
+use Rattle.std.specs.Prelude.{ℕ, nat_le, sum_by, List, [], Result, Ok, codes, if◌then◌else◌}
+use Rattle.mw_model.specs.Json.{Json}
 use Rattle.mw_model.specs.Seed.{RoomOptions}
-use Rattle.mw_json.specs.Grammar.{Breach, ◌>>=◌, refused, under, number_at, name_of, name_at, list_at, list_up_to, object_at, field_at}
+use Rattle.mw_json.specs.Grammar.{Breach, ◌>>=◌, refused, number_at, name_of, name_at, list_at, list_up_to, object_at, field_at}
 use Rattle.mw_json.specs.Parts.{not_empty, list_of_length}
+use Rattle.mw_json.specs.Readers.{each_from, field_or_at, each_member_at}
 use Rattle.mw_json.specs.Settings.{password_at, permission_at, remaining_at}
 use Rattle.mw_json.specs.declared.refusal.Kind.TheVariants.{TooMany}
-use Rattle.mw_json.specs.declared.refusal.Step.TheVariants.{Name, Index}
 use Rattle.mw_multi.specs.Players.{StartEntry, Options, Player, Players}
 use Rattle.mw_multi.specs.PlayersKept.{start_count}
-use Rattle.mw_tables.specs.Lists.{each_from, field_or}
-use Rattle.mw_tables.specs.WorldShape.{format_at}
+use Rattle.mw_tables.specs.WorldShape.{format_in}
 
 -- ---- the room
 
@@ -18,12 +17,12 @@ use Rattle.mw_tables.specs.WorldShape.{format_at}
 unfoldable pub room_at : Json → Result RoomOptions Breach
 room_at j = do
   ms ← object_at j
-  password ← field_or (codes "password") [] password_at ms
-  hint_cost ← field_or (codes "hint_cost") 10 (number_at 0 1000) ms
-  points ← field_or (codes "location_check_points") 1 (number_at 0 1000000) ms
-  release ← field_or (codes "release") 6 permission_at ms
-  collect ← field_or (codes "collect") 6 permission_at ms
-  remaining ← field_or (codes "remaining") 2 remaining_at ms
+  password ← field_or_at (codes "password") [] password_at ms
+  hint_cost ← field_or_at (codes "hint_cost") 10 (number_at 0 1000) ms
+  points ← field_or_at (codes "location_check_points") 1 (number_at 0 1000000) ms
+  release ← field_or_at (codes "release") 6 permission_at ms
+  collect ← field_or_at (codes "collect") 6 permission_at ms
+  remaining ← field_or_at (codes "remaining") 2 remaining_at ms
   Ok record { password = password; hint_cost = hint_cost; location_check_points = points; release = release; collect = collect; remaining = remaining }
 
 -- no password, hints at a tenth, a point a location, release and collect by themselves, remaining at the goal
@@ -45,13 +44,6 @@ start_entry_at name j = do
   count ← number_at 1 256 j
   Ok record { name = named; count = count }
 
-abbrev pub start_entries : Members → Result (List StartEntry) Breach
-start_entries no_members = Ok []
-start_entries (member name j ms) = do
-  first ← under (Name name) (start_entry_at name j)
-  others ← start_entries ms
-  Ok (first ∷ others)
-
 -- at most 256 together
 abbrev pub few_to_start : List StartEntry → Result (List StartEntry) Breach
 few_to_start ss = if nat_le (sum_by start_count ss) 256 then Ok ss else refused TooMany
@@ -59,18 +51,18 @@ few_to_start ss = if nat_le (sum_by start_count ss) 256 then Ok ss else refused 
 unfoldable pub start_inventory_at : Json → Result (List StartEntry) Breach
 start_inventory_at j = do
   ms ← object_at j
-  ss ← start_entries ms
+  ss ← each_member_at start_entry_at ms
   few_to_start ss
 
 -- each option may be absent
 unfoldable pub options_at : Json → Result Options Breach
 options_at j = do
   ms ← object_at j
-  local ← field_or (codes "local_items") [] wishes_at ms
-  non_local ← field_or (codes "non_local_items") [] wishes_at ms
-  exclude ← field_or (codes "exclude_locations") [] wishes_at ms
-  priority ← field_or (codes "priority_locations") [] wishes_at ms
-  start ← field_or (codes "start_inventory") [] start_inventory_at ms
+  local ← field_or_at (codes "local_items") [] wishes_at ms
+  non_local ← field_or_at (codes "non_local_items") [] wishes_at ms
+  exclude ← field_or_at (codes "exclude_locations") [] wishes_at ms
+  priority ← field_or_at (codes "priority_locations") [] wishes_at ms
+  start ← field_or_at (codes "start_inventory") [] start_inventory_at ms
   Ok record { local_items = local; non_local_items = non_local; exclude_locations = exclude; priority_locations = priority; start_inventory = start }
 
 abbrev pub no_options : Options
@@ -89,31 +81,23 @@ player_at teams j = do
   ms ← object_at j
   names ← field_at (codes "names") (team_names_at teams) ms
   world ← field_at (codes "world") (name_at 128) ms
-  options ← field_or (codes "options") no_options options_at ms
+  options ← field_or_at (codes "options") no_options options_at ms
   Ok record { names = names; world = world; options = options }
-
--- each player, the first of whom stands at this index
-abbrev pub players_from : ℕ → ℕ → Items → Result (List Player) Breach
-players_from teams i no_items = Ok []
-players_from teams i (item j js) = do
-  first ← under (Index i) (player_at teams j)
-  others ← players_from teams (i + 1) js
-  Ok (first ∷ others)
 
 -- 1 to 1,024 players
 unfoldable pub player_list_at : ℕ → Json → Result (List Player) Breach
 player_list_at teams j = do
   js ← list_up_to 1024 j
   some ← not_empty js
-  players_from teams 0 some
+  each_from (player_at teams) 0 some
 
 -- ---- the whole
 
 unfoldable pub players_shape_at : Json → Result Players Breach
 players_shape_at j = do
   ms ← object_at j
-  format ← field_at (codes "format") (format_at (codes "mw-players-1")) ms
-  teams ← field_or (codes "teams") 1 (number_at 1 8) ms
-  room ← field_or (codes "room") usual_room room_at ms
+  format ← format_in (codes "mw-players-1") ms
+  teams ← field_or_at (codes "teams") 1 (number_at 1 8) ms
+  room ← field_or_at (codes "room") usual_room room_at ms
   players ← field_at (codes "players") (player_list_at teams) ms
   Ok record { teams = teams; room = room; players = players }

@@ -1,4 +1,4 @@
--- How plain rules as they are written are told apart: each is what some `RawRule` stands for.
+-- For proofs alone. How plain rules as they are written are told apart: each is what some `RawRule` stands for.
 use Rattle.std.specs.Coded.{Coded, code_by}
 use mathlib.Core.Path.{◌≡◌, refl, ap, ◌∙◌}
 use Rattle.std.specs.Prelude.{List, [], ◌∷◌}

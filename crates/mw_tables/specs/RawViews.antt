@@ -1,4 +1,4 @@
--- What each form of a rule as it is written stands for, for code that writes it out.
+-- For proofs alone. What each form of a rule as it is written stands for.
 use Rattle.std.proofs.Common.{◌≡◌, ℕ, List, ap, sym, ◌∙◌}
 use Rattle.mw_tables.specs.Raw as meaning
 use Rattle.mw_tables.specs.RawView.{rule_step, raw_view, raw_rules_view}

@@ -1,5 +1,5 @@
 -- The names in a rule, resolved in a world's tables.
-use Rattle.std.specs.Prelude.{ℕ, ◌+◌, not, List, [], ◌∷◌, ◌++◌, Bool, Option, Result, Ok, codes, map, length, slice_get}
+use Rattle.std.specs.Prelude.{ℕ, ◌+◌, not, List, [], ◌∷◌, ◌++◌, Bool, Option, option_map, Result, Ok, codes, map, length, slice_get}
 use Rattle.mw_json.specs.Grammar.{Breach, ◌>>=◌, under}
 use Rattle.mw_json.specs.declared.refusal.Kind.{Kind}
 use Rattle.mw_json.specs.declared.refusal.Kind.TheVariants.{DuplicateName, RuleItemNotProgression}
@@ -8,19 +8,20 @@ use Rattle.mw_rules.specs.Rule as rule
 use Rattle.mw_rules.specs.Rule.{Rule}
 use Rattle.mw_rules.specs.Names.{is_among}
 use Rattle.mw_rules.specs.View.{rules_of}
+use Rattle.mw_multi.specs.Indexes.{index_of_name}
 use Rattle.mw_multi.specs.World.{Item}
 use Rattle.mw_multi.specs.WorldKept.{item_name}
 use Rattle.mw_multi.specs.RulesKept.{is_progression_item}
-use Rattle.mw_tables.specs.Names.{demand, known, index_of}
+use Rattle.mw_tables.specs.Names.{Check, demand, known}
 use Rattle.mw_tables.specs.Raw.{RawLocation, RawWorld, RawRule, always, never, has, has_all, has_any, has_count, reach_region, reach_location, all_of, some_of, RawRules, no_rules, a_rule}
 
 -- the region of a name
 abbrev pub region_named : RawWorld → List ℕ → Result ℕ Breach
-region_named w name = known (index_of w.regions name)
+region_named w name = known (index_of_name w.regions name)
 
 -- the item of a name
 abbrev pub known_item : RawWorld → List ℕ → Result ℕ Breach
-known_item w name = known (index_of (map item_name w.items) name)
+known_item w name = known (index_of_name (map item_name w.items) name)
 
 -- an item that passes a test, else refused in this way
 unfoldable pub item_such : (Option Item → Bool) → Kind → RawWorld → List ℕ → Result ℕ Breach
@@ -28,6 +29,14 @@ item_such test kind w name = do
   i ← known_item w name
   fits ← demand kind (test (slice_get w.items i))
   Ok i
+
+-- a rule may ask for the item of this place
+abbrev pub may_be_asked : RawWorld → ℕ → Check
+may_be_asked w i = demand RuleItemNotProgression (is_progression_item (slice_get w.items i))
+
+-- not one of these items
+abbrev pub is_new : List ℕ → ℕ → Check
+is_new before i = demand DuplicateName (not (is_among before i))
 
 -- an item that a rule may ask for
 abbrev pub rule_item : RawWorld → List ℕ → Result ℕ Breach
@@ -38,8 +47,8 @@ rule_item w name = item_such is_progression_item RuleItemNotProgression w name
 unfoldable pub listed_item : RawWorld → List ℕ → List ℕ → Result ℕ Breach
 listed_item w before name = do
   i ← known_item w name
-  once ← demand DuplicateName (not (is_among before i))
-  fits ← demand RuleItemNotProgression (is_progression_item (slice_get w.items i))
+  once ← is_new before i
+  fits ← may_be_asked w i
   Ok i
 
 abbrev pub listed_items : RawWorld → List ℕ → ℕ → List (List ℕ) → Result (List ℕ) Breach
@@ -53,9 +62,12 @@ abbrev pub raw_location_name : RawLocation → List ℕ
 raw_location_name l = l.name
 
 -- a location's place comes after those of the regions
+abbrev pub place_of_location : RawWorld → List ℕ → Option ℕ
+place_of_location w name = option_map (λ i. length w.regions + i) (index_of_name (map raw_location_name w.locations) name)
+
 unfoldable pub location_place : RawWorld → List ℕ → Result ℕ Breach
 location_place w name = do
-  i ← known (index_of (map raw_location_name w.locations) name)
+  i ← known (index_of_name (map raw_location_name w.locations) name)
   Ok (length w.regions + i)
 
 abbrev mutual
@@ -77,3 +89,7 @@ abbrev mutual
     first ← under (Index i) (rule_named w r)
     others ← rules_named w (i + 1) rs
     Ok (first ∷ others)
+
+-- the rules under a name
+abbrev pub rules_under : List ℕ → RawWorld → RawRules → Result (List Rule) Breach
+rules_under name w rs = under (Name name) (rules_named w 0 rs)

@@ -1,74 +1,78 @@
 -- The shape of a rule: its forms and limits, its names as they are written.
-use Rattle.std.specs.Prelude.{ℕ, ◌+◌, ◌&&◌, nat_le, List, [], ◌∷◌, true, false, Option, Some, None, Result, Ok, bytes_eq, codes, if◌then◌else◌}
+use Rattle.std.specs.Prelude.{ℕ, ◌+◌, ◌&&◌, nat_le, is_some, List, [], ◌∷◌, Bool, true, false, Option, Some, None, Result, Ok, bytes_eq, codes, if◌then◌else◌}
 use Rattle.mw_model.specs.Json.{Json, null, flag, whole, not_whole, words, many, members, Items, no_items, item, Members, no_members, member, find_member}
-use Rattle.mw_json.specs.Grammar.{Breach, ◌>>=◌, refused, under, number_at, name_at, object_at}
+use Rattle.mw_json.specs.Grammar.{Breach, ◌>>=◌, refused, under, number_at, name_at, object_at, field_at}
+use Rattle.mw_json.specs.Parts.{there}
+use Rattle.mw_json.specs.Readers.{list_of_at, field_or_at}
 use Rattle.mw_json.specs.declared.refusal.Kind.TheVariants.{NotWhole, WrongKind, RuleTooLarge}
 use Rattle.mw_json.specs.declared.refusal.Step.TheVariants.{Name, Index}
 use Rattle.mw_tables.specs.Raw.{RawRule, always, never, has, has_all, has_any, has_count, reach_region, reach_location, all_of, some_of, rules_of, nodes, depth}
-use Rattle.mw_tables.specs.Lists.{list_of_at, first_at, field_or}
 
 -- at most 64 names
 abbrev pub names_at : Json → Result (List (List ℕ)) Breach
 names_at j = list_of_at 64 (name_at 128) j
 
 -- so many of an item, one where it isn't said
-unfoldable pub has_at : Members → Json → Result (Option RawRule) Breach
-has_at ms j = do
-  name ← under (Name (codes "has")) (name_at 128 j)
-  count ← field_or (codes "count") 1 (number_at 1 10000) ms
-  Ok (Some (has name count))
+unfoldable pub has_at : Members → Result RawRule Breach
+has_at ms = do
+  name ← field_at (codes "has") (name_at 128) ms
+  count ← field_or_at (codes "count") 1 (number_at 1 10000) ms
+  Ok (has name count)
 
-unfoldable pub has_all_at : Json → Result (Option RawRule) Breach
-has_all_at j = do
-  names ← under (Name (codes "has_all")) (names_at j)
-  Ok (Some (has_all names))
+unfoldable pub has_all_at : Members → Result RawRule Breach
+has_all_at ms = do
+  names ← field_at (codes "has_all") names_at ms
+  Ok (has_all names)
 
-unfoldable pub has_any_at : Json → Result (Option RawRule) Breach
-has_any_at j = do
-  names ← under (Name (codes "has_any")) (names_at j)
-  Ok (Some (has_any names))
+unfoldable pub has_any_at : Members → Result RawRule Breach
+has_any_at ms = do
+  names ← field_at (codes "has_any") names_at ms
+  Ok (has_any names)
 
 -- the names, and how many of them together
-unfoldable pub has_count_at : Json → Json → Result (Option RawRule) Breach
-has_count_at j k = do
-  names ← under (Name (codes "count")) (names_at j)
-  at_least ← under (Name (codes "at_least")) (number_at 1 10000 k)
-  Ok (Some (has_count names at_least))
+unfoldable pub has_count_at : Members → Result RawRule Breach
+has_count_at ms = do
+  names ← field_at (codes "count") names_at ms
+  at_least ← field_at (codes "at_least") (number_at 1 10000) ms
+  Ok (has_count names at_least)
 
-unfoldable pub region_at : Json → Result RawRule Breach
-region_at j = do
-  name ← under (Name (codes "region")) (name_at 128 j)
+unfoldable pub region_at : Members → Result RawRule Breach
+region_at ms = do
+  name ← field_at (codes "region") (name_at 128) ms
   Ok (reach_region name)
 
-unfoldable pub location_at : Json → Result RawRule Breach
-location_at j = do
-  name ← under (Name (codes "location")) (name_at 128 j)
+unfoldable pub location_at : Members → Result RawRule Breach
+location_at ms = do
+  name ← field_at (codes "location") (name_at 128) ms
   Ok (reach_location name)
 
+-- there is a member of this name
+abbrev pub has_member : List ℕ → Members → Bool
+has_member name ms = is_some (find_member name ms)
+
 -- a region, or else a location
+abbrev pub place_in : Members → Result RawRule Breach
+place_in ms =
+    if has_member (codes "region") ms then region_at ms
+    else (if has_member (codes "location") ms then location_at ms else refused WrongKind)
+
 unfoldable pub place_at : Json → Result RawRule Breach
 place_at j = do
   ms ← object_at j
-  first_at (find_member (codes "region") ms) region_at (first_at (find_member (codes "location") ms) location_at (refused WrongKind))
+  place_in ms
 
-unfoldable pub can_reach_at : Json → Result (Option RawRule) Breach
-can_reach_at j = do
-  place ← under (Name (codes "can_reach")) (place_at j)
-  Ok (Some place)
+abbrev pub reach_at : Members → Result RawRule Breach
+reach_at ms = field_at (codes "can_reach") place_at ms
 
-abbrev pub reach_in : Members → Result (Option RawRule) Breach
-reach_in ms = first_at (find_member (codes "can_reach") ms) can_reach_at (Ok None)
-
--- a count needs its at_least, else the object isn't of this form
-abbrev pub count_in : Members → Result (Option RawRule) Breach
-count_in ms = first_at (find_member (codes "count") ms) (λ j. first_at (find_member (codes "at_least") ms) (has_count_at j) (reach_in ms)) (reach_in ms)
-
--- the first of the forms without inner rules that the object has, if it has one
+-- the first of the forms without inner rules that the object has, if it has one. A count needs its at_least, else the
+-- object isn't of this form
 abbrev pub leaf_in : Members → Result (Option RawRule) Breach
 leaf_in ms =
-    first_at (find_member (codes "has") ms) (has_at ms)
-    (first_at (find_member (codes "has_all") ms) has_all_at
-    (first_at (find_member (codes "has_any") ms) has_any_at (count_in ms)))
+    if has_member (codes "has") ms then there (has_at ms)
+    else (if has_member (codes "has_all") ms then there (has_all_at ms)
+    else (if has_member (codes "has_any") ms then there (has_any_at ms)
+    else (if has_member (codes "count") ms && has_member (codes "at_least") ms then there (has_count_at ms)
+    else (if has_member (codes "can_reach") ms then there (reach_at ms) else Ok None))))
 
 -- what was found, or else what comes next
 abbrev pub leaf_or : Option RawRule → Result RawRule Breach → Result RawRule Breach
@@ -82,9 +86,6 @@ all_or None next = next
 abbrev pub some_or : Option (List RawRule) → Result RawRule Breach → Result RawRule Breach
 some_or (Some rs) next = Ok (some_of (rules_of rs))
 some_or None next = next
-
-abbrev pub there : Result (List RawRule) Breach → Result (Option (List RawRule)) Breach
-there read = read >>= (λ rs. Ok (Some rs))
 
 -- true, false or an object, judged by the first form that it has
 abbrev mutual

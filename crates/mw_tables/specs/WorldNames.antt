@@ -1,6 +1,7 @@
 -- The names of a world file that has its shape: resolved, or the first one that stands twice, isn't there or doesn't fit.
 use Rattle.std.specs.Prelude.{ℕ, ℤ, ◌+◌, ◌&&◌, List, [], ◌∷◌, Bool, Option, Some, None, Result, Ok, codes, map}
 use Rattle.mw_json.specs.Grammar.{Breach, ◌>>=◌, under}
+use Rattle.mw_json.specs.Parts.{there}
 use Rattle.mw_json.specs.declared.refusal.Kind.TheVariants.{DuplicateName, DuplicateId, UnknownName}
 use Rattle.mw_json.specs.declared.refusal.Step.TheVariants.{Name, Index}
 use Rattle.mw_rules.specs.Rule.{Rule}
@@ -10,12 +11,38 @@ use Rattle.mw_tables.specs.Names.{Check, demand, stands_first, id_stands_first, 
 use Rattle.mw_tables.specs.Raw.{RawEntrance, RawLocation, RawEntry, RawWorld}
 use Rattle.mw_tables.specs.RuleNames.{region_named, item_such, raw_location_name, rule_named}
 
+-- ---- names and ids that stand at no earlier place
+
+abbrev pub region_once : RawWorld → ℕ → List ℕ → Check
+region_once w i name = demand DuplicateName (stands_first w.regions i name)
+
+abbrev pub item_name_once : RawWorld → ℕ → Item → Check
+item_name_once w i x = demand DuplicateName (stands_first (map item_name w.items) i x.name)
+
+abbrev pub item_id_once : RawWorld → ℕ → Item → Check
+item_id_once w i x = demand DuplicateId (id_stands_first (map item_id w.items) i x.id)
+
+abbrev pub raw_entrance_name : RawEntrance → List ℕ
+raw_entrance_name e = e.name
+
+abbrev pub entrance_once : RawWorld → ℕ → RawEntrance → Check
+entrance_once w i e = demand DuplicateName (stands_first (map raw_entrance_name w.entrances) i e.name)
+
+abbrev pub raw_location_id : RawLocation → Option ℤ
+raw_location_id l = l.id
+
+abbrev pub location_name_once : RawWorld → ℕ → RawLocation → Check
+location_name_once w i l = demand DuplicateName (stands_first (map raw_location_name w.locations) i l.name)
+
+abbrev pub location_id_once : RawWorld → ℕ → RawLocation → Check
+location_id_once w i l = demand DuplicateId (id_stands_first (map raw_location_id w.locations) i l.id)
+
 -- ---- items
 
 unfoldable pub item_named : RawWorld → ℕ → Item → Check
 item_named w i x = do
-  name ← under (Name (codes "name")) (demand DuplicateName (stands_first (map item_name w.items) i x.name))
-  under (Name (codes "id")) (demand DuplicateId (id_stands_first (map item_id w.items) i x.id))
+  name ← under (Name (codes "name")) (item_name_once w i x)
+  under (Name (codes "id")) (item_id_once w i x)
 
 -- each of these items, the first of which stands at this index
 abbrev pub items_named : RawWorld → ℕ → List Item → Check
@@ -26,12 +53,9 @@ items_named w i (x ∷ xs) = do
 
 -- ---- entrances
 
-abbrev pub raw_entrance_name : RawEntrance → List ℕ
-raw_entrance_name e = e.name
-
 unfoldable pub entrance_named : RawWorld → ℕ → RawEntrance → Result Entrance Breach
 entrance_named w i e = do
-  name ← under (Name (codes "name")) (demand DuplicateName (stands_first (map raw_entrance_name w.entrances) i e.name))
+  name ← under (Name (codes "name")) (entrance_once w i e)
   from ← under (Name (codes "from")) (region_named w e.from)
   to ← under (Name (codes "to")) (region_named w e.to)
   rule ← under (Name (codes "rule")) (rule_named w e.rule)
@@ -46,23 +70,15 @@ entrances_named w i (e ∷ es) = do
 
 -- ---- locations
 
-abbrev pub raw_location_id : RawLocation → Option ℤ
-raw_location_id l = l.id
-
-unfoldable pub known_event : RawWorld → List ℕ → Result (Option ℕ) Breach
-known_event w name = do
-  i ← item_such is_event UnknownName w name
-  Ok (Some i)
-
 -- an item without id, where there is an event
 abbrev pub event_named : RawWorld → Option (List ℕ) → Result (Option ℕ) Breach
-event_named w (Some name) = known_event w name
+event_named w (Some name) = there (item_such is_event UnknownName w name)
 event_named w None = Ok None
 
 unfoldable pub location_named : RawWorld → ℕ → RawLocation → Result Location Breach
 location_named w i l = do
-  name ← under (Name (codes "name")) (demand DuplicateName (stands_first (map raw_location_name w.locations) i l.name))
-  id ← under (Name (codes "id")) (demand DuplicateId (id_stands_first (map raw_location_id w.locations) i l.id))
+  name ← under (Name (codes "name")) (location_name_once w i l)
+  id ← under (Name (codes "id")) (location_id_once w i l)
   region ← under (Name (codes "region")) (region_named w l.region)
   rule ← under (Name (codes "rule")) (rule_named w l.rule)
   event ← under (Name (codes "event")) (event_named w l.event)

@@ -1,17 +1,16 @@
 -- The shape of a world file: its tables by kinds and ranges alone, names as they are written, or the first breach.
 use Rattle.std.specs.Prelude.{ℕ, ℤ, ◌||◌, is_some, nat_le, sum_by, List, Option, Some, None, Result, Ok, bytes_eq, codes, if◌then◌else◌}
-use Rattle.mw_model.specs.Json.{Json, null, flag, whole, not_whole, words, many, members, Members, find_member}
-use Rattle.mw_json.specs.Grammar.{Breach, ◌>>=◌, refused, under, other_kind, number_at, text_at, name_at, list_at, object_at, field_at}
-use Rattle.mw_json.specs.Parts.{id_at}
+use Rattle.mw_model.specs.Json.{Json, Members}
+use Rattle.mw_json.specs.Grammar.{Breach, ◌>>=◌, refused, other_kind, number_at, text_at, name_at, list_at, object_at, field_at}
+use Rattle.mw_json.specs.Parts.{id_at, there, null_or_at}
+use Rattle.mw_json.specs.Readers.{each_from, list_of_at, field_or_at}
 use Rattle.mw_json.specs.declared.refusal.Kind.TheVariants.{WrongKind, TooMany, OtherFormat}
-use Rattle.mw_json.specs.declared.refusal.Step.TheVariants.{Name}
 use Rattle.mw_multi.specs.World.{Item}
 use Rattle.mw_multi.specs.RulesKept.{is_progression}
 use Rattle.mw_multi.specs.declared.item.Class.{Class}
 use Rattle.mw_multi.specs.declared.item.Class.TheVariants.{Progression, Useful, Filler, Trap}
 use Rattle.mw_multi.specs.declared.location.LocKind.{LocKind}
 use Rattle.mw_multi.specs.declared.location.LocKind.TheVariants.{Default, Priority, Excluded}
-use Rattle.mw_tables.specs.Lists.{each_from, list_of_at, first_at, field_or}
 use Rattle.mw_tables.specs.Raw.{RawEntrance, RawLocation, RawEntry, RawWorld}
 use Rattle.mw_tables.specs.RuleShape.{rule_at}
 
@@ -24,25 +23,22 @@ format_at format j = do
   s ← text_at j
   format_of format s
 
--- an id, or null for an event
-unfoldable pub some_id_at : Json → Result (Option ℤ) Breach
-some_id_at j = do
-  id ← id_at j
-  Ok (Some id)
-
-abbrev pub id_or_null_at : Json → Result (Option ℤ) Breach
-id_or_null_at null = Ok None
-id_or_null_at (flag b) = some_id_at (flag b)
-id_or_null_at (whole z) = some_id_at (whole z)
-id_or_null_at not_whole = some_id_at not_whole
-id_or_null_at (words s) = some_id_at (words s)
-id_or_null_at (many js) = some_id_at (many js)
-id_or_null_at (members ms) = some_id_at (members ms)
+abbrev pub format_in : List ℕ → Members → Result (Unit {0}) Breach
+format_in format ms = field_at (codes "format") (format_at format) ms
 
 -- ---- items
 
 abbrev pub class_of : List ℕ → Result Class Breach
-class_of s = if bytes_eq s (codes "progression") then Ok Progression else (if bytes_eq s (codes "useful") then Ok Useful else (if bytes_eq s (codes "filler") then Ok Filler else (if bytes_eq s (codes "trap") then Ok Trap else refused WrongKind)))
+class_of s =
+    if bytes_eq s (codes "progression") then Ok Progression
+    else (if bytes_eq s (codes "useful") then Ok Useful
+    else (if bytes_eq s (codes "filler") then Ok Filler
+    else (if bytes_eq s (codes "trap") then Ok Trap else refused WrongKind)))
+
+unfoldable pub class_word_at : Json → Result Class Breach
+class_word_at j = do
+  s ← text_at j
+  class_of s
 
 -- an event is of class progression
 abbrev pub class_fits : Option ℤ → Class → Result Class Breach
@@ -50,15 +46,14 @@ class_fits id class = if is_some id || is_progression class then Ok class else r
 
 unfoldable pub class_at : Option ℤ → Json → Result Class Breach
 class_at id j = do
-  s ← text_at j
-  class ← class_of s
+  class ← class_word_at j
   class_fits id class
 
 unfoldable pub item_at : Json → Result Item Breach
 item_at j = do
   ms ← object_at j
   name ← field_at (codes "name") (name_at 128) ms
-  id ← field_at (codes "id") id_or_null_at ms
+  id ← field_at (codes "id") (null_or_at id_at) ms
   class ← field_at (codes "class") (class_at id) ms
   Ok record { name = name; id = id; class = class }
 
@@ -76,30 +71,28 @@ entrance_at j = do
 -- ---- locations
 
 abbrev pub kind_of : List ℕ → Result LocKind Breach
-kind_of s = if bytes_eq s (codes "default") then Ok Default else (if bytes_eq s (codes "priority") then Ok Priority else (if bytes_eq s (codes "excluded") then Ok Excluded else refused WrongKind))
+kind_of s =
+    if bytes_eq s (codes "default") then Ok Default
+    else (if bytes_eq s (codes "priority") then Ok Priority
+    else (if bytes_eq s (codes "excluded") then Ok Excluded else refused WrongKind))
 
 unfoldable pub kind_at : Json → Result LocKind Breach
 kind_at j = do
   s ← text_at j
   kind_of s
 
-unfoldable pub event_at : Members → Result (Option (List ℕ)) Breach
-event_at ms = do
-  name ← field_at (codes "event") (name_at 128) ms
-  Ok (Some name)
-
 -- the event's name where there is no id; else there is no such member
 abbrev pub event_in : Option ℤ → Members → Result (Option (List ℕ)) Breach
-event_in None ms = event_at ms
-event_in (Some id) ms = first_at (find_member (codes "event") ms) (λ j. under (Name (codes "event")) (other_kind j)) (Ok None)
+event_in None ms = there (field_at (codes "event") (name_at 128) ms)
+event_in (Some id) ms = field_or_at (codes "event") None other_kind ms
 
 unfoldable pub location_at : Json → Result RawLocation Breach
 location_at j = do
   ms ← object_at j
   name ← field_at (codes "name") (name_at 128) ms
-  id ← field_at (codes "id") id_or_null_at ms
+  id ← field_at (codes "id") (null_or_at id_at) ms
   region ← field_at (codes "region") (name_at 128) ms
-  kind ← field_or (codes "kind") Default kind_at ms
+  kind ← field_or_at (codes "kind") Default kind_at ms
   rule ← field_at (codes "rule") rule_at ms
   event ← event_in id ms
   Ok record { name = name; id = id; region = region; kind = kind; rule = rule; event = event }
@@ -128,33 +121,17 @@ pool_at j = do
 
 -- ---- the whole
 
-abbrev pub regions_at : Json → Result (List (List ℕ)) Breach
-regions_at j = list_of_at 5000 (name_at 128) j
-
-abbrev pub items_at : Json → Result (List Item) Breach
-items_at j = list_of_at 10000 item_at j
-
-abbrev pub entrances_at : Json → Result (List RawEntrance) Breach
-entrances_at j = list_of_at 10000 entrance_at j
-
-abbrev pub locations_at : Json → Result (List RawLocation) Breach
-locations_at j = list_of_at 10000 location_at j
-
-unfoldable pub world_members : Members → Result RawWorld Breach
-world_members ms = do
-  format ← field_at (codes "format") (format_at (codes "mw-world-1")) ms
+unfoldable pub world_shape_at : Json → Result RawWorld Breach
+world_shape_at j = do
+  ms ← object_at j
+  format ← format_in (codes "mw-world-1") ms
   game ← field_at (codes "game") (name_at 128) ms
-  origin ← field_or (codes "origin") (codes "Menu") (name_at 128) ms
-  regions ← field_at (codes "regions") regions_at ms
-  items ← field_at (codes "items") items_at ms
-  entrances ← field_at (codes "entrances") entrances_at ms
-  locations ← field_at (codes "locations") locations_at ms
+  origin ← field_or_at (codes "origin") (codes "Menu") (name_at 128) ms
+  regions ← field_at (codes "regions") (list_of_at 5000 (name_at 128)) ms
+  items ← field_at (codes "items") (list_of_at 10000 item_at) ms
+  entrances ← field_at (codes "entrances") (list_of_at 10000 entrance_at) ms
+  locations ← field_at (codes "locations") (list_of_at 10000 location_at) ms
   pool ← field_at (codes "pool") pool_at ms
   filler ← field_at (codes "filler") (name_at 128) ms
   goal ← field_at (codes "goal") rule_at ms
   Ok record { game = game; origin = origin; regions = regions; items = items; entrances = entrances; locations = locations; pool = pool; filler = filler; goal = goal }
-
-unfoldable pub world_shape_at : Json → Result RawWorld Breach
-world_shape_at j = do
-  ms ← object_at j
-  world_members ms

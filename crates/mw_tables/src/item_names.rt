@@ -1,15 +1,15 @@
-ghost use Rattle.std.specs.Prelude.{◌≡◌, slice_get};
+ghost use Rattle.std.specs.Prelude.{◌≡◌};
 ghost use Rattle.mw_json.specs.Grammar.{Gives};
 ghost use Rattle.std.specs.Option.{option_copied};
-ghost use Rattle.mw_json.specs.declared.refusal.Kind.TheVariants.{UnknownName as NoSuchName, RuleItemNotProgression as NoProgression};
+ghost use Rattle.mw_json.specs.declared.refusal.Kind.TheVariants.{UnknownName as NoSuchName};
 ghost use Rattle.mw_multi.specs.WorldKept.{is_event, has_id};
 ghost use Rattle.mw_multi.specs.RulesKept.{is_progression_item};
-ghost use Rattle.mw_tables.specs.Names.{demand};
-ghost use Rattle.mw_tables.specs.RuleNames.{region_named, known_item, item_such, rule_item};
+ghost use Rattle.mw_tables.specs.RuleNames.{region_named, known_item, item_such, may_be_asked, rule_item};
 ghost use Rattle.mw_tables.specs.WorldNames.{may_fill};
 
+use crate::judge::{judge, known};
 use crate::tables::Tables;
-use mw_json::{Kind, Refusal, refuse};
+use mw_json::{Kind, Refusal};
 use mw_multi::{Class, Item};
 use std::alloc::Global;
 
@@ -17,20 +17,14 @@ use std::alloc::Global;
 pub(crate) fn region_in(alloc: Global, tables: &Tables, name: &str) -> Result<u32, Refusal>
     ensures { Gives result (region_named tables.now name.now) }
 {
-    match tables.region(name) {
-        Some(region) => Ok(region),
-        None => refuse(alloc, Kind::UnknownName),
-    }
+    known(alloc, tables.region(name))
 }
 
 /// The item of a name.
 pub(crate) fn item_in(alloc: Global, tables: &Tables, name: &str) -> Result<u32, Refusal>
     ensures { Gives result (known_item tables.now name.now) }
 {
-    match tables.item(name) {
-        Some(item) => Ok(item),
-        None => refuse(alloc, Kind::UnknownName),
-    }
+    known(alloc, tables.item(name))
 }
 
 fn asks(item: Option<&Item>) -> bool
@@ -44,13 +38,10 @@ fn asks(item: Option<&Item>) -> bool
 
 /// The item is one that a rule may ask for.
 pub(crate) fn judge_progression(alloc: Global, tables: &Tables, item: u32) -> Result<(), Refusal>
-    ensures { Gives result (demand NoProgression (is_progression_item (slice_get tables.now.items item))) }
+    ensures { Gives result (may_be_asked tables.now item) }
 {
-    if asks(tables.world().items.get(item as usize)) {
-        Ok(())
-    } else {
-        refuse(alloc, Kind::RuleItemNotProgression)
-    }
+    let asked = asks(tables.world().items.get(item as usize));
+    judge(alloc, asked, Kind::RuleItemNotProgression)
 }
 
 /// An item that a rule may ask for.
@@ -78,11 +69,9 @@ pub(crate) fn event_item_in(alloc: Global, tables: &Tables, name: &str) -> Resul
     ensures { Gives result (item_such is_event NoSuchName tables.now name.now) }
 {
     let item = item_in(alloc, tables, name)?;
-    if is_an_event(tables.world().items.get(item as usize)) {
-        Ok(item)
-    } else {
-        refuse(alloc, Kind::UnknownName)
-    }
+    let fits = is_an_event(tables.world().items.get(item as usize));
+    judge(alloc, fits, Kind::UnknownName)?;
+    Ok(item)
 }
 
 fn has_an_id(item: Option<&Item>) -> bool
@@ -100,11 +89,9 @@ pub(crate) fn pool_item_in(alloc: Global, tables: &Tables, name: &str) -> Result
     ensures { Gives result (item_such has_id NoSuchName tables.now name.now) }
 {
     let item = item_in(alloc, tables, name)?;
-    if has_an_id(tables.world().items.get(item as usize)) {
-        Ok(item)
-    } else {
-        refuse(alloc, Kind::UnknownName)
-    }
+    let fits = has_an_id(tables.world().items.get(item as usize));
+    judge(alloc, fits, Kind::UnknownName)?;
+    Ok(item)
 }
 
 fn fills(item: Option<&Item>) -> bool
@@ -122,9 +109,7 @@ pub(crate) fn filler_item_in(alloc: Global, tables: &Tables, name: &str) -> Resu
     ensures { Gives result (item_such may_fill NoSuchName tables.now name.now) }
 {
     let item = item_in(alloc, tables, name)?;
-    if fills(tables.world().items.get(item as usize)) {
-        Ok(item)
-    } else {
-        refuse(alloc, Kind::UnknownName)
-    }
+    let fits = fills(tables.world().items.get(item as usize));
+    judge(alloc, fits, Kind::UnknownName)?;
+    Ok(item)
 }

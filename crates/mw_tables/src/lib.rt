@@ -2,9 +2,8 @@
 #![tactic(auto)]
 
 mod format;
-mod index;
 mod item_names;
-mod lift;
+mod judge;
 mod named;
 mod names;
 mod once;

@@ -3,6 +3,25 @@ use mw_multi::{Entrance, Location, PoolEntry};
 use mw_rules::Rule;
 use std::marker::Model;
 
+/// A rule whose names are resolved, seen as what it stands for.
+#[derive(Debug, Drop)]
+pub(crate) struct NamedRule {
+    pub rule: Rule,
+}
+
+impl Model for NamedRule {
+    ghost use Rattle.std.specs.Coded.{codes};
+    ghost use Rattle.mw_rules.specs.Rule as plain;
+    ghost use Rattle.mw_rules.specs.View.{view as rule_view};
+    ghost use Rattle.mw_multi.specs.RuleCode.{coded_rule};
+
+    ghost Value = { plain.Rule };
+
+    ghost coded = { coded_rule };
+
+    ghost view = { λ r. rule_view r.rule };
+}
+
 /// What the names of a world stand for.
 #[derive(Debug, Drop)]
 pub(crate) struct NamedWorld {

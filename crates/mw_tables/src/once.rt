@@ -1,15 +1,13 @@
-ghost use Rattle.std.specs.Prelude.{◌≡◌, map};
+ghost use Rattle.std.specs.Prelude.{◌≡◌};
 ghost use Rattle.mw_json.specs.Grammar.{Gives};
-ghost use Rattle.mw_json.specs.declared.refusal.Kind.TheVariants.{DuplicateName as NameTwice, DuplicateId as IdTwice};
-ghost use Rattle.mw_multi.specs.WorldKept.{item_name, item_id};
-ghost use Rattle.mw_tables.specs.Names.{is_at as is_at_place, stands_first, id_stands_first, demand, names_once};
-ghost use Rattle.mw_tables.specs.RuleNames.{raw_location_name};
-ghost use Rattle.mw_tables.specs.WorldNames.{raw_entrance_name, raw_location_id, item_named, items_named};
+ghost use Rattle.mw_tables.specs.Names.{is_at as is_at_place, names_once};
+ghost use Rattle.mw_tables.specs.WorldNames.{region_once, item_name_once, item_id_once, item_named, items_named, entrance_once, location_name_once, location_id_once};
 
+use crate::judge::judge;
 use crate::raw::{RawEntrance, RawLocation};
 use crate::tables::Tables;
 use mw_base::Text;
-use mw_json::{Kind, Refusal, at_index, at_name, refuse};
+use mw_json::{Kind, Refusal, at_index, at_name};
 use mw_multi::Item;
 use std::alloc::Global;
 
@@ -22,15 +20,8 @@ fn is_at(place: usize, found: Option<u32>) -> bool
     }
 }
 
-/// Refused with this kind where it doesn't hold.
-fn judge(alloc: Global, holds: bool, kind: Kind) -> Result<(), Refusal>
-    ensures { Gives result (demand kind holds) }
-{
-    if holds { Ok(()) } else { refuse(alloc, kind) }
-}
-
 fn judge_region(alloc: Global, tables: &Tables, at: usize, name: &Text) -> Result<(), Refusal>
-    ensures { Gives result (demand NameTwice (stands_first tables.now.regions at name.now)) }
+    ensures { Gives result (region_once tables.now at name.now) }
 {
     let once = is_at(at, tables.region(name.as_str()));
     judge(alloc, once, Kind::DuplicateName)
@@ -48,14 +39,14 @@ pub(crate) fn judge_regions(alloc: Global, tables: &Tables) -> Result<(), Refusa
 }
 
 fn judge_item_name(alloc: Global, tables: &Tables, at: usize, item: &Item) -> Result<(), Refusal>
-    ensures { Gives result (demand NameTwice (stands_first (map item_name tables.now.items) at item.now.name)) }
+    ensures { Gives result (item_name_once tables.now at item.now) }
 {
     let once = is_at(at, tables.item(item.name.as_str()));
     judge(alloc, once, Kind::DuplicateName)
 }
 
 fn judge_item_id(alloc: Global, tables: &Tables, at: usize, item: &Item) -> Result<(), Refusal>
-    ensures { Gives result (demand IdTwice (id_stands_first (map item_id tables.now.items) at item.now.id)) }
+    ensures { Gives result (item_id_once tables.now at item.now) }
 {
     match &item.id {
         Some(id) => {
@@ -92,7 +83,7 @@ pub(crate) fn judge_entrance_name(
     at: usize,
     entrance: &RawEntrance,
 ) -> Result<(), Refusal>
-    ensures { Gives result (demand NameTwice (stands_first (map raw_entrance_name tables.now.entrances) at entrance.now.name)) }
+    ensures { Gives result (entrance_once tables.now at entrance.now) }
 {
     let once = is_at(at, tables.entrance(entrance.name.as_str()));
     judge(alloc, once, Kind::DuplicateName)
@@ -105,7 +96,7 @@ pub(crate) fn judge_location_name(
     at: usize,
     location: &RawLocation,
 ) -> Result<(), Refusal>
-    ensures { Gives result (demand NameTwice (stands_first (map raw_location_name tables.now.locations) at location.now.name)) }
+    ensures { Gives result (location_name_once tables.now at location.now) }
 {
     let once = is_at(at, tables.location(location.name.as_str()));
     judge(alloc, once, Kind::DuplicateName)
@@ -118,7 +109,7 @@ pub(crate) fn judge_location_id(
     at: usize,
     location: &RawLocation,
 ) -> Result<(), Refusal>
-    ensures { Gives result (demand IdTwice (id_stands_first (map raw_location_id tables.now.locations) at location.now.id)) }
+    ensures { Gives result (location_id_once tables.now at location.now) }
 {
     match &location.id {
         Some(id) => {

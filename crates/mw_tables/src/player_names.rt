@@ -1,7 +1,6 @@
-ghost use Rattle.std.specs.Prelude.{◌≡◌, ◌++◌, ◌∷◌, [], IfOk, IsTrue, OnOk, not, codes};
-ghost use Rattle.mw_json.specs.Grammar.{Gives, under};
-ghost use Rattle.mw_json.specs.declared.refusal.Step.TheVariants.{Name, Index};
-ghost use Rattle.mw_tables.specs.PlayersOf.{has_name, names_differ, players_named};
+ghost use Rattle.std.specs.Prelude.{◌≡◌, ◌++◌, ◌∷◌, [], IfOk, IsTrue, OnOk, not};
+ghost use Rattle.mw_json.specs.Grammar.{Gives};
+ghost use Rattle.mw_tables.specs.PlayersOf.{has_name, player_named, players_named};
 
 use indexmap::IndexSet;
 use mw_base::{Memory, Text};
@@ -49,7 +48,7 @@ fn judge_team_names<'a>(
     names: &'a [Text],
     at: u64,
 ) -> Result<(), Refusal>
-    ensures answer { Gives result (under (Index at) (under (Name (codes "names")) (names_differ seen.old 0 names.now))) }
+    ensures answer { Gives result (player_named seen.old at names.now) }
     ensures grown { OnOk result (seen.new ≡ seen.old ++ names.now) }
 {
     for (i, name) in names.iter().enumerate() {

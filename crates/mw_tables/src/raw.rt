@@ -22,7 +22,12 @@ impl Model for RawEntrance {
 
     ghost coded = { Prim.hlevel (codes, coded_raw_rule) };
 
-    ghost view = { λ e. record { name = e.name; from = e.from; to = e.to; rule = raw_view e.rule } };
+    ghost view = { λ e. record {
+      name = e.name;
+      from = e.from;
+      to = e.to;
+      rule = raw_view e.rule;
+    } };
 }
 
 /// A location as it is written.

@@ -1,4 +1,5 @@
 use mw_base::{List, Text};
+use mw_json::Seen;
 
 /// A rule as it is written, with items, regions and locations by their names.
 #[derive(Debug, Drop)]
@@ -13,4 +14,13 @@ pub(crate) enum RawRule {
     Location(Text),
     And(List<RawRule>),
     Or(List<RawRule>),
+}
+
+impl Seen for RawRule {
+    ghost use Rattle.mw_tables.specs.Raw as plain;
+    ghost use Rattle.mw_tables.specs.RawView.{raw_view};
+
+    ghost Plain = { plain.RawRule };
+
+    ghost seen = { raw_view };
 }

@@ -1,74 +1,68 @@
-ghost use Rattle.std.specs.Prelude.{◌≡◌, option_map, codes};
+ghost use Rattle.std.specs.Prelude.{◌≡◌, option_map};
 ghost use Rattle.mw_json.specs.View.{view, members_view};
-ghost use Rattle.mw_json.specs.Grammar.{Gives, GivesBy, number_at};
-ghost use Rattle.mw_tables.specs.Lists.{field_or};
+ghost use Rattle.mw_json.specs.Grammar.{Gives, GivesBy};
 ghost use Rattle.mw_tables.specs.RawView.{raw_view};
-ghost use Rattle.mw_tables.specs.RuleShape.{has_at, has_all_at, has_any_at, has_count_at, region_at, location_at, place_at, can_reach_at, reach_in as reach_in_members, count_in as count_in_members, leaf_in as leaf_in_members};
+ghost use Rattle.mw_tables.specs.RuleShape.{names_at, has_at, has_all_at, has_any_at, has_count_at, region_at, location_at, place_at, reach_at, leaf_in as leaf_in_members};
 
-use crate::lift::raw_rule_at_name;
-use crate::parts::{count_in, names_of};
+use crate::parts::{count_in, has_member, long_name_in};
 use crate::raw_rule::RawRule;
-use mw_json::{Kind, Member, Refusal, Tree, at_name, find, name_in, object_of, refuse};
+use mw_base::{List, Text};
+use mw_json::{
+    Kind, Member, Refusal, Tree, field_in, field_or, field_seen, list, object_of, refuse,
+};
 use std::alloc::Global;
 
-/// The count of a form, one where it is absent.
-fn count_or_one(alloc: Global, members: &[Member]) -> Result<u32, Refusal>
-    ensures { Gives result (field_or (codes "count") 1 (number_at 1 10000) (members_view members.now)) }
+/// At most 64 names.
+fn names_in(alloc: Global, tree: &Tree) -> Result<List<Text>, Refusal>
+    ensures { Gives result (names_at (view tree.now)) }
 {
-    match find(members, "count") {
-        Some(found) => at_name(alloc, count_in(alloc, found), "count"),
-        None => Ok(1),
-    }
+    list(alloc, tree, 64, long_name_in)
 }
 
 #[tactic(auto, unfolding(crate::specs::RuleShape::has_at))]
-fn has_of(alloc: Global, members: &[Member], tree: &Tree) -> Result<Option<RawRule>, Refusal>
-    ensures { GivesBy (option_map raw_view) result (has_at (members_view members.now) (view tree.now)) }
+fn has_in(alloc: Global, members: &[Member]) -> Result<RawRule, Refusal>
+    ensures { GivesBy raw_view result (has_at (members_view members.now)) }
 {
-    let item = at_name(alloc, name_in(alloc, tree, 128), "has")?;
-    let count = count_or_one(alloc, members)?;
-    Ok(Some(RawRule::Has { item, count }))
+    let item = field_in(alloc, members, "has", long_name_in)?;
+    let count = field_or(alloc, members, "count", 1, count_in)?;
+    Ok(RawRule::Has { item, count })
 }
 
 #[tactic(auto, unfolding(crate::specs::RuleShape::has_all_at))]
-fn has_all_of(alloc: Global, tree: &Tree) -> Result<Option<RawRule>, Refusal>
-    ensures { GivesBy (option_map raw_view) result (has_all_at (view tree.now)) }
+fn has_all_in(alloc: Global, members: &[Member]) -> Result<RawRule, Refusal>
+    ensures { GivesBy raw_view result (has_all_at (members_view members.now)) }
 {
-    let items = at_name(alloc, names_of(alloc, tree, 64), "has_all")?;
-    Ok(Some(RawRule::HasAll(items)))
+    Ok(RawRule::HasAll(field_in(alloc, members, "has_all", names_in)?))
 }
 
 #[tactic(auto, unfolding(crate::specs::RuleShape::has_any_at))]
-fn has_any_of(alloc: Global, tree: &Tree) -> Result<Option<RawRule>, Refusal>
-    ensures { GivesBy (option_map raw_view) result (has_any_at (view tree.now)) }
+fn has_any_in(alloc: Global, members: &[Member]) -> Result<RawRule, Refusal>
+    ensures { GivesBy raw_view result (has_any_at (members_view members.now)) }
 {
-    let items = at_name(alloc, names_of(alloc, tree, 64), "has_any")?;
-    Ok(Some(RawRule::HasAny(items)))
+    Ok(RawRule::HasAny(field_in(alloc, members, "has_any", names_in)?))
 }
 
 #[tactic(auto, unfolding(crate::specs::RuleShape::has_count_at))]
-fn has_count_of(alloc: Global, tree: &Tree, least: &Tree) -> Result<Option<RawRule>, Refusal>
-    ensures { GivesBy (option_map raw_view) result (has_count_at (view tree.now) (view least.now)) }
+fn has_count_in(alloc: Global, members: &[Member]) -> Result<RawRule, Refusal>
+    ensures { GivesBy raw_view result (has_count_at (members_view members.now)) }
 {
-    let items = at_name(alloc, names_of(alloc, tree, 64), "count")?;
-    let at_least = at_name(alloc, count_in(alloc, least), "at_least")?;
-    Ok(Some(RawRule::Count { items, at_least }))
+    let items = field_in(alloc, members, "count", names_in)?;
+    let at_least = field_in(alloc, members, "at_least", count_in)?;
+    Ok(RawRule::Count { items, at_least })
 }
 
 #[tactic(auto, unfolding(crate::specs::RuleShape::region_at))]
-fn region_of(alloc: Global, tree: &Tree) -> Result<RawRule, Refusal>
-    ensures { GivesBy raw_view result (region_at (view tree.now)) }
+fn region_in(alloc: Global, members: &[Member]) -> Result<RawRule, Refusal>
+    ensures { GivesBy raw_view result (region_at (members_view members.now)) }
 {
-    let name = at_name(alloc, name_in(alloc, tree, 128), "region")?;
-    Ok(RawRule::Region(name))
+    Ok(RawRule::Region(field_in(alloc, members, "region", long_name_in)?))
 }
 
 #[tactic(auto, unfolding(crate::specs::RuleShape::location_at))]
-fn location_of(alloc: Global, tree: &Tree) -> Result<RawRule, Refusal>
-    ensures { GivesBy raw_view result (location_at (view tree.now)) }
+fn location_in(alloc: Global, members: &[Member]) -> Result<RawRule, Refusal>
+    ensures { GivesBy raw_view result (location_at (members_view members.now)) }
 {
-    let name = at_name(alloc, name_in(alloc, tree, 128), "location")?;
-    Ok(RawRule::Location(name))
+    Ok(RawRule::Location(field_in(alloc, members, "location", long_name_in)?))
 }
 
 /// A region, or else a location.
@@ -77,56 +71,39 @@ fn place_of(alloc: Global, tree: &Tree) -> Result<RawRule, Refusal>
     ensures { GivesBy raw_view result (place_at (view tree.now)) }
 {
     let members = object_of(alloc, tree)?;
-    if let Some(found) = find(members, "region") {
-        return region_of(alloc, found);
+    if has_member(members, "region") {
+        return region_in(alloc, members);
     }
-    match find(members, "location") {
-        Some(found) => location_of(alloc, found),
-        None => refuse(alloc, Kind::WrongKind),
+    if has_member(members, "location") {
+        return location_in(alloc, members);
     }
+    refuse(alloc, Kind::WrongKind)
 }
 
-#[tactic(auto, unfolding(crate::specs::RuleShape::can_reach_at))]
-fn can_reach_of(alloc: Global, tree: &Tree) -> Result<Option<RawRule>, Refusal>
-    ensures { GivesBy (option_map raw_view) result (can_reach_at (view tree.now)) }
+fn reach_in(alloc: Global, members: &[Member]) -> Result<RawRule, Refusal>
+    ensures { GivesBy raw_view result (reach_at (members_view members.now)) }
 {
-    let rule = raw_rule_at_name(alloc, place_of(alloc, tree), "can_reach")?;
-    Ok(Some(rule))
-}
-
-fn reach_in(alloc: Global, members: &[Member]) -> Result<Option<RawRule>, Refusal>
-    ensures { GivesBy (option_map raw_view) result (reach_in_members (members_view members.now)) }
-{
-    match find(members, "can_reach") {
-        Some(found) => can_reach_of(alloc, found),
-        None => Ok(None),
-    }
-}
-
-fn count_form(alloc: Global, members: &[Member]) -> Result<Option<RawRule>, Refusal>
-    ensures { GivesBy (option_map raw_view) result (count_in_members (members_view members.now)) }
-{
-    let Some(found) = find(members, "count") else {
-        return reach_in(alloc, members);
-    };
-    match find(members, "at_least") {
-        Some(least) => has_count_of(alloc, found, least),
-        None => reach_in(alloc, members),
-    }
+    field_seen(alloc, members, "can_reach", place_of)
 }
 
 /// The first of the forms without inner rules that the object has, if it has one.
 pub(crate) fn leaf_in(alloc: Global, members: &[Member]) -> Result<Option<RawRule>, Refusal>
     ensures { GivesBy (option_map raw_view) result (leaf_in_members (members_view members.now)) }
 {
-    if let Some(found) = find(members, "has") {
-        return has_of(alloc, members, found);
+    if has_member(members, "has") {
+        return Ok(Some(has_in(alloc, members)?));
     }
-    if let Some(found) = find(members, "has_all") {
-        return has_all_of(alloc, found);
+    if has_member(members, "has_all") {
+        return Ok(Some(has_all_in(alloc, members)?));
     }
-    match find(members, "has_any") {
-        Some(found) => has_any_of(alloc, found),
-        None => count_form(alloc, members),
+    if has_member(members, "has_any") {
+        return Ok(Some(has_any_in(alloc, members)?));
     }
+    if has_member(members, "count") && has_member(members, "at_least") {
+        return Ok(Some(has_count_in(alloc, members)?));
+    }
+    if has_member(members, "can_reach") {
+        return Ok(Some(reach_in(alloc, members)?));
+    }
+    Ok(None)
 }

@@ -1,19 +1,19 @@
-ghost use Rattle.std.specs.Prelude.{◌≡◌, [], map, not};
-ghost use Rattle.mw_json.specs.Grammar.{Gives, GivesBy};
-ghost use Rattle.mw_json.specs.declared.refusal.Kind.TheVariants.{DuplicateName as StandsTwice};
+ghost use Rattle.std.specs.Prelude.{◌≡◌, [], Result, map};
+ghost use Rattle.mw_json.specs.Grammar.{Breach, Gives, GivesBy};
 ghost use Rattle.mw_rules.specs.Names.{is_among as is_among_items};
+ghost use Rattle.mw_rules.specs.Rule as plain;
 ghost use Rattle.mw_rules.specs.View.{view as rule_view};
-ghost use Rattle.mw_tables.specs.Names.{demand};
 ghost use Rattle.mw_tables.specs.Raw.{has, has_all, has_any, has_count, reach_region, reach_location};
 ghost use Rattle.mw_tables.specs.RawView.{raw_view, raw_rules_view};
-ghost use Rattle.mw_tables.specs.RuleNames.{rule_named, rules_named, listed_item, listed_items, location_place};
+ghost use Rattle.mw_tables.specs.RuleNames.{is_new, rule_named, rules_under, listed_item, listed_items, location_place};
 
 use crate::item_names::{item_in, judge_progression, region_in, rule_item_in};
-use crate::lift::{rule_at_index, rules_at_name};
+use crate::judge::{judge, known};
+use crate::named::NamedRule;
 use crate::raw_rule::RawRule;
 use crate::tables::Tables;
 use mw_base::{List, Text};
-use mw_json::{Kind, Refusal, at_index, at_name, refuse};
+use mw_json::{Kind, Refusal, at_index, at_name};
 use mw_rules::Rule;
 use std::alloc::Global;
 
@@ -29,13 +29,9 @@ fn is_among(items: &[u32], item: u32) -> bool
 }
 
 fn judge_once(alloc: Global, before: &[u32], item: u32) -> Result<(), Refusal>
-    ensures { Gives result (demand StandsTwice (not (is_among_items before.now item))) }
+    ensures { Gives result (is_new before.now item) }
 {
-    if is_among(before, item) {
-        refuse(alloc, Kind::DuplicateName)
-    } else {
-        Ok(())
-    }
+    judge(alloc, !is_among(before, item), Kind::DuplicateName)
 }
 
 #[tactic(auto, unfolding(crate::specs::RuleNames::listed_item))]
@@ -70,10 +66,7 @@ fn listed_items_in(alloc: Global, tables: &Tables, names: &[Text]) -> Result<Lis
 fn location_place_in(alloc: Global, tables: &Tables, name: &str) -> Result<u32, Refusal>
     ensures { Gives result (location_place tables.now name.now) }
 {
-    match tables.location_place(name) {
-        Some(place) => Ok(place),
-        None => refuse(alloc, Kind::UnknownName),
-    }
+    known(alloc, tables.location_place(name))
 }
 
 fn has_in(alloc: Global, tables: &Tables, name: &str, count: u32) -> Result<Rule, Refusal>
@@ -120,9 +113,27 @@ fn reach_location_in(alloc: Global, tables: &Tables, name: &str) -> Result<Rule,
     Ok(Rule::CanReach { place })
 }
 
+/// The answer for a rule, seen as what it stands for.
+fn named(answer: Result<Rule, Refusal>) -> Result<NamedRule, Refusal>
+    ensures { (read : Result plain.Rule Breach) → GivesBy rule_view answer read
+        → Gives result read }
+{
+    Ok(NamedRule { rule: answer? })
+}
+
 /// A rule with its names resolved.
+pub(crate) fn named_rule_in(
+    alloc: Global,
+    tables: &Tables,
+    rule: &RawRule,
+) -> Result<NamedRule, Refusal>
+    ensures { Gives result (rule_named tables.now (raw_view rule.now)) }
+{
+    named(rule_in(alloc, tables, rule))
+}
+
 #[cycle(named)]
-pub(crate) fn rule_in(alloc: Global, tables: &Tables, rule: &RawRule) -> Result<Rule, Refusal>
+fn rule_in(alloc: Global, tables: &Tables, rule: &RawRule) -> Result<Rule, Refusal>
     ensures { GivesBy rule_view result (rule_named tables.now (raw_view rule.now)) }
 {
     match rule {
@@ -136,25 +147,27 @@ pub(crate) fn rule_in(alloc: Global, tables: &Tables, rule: &RawRule) -> Result<
         }
         RawRule::Region(name) => reach_region_in(alloc, tables, name.as_str()),
         RawRule::Location(name) => reach_location_in(alloc, tables, name.as_str()),
-        RawRule::And(rules) => {
-            let rules = rules_in(alloc, tables, rules.as_slice());
-            Ok(Rule::And(rules_at_name(alloc, rules, "and")?))
-        }
-        RawRule::Or(rules) => {
-            let rules = rules_in(alloc, tables, rules.as_slice());
-            Ok(Rule::Or(rules_at_name(alloc, rules, "or")?))
-        }
+        RawRule::And(rules) => Ok(Rule::And(rules_in(alloc, tables, rules.as_slice(), "and")?)),
+        RawRule::Or(rules) => Ok(Rule::Or(rules_in(alloc, tables, rules.as_slice(), "or")?)),
     }
 }
 
+/// The rules that stand under a name, resolved.
 #[cycle(named)]
-fn rules_in(alloc: Global, tables: &Tables, rules: &[RawRule]) -> Result<List<Rule>, Refusal>
-    ensures { GivesBy (λ rs. map rule_view rs) result (rules_named tables.now 0 (raw_rules_view rules.now)) }
+fn rules_in(
+    alloc: Global,
+    tables: &Tables,
+    rules: &[RawRule],
+    name: &str,
+) -> Result<List<Rule>, Refusal>
+    ensures { GivesBy (map rule_view) result
+        (rules_under name.now tables.now (raw_rules_view rules.now)) }
 {
-    let mut named = List::new(alloc);
+    let mut found = List::new(alloc);
     for (i, rule) in rules.iter().enumerate() {
-        let rule = rule_at_index(rule_in(alloc, tables, rule), i as u64)?;
-        named.push(rule)?;
+        let rule = at_index(named(rule_in(alloc, tables, rule)), i as u64);
+        let rule = at_name(alloc, rule, name)?;
+        found.push(rule.rule)?;
     }
-    Ok(named)
+    Ok(found)
 }

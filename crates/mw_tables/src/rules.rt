@@ -6,12 +6,10 @@ ghost use Rattle.mw_tables.specs.Sizes.{room_left};
 ghost use Rattle.mw_tables.specs.RawView.{raw_view, raw_rules_view};
 ghost use Rattle.mw_tables.specs.RuleShape.{form_at, rules_under as rules_under_name, rules_at, rules_from, sized as sized_rule, rule_at};
 
-use crate::lift::{raw_rule_at_index, raw_rules_at_name};
-use crate::parts::refuse_other;
 use crate::raw_rule::RawRule;
 use crate::rule_forms::leaf_in;
 use mw_base::List;
-use mw_json::{Kind, Member, Refusal, Tree, refuse};
+use mw_json::{Kind, Member, Refusal, Tree, at_index_seen, at_name_seen, refuse, refuse_other};
 use std::alloc::Global;
 
 /// A rule of any size.
@@ -46,11 +44,12 @@ fn rules_under(
     members: &[Member],
     name: &str,
 ) -> Result<Option<List<RawRule>>, Refusal>
-    ensures { GivesBy (option_map (λ rs. map raw_view rs)) result (rules_under_name name.now (members_view members.now)) }
+    ensures { GivesBy (option_map (map raw_view)) result
+        (rules_under_name name.now (members_view members.now)) }
 {
     for member in members {
         if member.name.as_str() == name {
-            let rules = raw_rules_at_name(alloc, rules_of(alloc, &member.value), name)?;
+            let rules = at_name_seen(alloc, rules_of(alloc, &member.value), name)?;
             return Ok(Some(rules));
         }
     }
@@ -59,7 +58,7 @@ fn rules_under(
 
 #[cycle(form)]
 fn rules_of(alloc: Global, tree: &Tree) -> Result<List<RawRule>, Refusal>
-    ensures { GivesBy (λ rs. map raw_view rs) result (rules_at (view tree.now)) }
+    ensures { GivesBy (map raw_view) result (rules_at (view tree.now)) }
 {
     match tree {
         Tree::Many(items) => rules_in(alloc, items.as_slice()),
@@ -69,11 +68,11 @@ fn rules_of(alloc: Global, tree: &Tree) -> Result<List<RawRule>, Refusal>
 
 #[cycle(form)]
 fn rules_in(alloc: Global, items: &[Tree]) -> Result<List<RawRule>, Refusal>
-    ensures { GivesBy (λ rs. map raw_view rs) result (rules_from 0 (items_view items.now)) }
+    ensures { GivesBy (map raw_view) result (rules_from 0 (items_view items.now)) }
 {
     let mut rules = List::new(alloc);
     for (i, item) in items.iter().enumerate() {
-        let rule = raw_rule_at_index(form_of(alloc, item), i as u64)?;
+        let rule = at_index_seen(form_of(alloc, item), i as u64)?;
         rules.push(rule)?;
     }
     Ok(rules)

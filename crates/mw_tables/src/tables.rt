@@ -1,15 +1,14 @@
-ghost use Rattle.std.specs.Prelude.{◌≡◌, ◌+◌, ◌≤◌, ℕ, ℤ, List, bytes_eq, map, option_map, length, IfOk};
-ghost use Rattle.std.specs.Ordering.{int_eq};
-ghost use Rattle.std.specs.HashMap as hash;
+ghost use Rattle.std.specs.Prelude.{◌≡◌, ◌≤◌, map, length, IfOk};
 ghost use Rattle.mw_multi.specs.WorldKept.{item_name, item_id};
-ghost use Rattle.mw_tables.specs.Names.{index_of, index_of_id};
-ghost use Rattle.mw_tables.specs.RuleNames.{raw_location_name};
+ghost use Rattle.mw_multi.specs.Indexes.{index_of_name, index_of_id};
+ghost use Rattle.mw_tables.specs.RuleNames.{raw_location_name, place_of_location};
 ghost use Rattle.mw_tables.specs.WorldNames.{raw_entrance_name, raw_location_id};
 ghost use Rattle.mw_tables.specs.Small.{IsSmall};
+ghost use Rattle.mw_tables.specs.Tables.{IndexesNames, IndexesIds};
 
-use crate::index::{IdIndex, NameIndex, index_ids, index_names};
 use crate::raw::RawWorld;
 use mw_base::Memory;
+use mw_multi::{IdIndex, NameIndex, index_ids, index_names};
 use std::alloc::Global;
 use std::marker::Model;
 
@@ -26,17 +25,15 @@ pub(crate) struct Tables<'a> {
 }
 
 impl<'a> Model for Tables<'a> {
-    ghost use Rattle.std.specs.Prelude.{◌≡◌, ℕ, ℤ, List, map, bytes_eq};
+    ghost use Rattle.std.specs.Prelude.{map};
     ghost use Rattle.std.specs.Coded.{codes};
-    ghost use Rattle.std.specs.Ordering.{int_eq};
-    ghost use Rattle.std.specs.HashMap as hash;
     ghost use Rattle.mw_multi.specs.WorldKept.{item_name, item_id};
     ghost use Rattle.mw_tables.specs.RawCode.{coded_raw_rule};
     ghost use Rattle.mw_tables.specs.Raw as plain;
-    ghost use Rattle.mw_tables.specs.Names.{index_of, index_of_id};
     ghost use Rattle.mw_tables.specs.RuleNames.{raw_location_name};
     ghost use Rattle.mw_tables.specs.WorldNames.{raw_entrance_name, raw_location_id};
     ghost use Rattle.mw_tables.specs.Small.{IsSmall};
+    ghost use Rattle.mw_tables.specs.Tables.{IndexesNames, IndexesIds};
 
     ghost Value = { plain.RawWorld };
 
@@ -45,69 +42,27 @@ impl<'a> Model for Tables<'a> {
     ghost view = { λ t. t.world.now };
 
     ghost invariant = { λ t. IsSmall t.world.now
-        × ((q : List ℕ) → hash.get_by (λ k. bytes_eq q k.now) t.regions ≡ index_of t.world.now.regions q)
-        × ((q : List ℕ) → hash.get_by (λ k. bytes_eq q k.now) t.items ≡ index_of (map item_name t.world.now.items) q)
-        × ((q : List ℕ) → hash.get_by (λ k. bytes_eq q k.now) t.entrances ≡ index_of (map raw_entrance_name t.world.now.entrances) q)
-        × ((q : List ℕ) → hash.get_by (λ k. bytes_eq q k.now) t.locations ≡ index_of (map raw_location_name t.world.now.locations) q)
-        × ((q : ℤ) → hash.get int_eq t.item_ids q ≡ index_of_id (map item_id t.world.now.items) q)
-        × ((q : ℤ) → hash.get int_eq t.location_ids q ≡ index_of_id (map raw_location_id t.world.now.locations) q) };
-}
-
-#[tactic(auto, using(crate::proofs::Indexing::names_as_they_are))]
-fn region_index<'a>(alloc: Global, world: &'a RawWorld) -> Result<NameIndex<'a>, Memory>
-    requires { length world.now.regions ≤ 10000 }
-    ensures { IfOk result (λ index. (q : List ℕ) → hash.get_by (λ k. bytes_eq q k.now) index ≡ index_of world.now.regions q) }
-{
-    index_names(alloc, world.regions.as_slice())
-}
-
-fn item_index<'a>(alloc: Global, world: &'a RawWorld) -> Result<NameIndex<'a>, Memory>
-    requires { length world.now.items ≤ 10000 }
-    ensures { IfOk result (λ index. (q : List ℕ) → hash.get_by (λ k. bytes_eq q k.now) index ≡ index_of (map item_name world.now.items) q) }
-{
-    index_names(alloc, world.items.as_slice())
-}
-
-fn entrance_index<'a>(alloc: Global, world: &'a RawWorld) -> Result<NameIndex<'a>, Memory>
-    requires { length world.now.entrances ≤ 10000 }
-    ensures { IfOk result (λ index. (q : List ℕ) → hash.get_by (λ k. bytes_eq q k.now) index ≡ index_of (map raw_entrance_name world.now.entrances) q) }
-{
-    index_names(alloc, world.entrances.as_slice())
-}
-
-fn location_index<'a>(alloc: Global, world: &'a RawWorld) -> Result<NameIndex<'a>, Memory>
-    requires { length world.now.locations ≤ 10000 }
-    ensures { IfOk result (λ index. (q : List ℕ) → hash.get_by (λ k. bytes_eq q k.now) index ≡ index_of (map raw_location_name world.now.locations) q) }
-{
-    index_names(alloc, world.locations.as_slice())
-}
-
-fn item_id_index(alloc: Global, world: &RawWorld) -> Result<IdIndex, Memory>
-    requires { length world.now.items ≤ 10000 }
-    ensures { IfOk result (λ index. (q : ℤ) → hash.get int_eq index q ≡ index_of_id (map item_id world.now.items) q) }
-{
-    index_ids(alloc, world.items.as_slice())
-}
-
-fn location_id_index(alloc: Global, world: &RawWorld) -> Result<IdIndex, Memory>
-    requires { length world.now.locations ≤ 10000 }
-    ensures { IfOk result (λ index. (q : ℤ) → hash.get int_eq index q ≡ index_of_id (map raw_location_id world.now.locations) q) }
-{
-    index_ids(alloc, world.locations.as_slice())
+        × IndexesNames t.regions t.world.now.regions
+        × IndexesNames t.items (map item_name t.world.now.items)
+        × IndexesNames t.entrances (map raw_entrance_name t.world.now.entrances)
+        × IndexesNames t.locations (map raw_location_name t.world.now.locations)
+        × IndexesIds t.item_ids (map item_id t.world.now.items)
+        × IndexesIds t.location_ids (map raw_location_id t.world.now.locations) };
 }
 
 impl<'a> Tables<'a> {
     /// The tables of a world.
+    #[tactic(auto, using(mw_multi::proofs::Indexing::names_as_they_are))]
     pub(crate) fn of(alloc: Global, world: &'a RawWorld) -> Result<Tables<'a>, Memory>
         requires { IsSmall world.now }
         ensures { IfOk result (λ t. t ≡ world.now) }
     {
-        let regions = region_index(alloc, world)?;
-        let items = item_index(alloc, world)?;
-        let entrances = entrance_index(alloc, world)?;
-        let locations = location_index(alloc, world)?;
-        let item_ids = item_id_index(alloc, world)?;
-        let location_ids = location_id_index(alloc, world)?;
+        let regions = index_names(alloc, world.regions.as_slice())?;
+        let items = index_names(alloc, world.items.as_slice())?;
+        let entrances = index_names(alloc, world.entrances.as_slice())?;
+        let locations = index_names(alloc, world.locations.as_slice())?;
+        let item_ids = index_ids(alloc, world.items.as_slice())?;
+        let location_ids = index_ids(alloc, world.locations.as_slice())?;
         Ok(Tables {
             world,
             regions,
@@ -121,36 +76,36 @@ impl<'a> Tables<'a> {
 
     /// The region of a name; None exactly where there is none.
     pub(crate) fn region(&self, name: &str) -> Option<u32>
-        ensures { result ≡ index_of self.now.regions name.now }
+        ensures { result ≡ index_of_name self.now.regions name.now }
     {
         self.regions.get(name).copied()
     }
 
     /// The item of a name; None exactly where there is none.
     pub(crate) fn item(&self, name: &str) -> Option<u32>
-        ensures { result ≡ index_of (map item_name self.now.items) name.now }
+        ensures { result ≡ index_of_name (map item_name self.now.items) name.now }
     {
         self.items.get(name).copied()
     }
 
     /// The entrance of a name; None exactly where there is none.
     pub(crate) fn entrance(&self, name: &str) -> Option<u32>
-        ensures { result ≡ index_of (map raw_entrance_name self.now.entrances) name.now }
+        ensures { result ≡ index_of_name (map raw_entrance_name self.now.entrances) name.now }
     {
         self.entrances.get(name).copied()
     }
 
     /// The location of a name; None exactly where there is none.
     pub(crate) fn location(&self, name: &str) -> Option<u32>
-        ensures { result ≡ index_of (map raw_location_name self.now.locations) name.now }
+        ensures { result ≡ index_of_name (map raw_location_name self.now.locations) name.now }
     {
         self.locations.get(name).copied()
     }
 
-    /// The place of the location of a name, after those of the regions; None exactly where there is none.
-    #[tactic(auto, using(crate::proofs::Indexing::place_is_small))]
+    /// The place of the location of a name, after those of the regions; None where there is none.
+    #[tactic(auto, using(mw_multi::proofs::Indexing::place_is_small))]
     pub(crate) fn location_place(&self, name: &str) -> Option<u32>
-        ensures { result ≡ option_map (λ i. length self.now.regions + i) (index_of (map raw_location_name self.now.locations) name.now) }
+        ensures { result ≡ place_of_location self.now name.now }
     {
         let world = self.world;
         let regions = world.regions.len() as u32;

@@ -1,47 +1,20 @@
-ghost use Rattle.std.specs.Prelude.{◌≡◌, codes};
-ghost use Rattle.mw_json.specs.View.{view, items_view, members_view};
-ghost use Rattle.mw_json.specs.Grammar.{Gives, field_at};
-ghost use Rattle.mw_tables.specs.Lists.{each_from};
-ghost use Rattle.mw_tables.specs.WorldShape.{some_id_at, id_or_null_at, class_of as class_of_word, class_fits, class_at, item_at, items_at};
+ghost use Rattle.std.specs.Prelude.{◌≡◌};
+ghost use Rattle.mw_json.specs.View.{view};
+ghost use Rattle.mw_json.specs.Grammar.{Gives};
+ghost use Rattle.mw_tables.specs.WorldShape.{class_word_at, class_at, item_at};
 
-use crate::parts::name_member;
-use mw_base::{ItemId, List};
-use mw_json::{
-    Kind, Member, Refusal, Tree, at_index, at_name, item_id_in, list_of_at_most, member_of,
-    object_of, refuse, text_of,
-};
+use crate::parts::long_name_in;
+use mw_base::ItemId;
+use mw_json::{Kind, Refusal, Tree, field_in, item_id_in, null_or, object_of, refuse, text_of};
 use mw_multi::{Class, Item};
 use std::alloc::Global;
 
-#[tactic(auto, unfolding(crate::specs::WorldShape::some_id_at))]
-fn some_id_in(alloc: Global, tree: &Tree) -> Result<Option<ItemId>, Refusal>
-    ensures { Gives result (some_id_at (view tree.now)) }
+/// A class by its word.
+#[tactic(auto, unfolding(crate::specs::WorldShape::class_word_at))]
+fn class_word_in(alloc: Global, tree: &Tree) -> Result<Class, Refusal>
+    ensures { Gives result (class_word_at (view tree.now)) }
 {
-    Ok(Some(item_id_in(alloc, tree)?))
-}
-
-/// An id, or null for an event.
-fn id_or_null_in(alloc: Global, tree: &Tree) -> Result<Option<ItemId>, Refusal>
-    ensures { Gives result (id_or_null_at (view tree.now)) }
-{
-    match tree {
-        Tree::Null => Ok(None),
-        _ => some_id_in(alloc, tree),
-    }
-}
-
-#[tactic(auto, unfolding(mw_json::specs::Grammar::field_at))]
-fn id_member(alloc: Global, members: &[Member]) -> Result<Option<ItemId>, Refusal>
-    ensures { Gives result (field_at (codes "id") id_or_null_at (members_view members.now)) }
-{
-    let found = member_of(alloc, members, "id")?;
-    at_name(alloc, id_or_null_in(alloc, found), "id")
-}
-
-fn class_of(alloc: Global, word: &str) -> Result<Class, Refusal>
-    ensures { Gives result (class_of_word word.now) }
-{
-    match word {
+    match text_of(alloc, tree)? {
         "progression" => Ok(Class::Progression),
         "useful" => Ok(Class::Useful),
         "filler" => Ok(Class::Filler),
@@ -50,10 +23,12 @@ fn class_of(alloc: Global, word: &str) -> Result<Class, Refusal>
     }
 }
 
-/// An event is of class progression.
-fn fitting_class(alloc: Global, id: &Option<ItemId>, class: Class) -> Result<Class, Refusal>
-    ensures { Gives result (class_fits id.now class) }
+/// The class of an item with this id; an event is of class progression.
+#[tactic(auto, unfolding(crate::specs::WorldShape::class_at))]
+fn class_in(alloc: Global, tree: &Tree, id: &Option<ItemId>) -> Result<Class, Refusal>
+    ensures { Gives result (class_at id.now (view tree.now)) }
 {
+    let class = class_word_in(alloc, tree)?;
     if id.is_some() || class == Class::Progression {
         Ok(class)
     } else {
@@ -61,50 +36,19 @@ fn fitting_class(alloc: Global, id: &Option<ItemId>, class: Class) -> Result<Cla
     }
 }
 
-#[tactic(auto, unfolding(crate::specs::WorldShape::class_at))]
-fn class_in(alloc: Global, id: &Option<ItemId>, tree: &Tree) -> Result<Class, Refusal>
-    ensures { Gives result (class_at id.now (view tree.now)) }
-{
-    let word = text_of(alloc, tree)?;
-    let class = class_of(alloc, word)?;
-    fitting_class(alloc, id, class)
-}
-
-#[tactic(auto, unfolding(mw_json::specs::Grammar::field_at))]
-fn class_member(alloc: Global, members: &[Member], id: &Option<ItemId>) -> Result<Class, Refusal>
-    ensures { Gives result (field_at (codes "class") (class_at id.now) (members_view members.now)) }
-{
-    let found = member_of(alloc, members, "class")?;
-    at_name(alloc, class_in(alloc, id, found), "class")
-}
-
+/// An item of a world.
 #[tactic(auto, unfolding(crate::specs::WorldShape::item_at))]
-fn item_of(alloc: Global, tree: &Tree) -> Result<Item, Refusal>
+pub(crate) fn item_of(alloc: Global, tree: &Tree) -> Result<Item, Refusal>
     ensures { Gives result (item_at (view tree.now)) }
 {
     let members = object_of(alloc, tree)?;
-    let name = name_member(alloc, members, "name")?;
-    let id = id_member(alloc, members)?;
-    let class = class_member(alloc, members, &id)?;
+    let name = field_in(alloc, members, "name", long_name_in)?;
+    let id = field_in(
+        alloc,
+        members,
+        "id",
+        |a, t| null_or(a, t, |a, t| item_id_in(a, t)),
+    )?;
+    let class = field_in(alloc, members, "class", |a, t| class_in(a, t, &id))?;
     Ok(Item { name, id, class })
-}
-
-fn items_from(alloc: Global, trees: &[Tree]) -> Result<List<Item>, Refusal>
-    ensures { Gives result (each_from item_at 0 (items_view trees.now)) }
-{
-    let mut items = List::new(alloc);
-    for (i, tree) in trees.iter().enumerate() {
-        let item = at_index(item_of(alloc, tree), i as u64)?;
-        items.push(item)?;
-    }
-    Ok(items)
-}
-
-/// The items of a world.
-#[tactic(auto, unfolding(crate::specs::Lists::list_of_at))]
-pub(crate) fn items_of(alloc: Global, tree: &Tree) -> Result<List<Item>, Refusal>
-    ensures { Gives result (items_at (view tree.now)) }
-{
-    let trees = list_of_at_most(alloc, tree, 10_000)?;
-    items_from(alloc, trees)
 }

@@ -1,15 +1,14 @@
 ghost use Rattle.std.specs.Prelude.{◌≡◌};
 ghost use Rattle.mw_json.specs.Grammar.{Gives};
-ghost use Rattle.mw_tables.specs.WorldNames.{entrance_named, entrances_named, known_event, event_named, location_named, locations_named, entry_named, entries_named, world_names};
+ghost use Rattle.mw_tables.specs.WorldNames.{entrance_named, entrances_named, event_named, location_named, locations_named, entry_named, entries_named, world_names};
 
 use crate::item_names::{event_item_in, filler_item_in, pool_item_in, region_in};
-use crate::lift::rule_at_name;
 use crate::named::NamedWorld;
 use crate::once::{
     judge_entrance_name, judge_items, judge_location_id, judge_location_name, judge_regions,
 };
 use crate::raw::{RawEntrance, RawEntry, RawLocation};
-use crate::rule_names::rule_in;
+use crate::rule_names::named_rule_in;
 use crate::tables::Tables;
 use mw_base::{List, LocId, Text};
 use mw_json::{Refusal, at_index, at_name};
@@ -36,13 +35,13 @@ fn entrance_in(
         "from",
     )?;
     let to = at_name(alloc, region_in(alloc, tables, entrance.to.as_str()), "to")?;
-    let rule = rule_at_name(alloc, rule_in(alloc, tables, &entrance.rule), "rule")?;
+    let rule = at_name(alloc, named_rule_in(alloc, tables, &entrance.rule), "rule")?;
     let name = Text::of(alloc, entrance.name.as_str())?;
     Ok(Entrance {
         name,
         from,
         to,
-        rule,
+        rule: rule.rule,
     })
 }
 
@@ -58,18 +57,11 @@ fn entrances_in(alloc: Global, tables: &Tables) -> Result<List<Entrance>, Refusa
     Ok(entrances)
 }
 
-#[tactic(auto, unfolding(crate::specs::WorldNames::known_event))]
-fn known_event_in(alloc: Global, tables: &Tables, name: &str) -> Result<Option<u32>, Refusal>
-    ensures { Gives result (known_event tables.now name.now) }
-{
-    Ok(Some(event_item_in(alloc, tables, name)?))
-}
-
 fn event_in(alloc: Global, tables: &Tables, location: &RawLocation) -> Result<Option<u32>, Refusal>
     ensures { Gives result (event_named tables.now location.now.event) }
 {
     match &location.event {
-        Some(name) => known_event_in(alloc, tables, name.as_str()),
+        Some(name) => Ok(Some(event_item_in(alloc, tables, name.as_str())?)),
         None => Ok(None),
     }
 }
@@ -100,7 +92,7 @@ fn location_in(
         region_in(alloc, tables, location.region.as_str()),
         "region",
     )?;
-    let rule = rule_at_name(alloc, rule_in(alloc, tables, &location.rule), "rule")?;
+    let rule = at_name(alloc, named_rule_in(alloc, tables, &location.rule), "rule")?;
     let event = at_name(alloc, event_in(alloc, tables, location), "event")?;
     let name = Text::of(alloc, location.name.as_str())?;
     Ok(Location {
@@ -108,7 +100,7 @@ fn location_in(
         id: id_of(location),
         region,
         kind: location.kind,
-        rule,
+        rule: rule.rule,
         event,
     })
 }
@@ -173,13 +165,13 @@ pub(crate) fn names_in(alloc: Global, tables: &Tables) -> Result<NamedWorld, Ref
         filler_item_in(alloc, tables, world.filler.as_str()),
         "filler",
     )?;
-    let goal = rule_at_name(alloc, rule_in(alloc, tables, &world.goal), "goal")?;
+    let goal = at_name(alloc, named_rule_in(alloc, tables, &world.goal), "goal")?;
     Ok(NamedWorld {
         origin,
         entrances,
         locations,
         pool,
         filler,
-        goal,
+        goal: goal.rule,
     })
 }

@@ -12,7 +12,7 @@ use Rattle.mw_fill.specs.Kept.{CopyKept, OpeningKept}
 use Rattle.mw_fill.specs.Answer.{OnStuck}
 use Rattle.mw_fill.proofs.Fitting.{find_all, held_first}
 use Rattle.mw_fill.proofs.Locations.{put_kept}
-use Rattle.mw_fill.proofs.Runs.{IsPlacedSoFar, placed_here, stuck_here, one_placed}
+use Rattle.mw_fill.proofs.Runs.{IsPlacedSoFar, table_room, placed_here, stuck_here, one_placed}
 use Rattle.mw_fill.proofs.assumed.place_asked.Goals as goal
 
 pub location_for-requires-clause-placed : goal.location_for-requires-clause-placed
@@ -22,8 +22,8 @@ location_for-requires-clause-placed c =
     let copy_kept : CopyKept c.args.joint.now.slots copy = subst (CopyKept c.args.joint.now.slots) (sym c.copy-item.is) (c.requires.copies c.loop-copy.copy-index copy c.loop-copy-test.true) in
     placed_here c.args.joint.now kept c.args.openings.now c.args.copies.now c.requires.few c.loop-copy.copy-index c.loop-copy.hand c.loop-copy.held c.loop-copy.placed c.loop-copy.invariant.so_far copy c.loop-copy-test.true c.copy-item.is copy_kept
 
-pub returns-in-None : goal.returns-in-None
-returns-in-None c =
+pub returns-in-None-clause-answer : goal.returns-in-None-clause-answer
+returns-in-None-clause-answer c =
     let a = c.args in
     let copy = c.copy-item.result in
     let now = c.loop-copy in
@@ -36,6 +36,11 @@ returns-in-None c =
     sym (held_first (λ s. accepts copy s && w s.place) now.invariant.so_far.puts now.held a.openings.now now.invariant.so_far.held_is.entries) ∙ sym c.location_for.ensures.fit.2 ∙ c.in-None.is in
     subst (λ e. OnStuck e (λ slot item. FillRun is_reached a.joint.now a.openings.now a.copies.now [] (stuck slot item))) (sym c.stuck.ensures)
     (stuck_here a.joint.now kept a.openings.now a.copies.now c.requires.few now.copy-index now.hand now.held now.placed now.invariant.so_far copy c.loop-copy-test.true c.copy-item.is copy_kept w least none)
+
+pub put-requires-clause-room : goal.put-requires-clause-room
+put-requires-clause-room c =
+    let kept : IsJoint c.args.joint.now = subst IsJoint c.joint.view_is c.joint.invariant in
+    table_room c.args.joint.now kept c.args.openings.now c.args.copies.now c.requires.few c.loop-copy.copy-index c.loop-copy.hand c.loop-copy.held c.loop-copy.placed c.loop-copy.invariant.so_far c.loop-copy-test.true
 
 pub put-requires-clause-kept : goal.put-requires-clause-kept
 put-requires-clause-kept c =

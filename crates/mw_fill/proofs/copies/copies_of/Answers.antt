@@ -3,9 +3,9 @@ use Rattle.std.specs.Prelude.{nat_lt}
 use Rattle.mw_multi.specs.Joint.{Joint, IsJoint}
 use Rattle.mw_reach.proofs.Slots.{slot_fits}
 use Rattle.mw_fill.specs.Kept.{CopyKept}
-use Rattle.mw_fill.specs.Numbered.{each_numbered}
+use Rattle.mw_multi.specs.Numbered.{each_numbered}
 use Rattle.mw_fill.specs.Copies.{slot_copies, copies_of as plain_copies}
-use Rattle.mw_fill.proofs.Numbered.{numbered_more}
+use Rattle.mw_multi.proofs.Numbered.{numbered_more}
 use Rattle.mw_fill.proofs.Pools.{copies_are_few, copies_kept}
 use Rattle.mw_fill.proofs.copies.copies_of.Goals as goal
 

@@ -1,5 +1,5 @@
 use Rattle.std.proofs.Common.{◌≡◌, take}
-use Rattle.mw_fill.specs.Numbered.{each_numbered}
+use Rattle.mw_multi.specs.Numbered.{each_numbered}
 use Rattle.mw_fill.specs.Copies.{slot_copies}
 use Rattle.mw_fill.proofs.copies.copies_of.Given as goal
 

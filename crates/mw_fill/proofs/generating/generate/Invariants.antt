@@ -1,5 +1,10 @@
+use Rattle.mw_reach.specs.Reached.{IsMadeFor, KeepsRules}
 use Rattle.mw_fill.specs.Generated.{AreStuck}
 use Rattle.mw_fill.proofs.generating.generate.Given as goal
 
 abbrev pub invariant-loop-stream : goal.invariant-loop-stream
-invariant-loop-stream l = AreStuck l.joint l.seed l.stream
+invariant-loop-stream l = record {
+  stuck : AreStuck l.joint l.seed l.stream;
+  made : IsMadeFor l.joint l.reached;
+  rules : KeepsRules l.joint l.reached;
+}

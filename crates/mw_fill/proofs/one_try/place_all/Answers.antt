@@ -14,77 +14,77 @@ place_first-requires-clause-openings c =
     let places : c.as_slice-3.result.now ≡ regular c.args.lists.now.openings = c.as_slice-3.ensures ∙ c.in_ok-places.ensures ∙ ap regular (c.as_slice.ensures ∙ ap (λ (l : Lists). l.openings) c.lists.view_is) in
     subst (All (OpeningKept slots)) (sym places) (regular_all (OpeningKept slots) c.args.lists.now.openings c.requires.lists.openings)
 
-pub returns-in-Err : goal.returns-in-Err
-returns-in-Err c =
+pub returns-in-Err-clause-answer : goal.returns-in-Err-clause-answer
+returns-in-Err-clause-answer c =
     let joint = c.args.joint.now in
     let lists = c.args.lists.now in
     let places : c.as_slice-3.result.now ≡ regular lists.openings = c.as_slice-3.ensures ∙ c.in_ok-places.ensures ∙ ap regular (c.as_slice.ensures ∙ ap (λ (l : Lists). l.openings) c.lists.view_is) in
     let asked : c.as_slice-2.result.now ≡ lists.asked = c.as_slice-2.ensures ∙ ap (λ (l : Lists). l.asked) c.lists.view_is in
     on_stuck c.in-Err.error (λ slot item. FillRun is_reached joint c.as_slice-3.result.now c.as_slice-2.result.now [] (stuck slot item)) (λ slot item. IsOutcome joint lists (stuck slot item))
-    (λ slot item run. stuck_first joint lists slot item (run_same joint c.as_slice-3.result.now (regular lists.openings) c.as_slice-2.result.now lists.asked (stuck slot item) places asked run)) c.in-Err.ensures
+    (λ slot item run. stuck_first joint lists slot item (run_same joint c.as_slice-3.result.now (regular lists.openings) c.as_slice-2.result.now lists.asked (stuck slot item) places asked run)) c.in-Err.ensures.answer
 
 pub place_anywhere-requires : goal.place_anywhere-requires
 place_anywhere-requires c =
     let joint = c.args.joint.now in
     let places : c.as_slice-5.result.now ≡ regular c.args.lists.now.openings = c.as_slice-5.ensures ∙ c.in_ok-places.ensures ∙ ap regular (c.as_slice.ensures ∙ ap (λ (l : Lists). l.openings) c.lists.view_is) in
     let kept : All (OpeningKept joint.slots) c.as_slice-5.result.now = subst (All (OpeningKept joint.slots)) (sym places) (regular_all (OpeningKept joint.slots) c.args.lists.now.openings c.requires.lists.openings) in
-    record { within = places_within joint c.in_default.ensures.0 c.place_first.new.held c.as_slice-5.result.now c.in_default.ensures.1 kept }
+    record { within = places_within joint c.in_default.ensures.answer.0 c.place_first.new.held c.as_slice-5.result.now c.in_default.ensures.answer.1 kept }
 
-pub returns-in-Err-place_anywhere : goal.returns-in-Err-place_anywhere
-returns-in-Err-place_anywhere c =
+pub returns-in-Err-place_anywhere-clause-answer : goal.returns-in-Err-place_anywhere-clause-answer
+returns-in-Err-place_anywhere-clause-answer c =
     let joint = c.args.joint.now in
     let slots = joint.slots in
     let lists = c.args.lists.now in
-    let puts = c.in_default.ensures.0 in
+    let puts = c.in_default.ensures.answer.0 in
     let openings : c.as_slice.result.now ≡ lists.openings = c.as_slice.ensures ∙ ap (λ (l : Lists). l.openings) c.lists.view_is in
     let places : c.as_slice-3.result.now ≡ regular lists.openings = c.as_slice-3.ensures ∙ c.in_ok-places.ensures ∙ ap regular openings in
     let asked : c.as_slice-2.result.now ≡ lists.asked = c.as_slice-2.ensures ∙ ap (λ (l : Lists). l.asked) c.lists.view_is in
-    let run : FillRun is_reached joint (regular lists.openings) lists.asked [] (filled puts) = run_same joint c.as_slice-3.result.now (regular lists.openings) c.as_slice-2.result.now lists.asked (filled puts) places asked c.in_default.ensures.2 in
+    let run : FillRun is_reached joint (regular lists.openings) lists.asked [] (filled puts) = run_same joint c.as_slice-3.result.now (regular lists.openings) c.as_slice-2.result.now lists.asked (filled puts) places asked c.in_default.ensures.answer.2 in
     let there : c.as_slice-5.result.now ≡ regular lists.openings = c.as_slice-5.ensures ∙ c.in_ok-places.ensures ∙ ap regular openings in
     let helping : c.as_slice-4.result.now ≡ lists.helping = c.as_slice-4.ensures ∙ ap (λ (l : Lists). l.helping) c.lists.view_is in
     let kept : All (CopyKept slots) c.as_slice-4.result.now = subst (All (CopyKept slots)) (sym helping) c.requires.lists.helping in
     let sites : All (OpeningKept slots) c.as_slice-5.result.now = subst (All (OpeningKept slots)) (sym there) (regular_all (OpeningKept slots) lists.openings c.requires.lists.openings) in
     let same : placed_anywhere (regular lists.openings) lists.helping puts ≡ placed_anywhere c.as_slice-5.result.now c.as_slice-4.result.now puts = sym (ap₂ (λ ss cs. placed_anywhere ss cs puts) there helping) in
     on_stuck c.in-Err-place_anywhere.error (λ slot item. placed_anywhere c.as_slice-5.result.now c.as_slice-4.result.now puts ≡ stuck slot item) (λ slot item. IsOutcome joint lists (stuck slot item))
-    (λ slot item e. stuck_helping joint lists puts slot item run (same ∙ e)) (c.in-Err-place_anywhere.ensures joint puts kept sites c.in_default.ensures.1)
+    (λ slot item e. stuck_helping joint lists puts slot item run (same ∙ e)) (c.in-Err-place_anywhere.ensures joint puts kept sites c.in_default.ensures.answer.1)
 
 pub place_anywhere-requires-2 : goal.place_anywhere-requires-2
 place_anywhere-requires-2 c =
     let joint = c.args.joint.now in
     let slots = joint.slots in
     let lists = c.args.lists.now in
-    let puts = c.in_default.ensures.0 in
+    let puts = c.in_default.ensures.answer.0 in
     let openings : c.as_slice.result.now ≡ lists.openings = c.as_slice.ensures ∙ ap (λ (l : Lists). l.openings) c.lists.view_is in
     let places : c.as_slice-3.result.now ≡ regular lists.openings = c.as_slice-3.ensures ∙ c.in_ok-places.ensures ∙ ap regular openings in
     let asked : c.as_slice-2.result.now ≡ lists.asked = c.as_slice-2.ensures ∙ ap (λ (l : Lists). l.asked) c.lists.view_is in
-    let run : FillRun is_reached joint (regular lists.openings) lists.asked [] (filled puts) = run_same joint c.as_slice-3.result.now (regular lists.openings) c.as_slice-2.result.now lists.asked (filled puts) places asked c.in_default.ensures.2 in
+    let run : FillRun is_reached joint (regular lists.openings) lists.asked [] (filled puts) = run_same joint c.as_slice-3.result.now (regular lists.openings) c.as_slice-2.result.now lists.asked (filled puts) places asked c.in_default.ensures.answer.2 in
     let there : c.as_slice-5.result.now ≡ regular lists.openings = c.as_slice-5.ensures ∙ c.in_ok-places.ensures ∙ ap regular openings in
     let helping : c.as_slice-4.result.now ≡ lists.helping = c.as_slice-4.ensures ∙ ap (λ (l : Lists). l.helping) c.lists.view_is in
     let kept : All (CopyKept slots) c.as_slice-4.result.now = subst (All (CopyKept slots)) (sym helping) c.requires.lists.helping in
     let sites : All (OpeningKept slots) c.as_slice-5.result.now = subst (All (OpeningKept slots)) (sym there) (regular_all (OpeningKept slots) lists.openings c.requires.lists.openings) in
     let same : placed_anywhere (regular lists.openings) lists.helping puts ≡ placed_anywhere c.as_slice-5.result.now c.as_slice-4.result.now puts = sym (ap₂ (λ ss cs. placed_anywhere ss cs puts) there helping) in
-    let middle = c.in_default-place_anywhere.ensures joint puts kept sites c.in_default.ensures.1 in
+    let middle = c.in_default-place_anywhere.ensures joint puts kept sites c.in_default.ensures.answer.1 in
     let all_openings : c.as_slice-6.result.now ≡ lists.openings = c.as_slice-6.ensures ∙ ap (λ (l : Lists). l.openings) c.lists.view_is in
     let everywhere : c.as_slice-8.result.now ≡ all_kinds lists.openings = c.as_slice-8.ensures ∙ c.in_ok-places-2.ensures ∙ ap all_kinds all_openings in
     let all_sites : All (OpeningKept slots) c.as_slice-8.result.now = subst (All (OpeningKept slots)) (sym everywhere) (all_kinds_all (OpeningKept slots) lists.openings c.requires.lists.openings) in
     record { within = places_within joint middle.0 c.place_anywhere.new.held c.as_slice-8.result.now middle.1 all_sites }
 
-pub returns : goal.returns
-returns c =
+pub returns-clause-answer : goal.returns-clause-answer
+returns-clause-answer c =
     let joint = c.args.joint.now in
     let slots = joint.slots in
     let lists = c.args.lists.now in
-    let puts = c.in_default.ensures.0 in
+    let puts = c.in_default.ensures.answer.0 in
     let openings : c.as_slice.result.now ≡ lists.openings = c.as_slice.ensures ∙ ap (λ (l : Lists). l.openings) c.lists.view_is in
     let places : c.as_slice-3.result.now ≡ regular lists.openings = c.as_slice-3.ensures ∙ c.in_ok-places.ensures ∙ ap regular openings in
     let asked : c.as_slice-2.result.now ≡ lists.asked = c.as_slice-2.ensures ∙ ap (λ (l : Lists). l.asked) c.lists.view_is in
-    let run : FillRun is_reached joint (regular lists.openings) lists.asked [] (filled puts) = run_same joint c.as_slice-3.result.now (regular lists.openings) c.as_slice-2.result.now lists.asked (filled puts) places asked c.in_default.ensures.2 in
+    let run : FillRun is_reached joint (regular lists.openings) lists.asked [] (filled puts) = run_same joint c.as_slice-3.result.now (regular lists.openings) c.as_slice-2.result.now lists.asked (filled puts) places asked c.in_default.ensures.answer.2 in
     let there : c.as_slice-5.result.now ≡ regular lists.openings = c.as_slice-5.ensures ∙ c.in_ok-places.ensures ∙ ap regular openings in
     let helping : c.as_slice-4.result.now ≡ lists.helping = c.as_slice-4.ensures ∙ ap (λ (l : Lists). l.helping) c.lists.view_is in
     let kept : All (CopyKept slots) c.as_slice-4.result.now = subst (All (CopyKept slots)) (sym helping) c.requires.lists.helping in
     let sites : All (OpeningKept slots) c.as_slice-5.result.now = subst (All (OpeningKept slots)) (sym there) (regular_all (OpeningKept slots) lists.openings c.requires.lists.openings) in
     let same : placed_anywhere (regular lists.openings) lists.helping puts ≡ placed_anywhere c.as_slice-5.result.now c.as_slice-4.result.now puts = sym (ap₂ (λ ss cs. placed_anywhere ss cs puts) there helping) in
-    let middle = c.in_default-place_anywhere.ensures joint puts kept sites c.in_default.ensures.1 in
+    let middle = c.in_default-place_anywhere.ensures joint puts kept sites c.in_default.ensures.answer.1 in
     let all_openings : c.as_slice-6.result.now ≡ lists.openings = c.as_slice-6.ensures ∙ ap (λ (l : Lists). l.openings) c.lists.view_is in
     let everywhere : c.as_slice-8.result.now ≡ all_kinds lists.openings = c.as_slice-8.ensures ∙ c.in_ok-places-2.ensures ∙ ap all_kinds all_openings in
     let all_sites : All (OpeningKept slots) c.as_slice-8.result.now = subst (All (OpeningKept slots)) (sym everywhere) (all_kinds_all (OpeningKept slots) lists.openings c.requires.lists.openings) in

@@ -2,9 +2,9 @@ use Rattle.std.proofs.Common.{◌≡◌, All, ◌++◌, ◌+◌, length, take, t
 use Rattle.mw_multi.specs.Joint.{Joint, IsJoint}
 use Rattle.mw_reach.proofs.Slots.{slot_fits}
 use Rattle.mw_fill.specs.Kept.{OpeningKept}
-use Rattle.mw_fill.specs.Numbered.{each_numbered}
+use Rattle.mw_multi.specs.Numbered.{each_numbered}
 use Rattle.mw_fill.specs.Openings.{slot_openings, openings_of as plain_openings}
-use Rattle.mw_fill.proofs.Numbered.{numbered_more}
+use Rattle.mw_multi.proofs.Numbered.{numbered_more}
 use Rattle.mw_fill.proofs.Locations.{openings_are_few, openings_kept}
 use Rattle.mw_fill.proofs.openings.openings_of.Goals as goal
 

@@ -1,7 +1,7 @@
 use Rattle.std.proofs.Common.{◌≡◌, ◌++◌, ◌+◌, take, ap, ◌∙◌, append_assoc, arith, sym}
-use Rattle.mw_fill.specs.Numbered.{each_numbered}
+use Rattle.mw_multi.specs.Numbered.{each_numbered}
 use Rattle.mw_fill.specs.Openings.{opening_at}
-use Rattle.mw_fill.proofs.Numbered.{numbered_more}
+use Rattle.mw_multi.proofs.Numbered.{numbered_more}
 use Rattle.mw_fill.proofs.openings.push_slot.Goals as goal
 
 pub loop-index-preserved : goal.loop-index-preserved

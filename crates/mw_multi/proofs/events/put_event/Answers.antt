@@ -11,8 +11,8 @@ put-requires-clause-kept c =
     (subst (λ (o : Option ℕ). All (PutKept a.joint.now.slots) (event_at a.receiver a.place o)) c.in-Some.is c.requires.kept) 0
     record { place = a.place; receiver = a.receiver; item = c.in-Some.item } (omega arith)
 
-pub returns-in-Some : goal.returns-in-Some
-returns-in-Some c =
+pub returns-in-Some-clause-put : goal.returns-in-Some-clause-put
+returns-in-Some-clause-put c =
     let a = c.args in
     subst (λ (o : Option ℕ). OnOk c.put.result ((puts : List PlainPut) → IsPlaced a.joint.now.slots puts a.placed.now → IsPlaced a.joint.now.slots (puts ++ event_at a.receiver a.place o) c.put.new.self))
     (sym c.in-Some.is) c.put.ensures.ok

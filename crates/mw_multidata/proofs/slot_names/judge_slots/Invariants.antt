@@ -1,6 +1,6 @@
 use Rattle.std.proofs.Common.{◌≡◌, take, drop, []}
 use Rattle.mw_multidata.specs.Names.{slots_named}
-use Rattle.mw_multidata.proofs.Fronts.{with_front}
+use Rattle.mw_json.proofs.Fronts.{with_front}
 use Rattle.mw_multidata.proofs.slot_names.judge_slots.Given as goal
 
 abbrev pub invariant-loop-i : goal.invariant-loop-i

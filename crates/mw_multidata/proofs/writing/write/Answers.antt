@@ -2,7 +2,7 @@ use Rattle.std.proofs.Common.{◌≡◌, subst}
 use Rattle.std.specs.Prelude.{IfOk}
 use Rattle.mw_model.specs.Json.{IsWritable}
 use Rattle.mw_model.specs.Spelling.{spelling}
-use Rattle.mw_multidata.specs.SeedOf.{IsAccepted}
+use Rattle.mw_multidata.specs.SeedKept.{IsSeed}
 use Rattle.mw_multidata.proofs.Written.{stands_for}
 use Rattle.mw_multidata.proofs.writing.write.Goals as goal
 
@@ -11,6 +11,6 @@ returns-clause-text c = subst (λ j. IfOk c.compact.result (λ b. b ≡ spelling
 
 pub returns-clause-reads_back : goal.returns-clause-reads_back
 returns-clause-reads_back c =
-    let accepted = subst IsAccepted c.multidata.view_is c.multidata.invariant in
+    let kept = subst IsSeed c.multidata.view_is c.multidata.invariant in
     let writable = subst IsWritable c.in_ok-tree.ensures.value c.in_ok-tree.ensures.writable in
-    stands_for c.args.multidata.now accepted c.compact.result writable c.compact.ensures.utf8 (returns-clause-text c)
+    stands_for c.args.multidata.now kept c.compact.result writable c.compact.ensures.utf8 (returns-clause-text c)

@@ -15,7 +15,7 @@ loop-head-init g c =
     let steps = steps_in c.args.joint.now rows in
     let done = c.fill.ensures.after (λ y e. e) in
     let listed = c.fill-2.ensures.after (λ y e. e) in
-    let first = at_first placed (length c.args.done.now) base c.copy_from_slice.new.self c.fill.new.self done c.copy_from_slice.ensures.after c.requires.few c.requires.small in
+    let first = at_first placed (length c.args.done.now) base c.copy_from_slice.new.self c.fill.new.self done c.copy_from_slice.ensures.after c.len.ensures.few c.requires.small in
     let woken = rw (c.as_slice.ensures, c.as_slice-2.ensures) at (c.begin-len.ensures c.args.joint.now (bag_of c.copy_from_slice.new.self) (places_of c.fill.new.self)) in (
       begun steps rows.origins rows.by_place rows.by_item c.requires.rows.watched (bag_of base) placed c.fill.new.self c.copy_from_slice.new.self c.fill-2.new.self c.args.queue.now _ _ _
           first.tally first.room (λ p. ap (λ ps. places_of ps p) done ∙ replicate-false _ p) (λ p. ap (λ ps. places_of ps p) listed ∙ replicate-false _ p)

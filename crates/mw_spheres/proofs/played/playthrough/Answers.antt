@@ -1,5 +1,5 @@
 use Rattle.std.proofs.Common.{◌≡◌, [], false, replicate, length, All, List, map, sym, ap, subst, ◌∙◌, arith}
-use Rattle.std.specs.Prelude.{filter}
+use Rattle.std.specs.Prelude.{filter, IfOk}
 use Rattle.std.proofs.lemmas.Grind.{common_steps}
 use Rattle.std.proofs.lemmas.Result.{IfOk-weaker}
 use Rattle.mw_model.specs.Seed.{Spot}
@@ -7,9 +7,10 @@ use Rattle.mw_multi.specs.Joint.{place_total}
 use Rattle.mw_reach.specs.Reached.{IsPlacedFor}
 use Rattle.mw_spheres.specs.Spots.{IsSpot, placement_table, spot_place}
 use Rattle.mw_spheres.specs.Spheres.{listed}
-use Rattle.mw_spheres.specs.Playthrough.{is_kept, IsThinned, IsPlaythrough}
+use Rattle.mw_spheres.specs.Playthrough.{is_kept, IsThinned, IsPlaythrough, NoneToSpare}
 use Rattle.mw_spheres.proofs.Only.{only-fits, only-length}
 use Rattle.mw_spheres.proofs.Playing.{spheres_are_spots, entries_within, played_is}
+use Rattle.mw_spheres.proofs.Sparing.{none_to_spare}
 use Rattle.mw_spheres.proofs.played.playthrough.Goals as goal
 
 pub all_places-requires : goal.all_places-requires
@@ -55,7 +56,12 @@ returns c =
     let same : c.as_slice-3.result.now ≡ c.as_slice-2.result.now = c.as_slice-3.ensures.value ∙ sym c.as_slice-2.ensures.value in
     let thinned : IsThinned joint c.in_ok-table.table c.as_slice-2.result.now c.mark.new.kept c.thin.new.kept =
     subst (λ ps. IsThinned joint c.in_ok-table.table ps c.mark.new.kept c.thin.new.kept) same (c.thin.ensures c.in_ok-table.table c.clear_others.ensures) in
+    let played : IfOk c.kept_spheres.result (IsPlaythrough joint puts spheres) =
     IfOk-weaker c.kept_spheres.result (λ (found : List (List Spot)). found ≡ map (filter (is_kept joint.slots c.thin.new.kept)) c.as_slice-4.result.now) (IsPlaythrough joint puts spheres)
     (λ found is. played_is joint puts spheres found c.in_ok-table.table c.as_mut_slice-kept.result.now c.mark.new.kept c.thin.new.kept c.as_slice-2.result.now (place_total joint.slots)
     c.in_ok-table.ensures.value none size places c.mark.ensures thinned (is ∙ ap (map (filter (is_kept joint.slots c.thin.new.kept))) c.as_slice-4.ensures))
-    c.kept_spheres.ensures
+    c.kept_spheres.ensures in
+    record {
+      played = played;
+      spare = IfOk-weaker c.kept_spheres.result (IsPlaythrough joint puts spheres) (NoneToSpare joint puts) (λ found is. none_to_spare joint puts spheres found is) played;
+    }

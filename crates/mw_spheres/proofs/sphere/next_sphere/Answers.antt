@@ -1,9 +1,9 @@
-use Rattle.std.proofs.Common.{◌+◌, length, take, sym, ap, subst, ◌∙◌, arith}
+use Rattle.std.proofs.Common.{[], ◌+◌, length, take, sym, ap, subst, ◌∙◌, arith}
 use Rattle.std.proofs.lemmas.List.{take_all}
 use Rattle.mw_multi.specs.Joint.{Joint, IsJoint, place_total, slot_places}
 use Rattle.mw_multi.proofs.Sites.{some_slot}
 use Rattle.mw_reach.specs.Reached.{places_in}
-use Rattle.mw_reach.proofs.Placing.{placed_nothing}
+use Rattle.mw_reach.proofs.Placing.{placed_for}
 use Rattle.mw_spheres.specs.Spots.{spots_from, spots_of}
 use Rattle.mw_spheres.specs.Gathering.{Gathered}
 use Rattle.mw_spheres.proofs.Hand.{first_place_is, end_is, least_without, sphere_gathered, hand_gathered}
@@ -11,7 +11,7 @@ use Rattle.mw_spheres.proofs.Locations.{spots_next}
 use Rattle.mw_spheres.proofs.sphere.next_sphere.Goals as goal
 
 pub reach-requires-clause-placed : goal.reach-requires-clause-placed
-reach-requires-clause-placed c = placed_nothing c.args.joint.now (subst IsJoint c.joint.view_is c.joint.invariant) c.args.nothing.now c.requires.nothing
+reach-requires-clause-placed c = placed_for c.args.joint.now (subst IsJoint c.joint.view_is c.joint.invariant) [] c.args.nothing.now c.requires.nothing
 
 pub loop-before-preserved : goal.loop-before-preserved
 loop-before-preserved c =

@@ -2,7 +2,7 @@ use Rattle.std.proofs.Common.{◌≡◌, drop, map}
 use Rattle.mw_json.specs.View.{items_view, members_view}
 use Rattle.mw_tables.specs.RawView.{raw_view}
 use Rattle.mw_tables.specs.RuleShape.{rules_under, rules_from}
-use Rattle.mw_tables.proofs.Fronts.{with_front}
+use Rattle.mw_json.proofs.Fronts.{with_front}
 use Rattle.mw_tables.proofs.rules.+form.Given as goal
 
 -- it is the first of those that are left

@@ -1,6 +1,6 @@
 use Rattle.std.proofs.Common.{◌≡◌, drop}
 use Rattle.mw_tables.specs.WorldNames.{entries_named}
-use Rattle.mw_tables.proofs.Fronts.{with_front}
+use Rattle.mw_json.proofs.Fronts.{with_front}
 use Rattle.mw_tables.proofs.world_names.entries_in.Given as goal
 
 abbrev pub invariant-loop-i : goal.invariant-loop-i

@@ -11,5 +11,14 @@ loop-before-preserved c =
     let k = c.loop-before.before in
     let within : k < length slots = omega (arith, c.loop-before-test.true, c.len-before-end.ensures, ap (λ (j : Joint). length j.slots) c.joint.view_is) in
     let found = some_slot slots k within in
-    subst (λ (ps : List Put). IsPlaced slots ps c.put_events.new.placed) (sym (slots_next slots k found.0 found.1))
-    (c.in_ok-put_events.ensures (events_from 1 (take k slots)) found.0 found.1 c.loop-before.invariant)
+    record {
+      placed = subst (λ (ps : List Put). IsPlaced slots ps c.put_events.new.placed) (sym (slots_next slots k found.0 found.1))
+          (c.in_ok-put_events.ensures.put (events_from 1 (take k slots)) found.0 found.1 c.loop-before.invariant.placed);
+      total = omega (arith, c.loop-before.invariant.total, c.in_ok-put_events.ensures.more);
+    }
+
+pub put_events-requires-clause-room : goal.put_events-requires-clause-room
+put_events-requires-clause-room c = omega (arith, c.loop-before.invariant.total, c.loop-before-test.true, c.len-before-end.ensures, c.joint.invariant.few)
+
+pub returns-clause-few : goal.returns-clause-few
+returns-clause-few c = omega (arith, c.loop-before.invariant.total, c.loop-before.auto.before-end, c.len-before-end.ensures, c.joint.invariant.few)

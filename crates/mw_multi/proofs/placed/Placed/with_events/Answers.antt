@@ -2,7 +2,9 @@ use Rattle.std.proofs.Common.{◌++◌, length, take, sym, ap, subst, arith}
 use Rattle.std.specs.Prelude.{filter}
 use Rattle.mw_multi.specs.Placement.{Put as PlainPut}
 use Rattle.mw_multi.specs.Placement.{IsPlaced}
+use Rattle.mw_multi.specs.Joint.{IsJoint}
 use Rattle.mw_multi.specs.Events.{events_of, is_at_no_event, put_where}
+use Rattle.mw_multi.proofs.Few.{puts_are_few}
 use Rattle.mw_multi.proofs.Flags.{put_within, put_flag, next_free_put}
 use Rattle.mw_multi.proofs.placed.Placed.with_events.Goals as goal
 
@@ -13,6 +15,11 @@ index-requires c =
     let place = ap (λ (p : PlainPut). p.place) c.put.view_is in
     let flags = ap length c.in_ok-flags.ensures in
     omega arith
+
+pub put_if-requires-clause-room : goal.put_if-requires-clause-room
+put_if-requires-clause-room c =
+    let few = puts_are_few c.args.joint.now c.args.placement.now (subst IsJoint c.joint.view_is c.joint.invariant) c.requires in
+    omega (arith, c.loop-put.invariant.total, c.loop-put-test.true, ap length c.as_slice-put-items.ensures)
 
 pub loop-put-preserved : goal.loop-put-preserved
 loop-put-preserved c =
@@ -27,5 +34,8 @@ loop-put-preserved c =
     c.in_ok-flags.flags.items c.put.inside.place free c.in_ok-flags.ensures (ap (λ (p : PlainPut). p.place) c.put.view_is) c.index.ensures in
     let next = next_free_put joint placement items i put c.requires c.as_slice-put-items.ensures c.loop-put-test.true c.put-item.is (events_of joint) free flag in
     let placed : IsPlaced joint.slots (front ++ put_where free put) c.put_if.new.placed =
-    subst (λ p. IsPlaced joint.slots (front ++ put_where free p) c.put_if.new.placed) c.put.view_is (c.in_ok-put_if.ensures front c.loop-put.invariant) in
-    subst (λ ps. IsPlaced joint.slots ps c.put_if.new.placed) (sym next) placed
+    subst (λ p. IsPlaced joint.slots (front ++ put_where free p) c.put_if.new.placed) c.put.view_is (c.in_ok-put_if.ensures.put front c.loop-put.invariant.placed) in
+    record {
+      placed = subst (λ ps. IsPlaced joint.slots ps c.put_if.new.placed) (sym next) placed;
+      total = omega (arith, c.loop-put.invariant.total, c.in_ok-put_if.ensures.more);
+    }

@@ -2,7 +2,7 @@ use Rattle.std.proofs.Common.{sym, ap, subst, map, length, arith}
 use Rattle.std.proofs.lemmas.List.{length-map}
 use Rattle.mw_tables.specs.RuleNames.{raw_location_name}
 use Rattle.mw_tables.specs.Small.{IsSmall}
-use Rattle.mw_tables.proofs.Indexing.{place_is_small}
+use Rattle.mw_multi.proofs.Indexing.{place_is_small}
 use Rattle.mw_tables.proofs.tables.Tables.location_place.Goals as goal
 
 pub overflow_add-result : goal.overflow_add-result

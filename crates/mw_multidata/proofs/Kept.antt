@@ -1,0 +1,207 @@
+-- What the readers of numbers, names and lists give keeps their rules.
+use Rattle.std.proofs.Common.{◌≡◌, ◌≤◌, ◌<◌, ◌+◌, ◌==◌, ℕ, List, [], ◌∷◌, Bool, true, false, Some, Result, Ok, Less, nat_cmp, length, map, refl, sym, subst, arith}
+use Rattle.std.specs.Prelude.{All, IfOk, chars, codes, bytes_eq, nat_lt, if◌then◌else◌}
+use Rattle.std.specs.Cmp.Lexicographic.{slice_cmp}
+use Rattle.std.proofs.lemmas.Grind.{common_steps}
+use Rattle.std.proofs.lemmas.Int.{ints}
+use Rattle.std.proofs.lemmas.List.Elements.{All-nil, All-cons}
+use Rattle.std.proofs.lemmas.Result.{IfOk-weaker}
+use Rattle.mw_model.specs.Json.{Json, null, flag, whole, not_whole, words, many, members, Items, no_items, item, Members, no_members, member, find_member, ComeAfter}
+use Rattle.mw_json.specs.Grammar.{Breach, refused, under, number_at, text_at, has_control, short_text, name_of, name_at, items_length, list_at, list_up_to, object_at, found_or_missing, member_at, field_at}
+use Rattle.mw_json.specs.Parts.{id_at, not_empty, list_of_length, element_at, item_at}
+use Rattle.mw_json.specs.Readers.{each_from, list_of_at, each_member_at}
+use Rattle.mw_json.specs.Settings.{password_at, remaining_of, remaining_at, permission_at}
+use Rattle.mw_json.specs.Valid.{IsValid, MembersAreValid}
+use Rattle.mw_json.specs.declared.refusal.Kind.{Kind}
+use Rattle.mw_json.specs.declared.refusal.Kind.TheVariants.{WrongKind, TooMany, NameTooLong}
+use Rattle.mw_json.specs.declared.refusal.Step.TheVariants.{Name, Index}
+use Rattle.mw_json.proofs.Numbers.{number_in_range}
+use Rattle.mw_json.proofs.Passing.{past, after, within, where_true, if_told}
+use Rattle.mw_multidata.specs.Ascending.{ComesBefore, NamesAscend}
+use Rattle.mw_multidata.specs.Parts.{flags_at}
+use Rattle.mw_multidata.specs.SeedKept.{IsName, IsId, is_class, is_remaining, is_permission}
+use Rattle.mw_multidata.specs.Shape.{seed_name_of, seed_name_at}
+use Rattle.mw_multidata.proofs.Bools.{or_else, neither}
+
+module _ {A : Type 0} (P : A → Type 0) where
+  -- of two readings one
+  either : (test : Bool) (r q : Result A Breach) → IfOk r P → IfOk q P → IfOk (if test then r else q) P
+  either true r q h k = h
+  either false r q h k = k
+
+  unless : (test : Bool) (kind : Kind) (r : Result A Breach) → (test ≡ false → IfOk r P) → IfOk (if test then refused kind else r) P
+  unless true kind r h = tt
+  unless false kind r h = h refl
+
+-- ---- numbers
+
+abbrev pub IsBetween : ℕ → ℕ → ℕ → Type 0
+IsBetween low high n = (low ≤ n) × (n ≤ high)
+
+pub number_kept : (low high : ℕ) (j : Json) → IfOk (number_at low high j) (IsBetween low high)
+number_kept low high j = if_told (IsBetween low high) (number_at low high j) (λ n e. number_in_range low high j n e)
+
+pub id_kept : (j : Json) → IfOk (id_at j) IsId
+unfolding id_at
+id_kept j =
+    after (IsBetween 1 9007199254740991) IsId (number_at 1 9007199254740991 j) _ (number_kept 1 9007199254740991 j) (λ n h.
+    record { low = omega (arith, ints, h.0); high = omega (arith, ints, h.1) })
+
+four : (n : ℕ) → n ≤ 4 → (n == 3) ≡ false → is_class n ≡ true
+four n h e = or_else (n == 0) _ (λ a. or_else (n == 1) _ (λ b. or_else (n == 2) (n == 4) (λ c. grind (arith, common_steps, a, b, c, e, h))))
+
+-- it is a class
+abbrev pub IsClass : ℕ → Type 0
+IsClass n = is_class n ≡ true
+
+pub flags_kept : (j : Json) → IfOk (flags_at j) IsClass
+unfolding flags_at
+flags_kept j = after (IsBetween 0 4) IsClass (number_at 0 4 j) _ (number_kept 0 4 j) (λ n h. unless IsClass (n == 3) WrongKind (Ok n) (λ e. four n h.1 e))
+
+-- ---- texts
+
+plain : (s : List ℕ) → has_control s ≡ false → All (λ byte. 32 ≤ byte) s
+plain [] e = All-nil (λ byte. 32 ≤ byte)
+plain (b ∷ bs) e =
+    let both : (nat_lt b 32 ≡ false) × (has_control bs ≡ false) = neither (nat_lt b 32) (has_control bs) e in
+    All-cons (λ byte. 32 ≤ byte) b bs (grind (arith, common_steps, both.0)) (plain bs both.1)
+
+abbrev pub IsShort : ℕ → List ℕ → Type 0
+IsShort most s = length (chars s) ≤ most
+
+short_kept : (most : ℕ) (s : List ℕ) → IfOk (short_text most s) (λ t. (t ≡ s) × IsShort most t)
+short_kept most s = where_true (λ t. (t ≡ s) × IsShort most t) _ s NameTooLong (λ e. (refl, grind (arith, common_steps, e)))
+
+-- the name itself, which keeps its rule
+pub name_kept : (most : ℕ) (s : List ℕ) → IfOk (name_of most s) (λ t. (t ≡ s) × IsName most t)
+name_kept most s =
+    let P : List ℕ → Type 0 = λ t. (t ≡ s) × IsName most t in
+    unless P _ WrongKind (short_text most s) (λ e.
+    let both : ((length s == 0) ≡ false) × (has_control s ≡ false) = neither (length s == 0) (has_control s) e in
+    where_true P _ s NameTooLong (λ f. (refl, record { there = grind (arith, common_steps, both.0); short = grind (arith, common_steps, f); plain = plain s both.1 })))
+
+pub named_kept : (most : ℕ) (j : Json) → IfOk (name_at most j) (IsName most)
+unfolding name_at
+named_kept most j = past (IsName most) (text_at j) _ (λ s. IfOk-weaker (name_of most s) (λ t. (t ≡ s) × IsName most t) (IsName most) (λ t h. h.1) (name_kept most s))
+
+pub password_kept : (j : Json) → IfOk (password_at j) (IsShort 128)
+unfolding password_at
+password_kept j = past (IsShort 128) (text_at j) _ (λ s. where_true (IsShort 128) _ s NameTooLong (λ e. grind (arith, common_steps, e)))
+
+abbrev pub IsSeedName : List ℕ → Type 0
+IsSeedName s = (0 < length s) × IsShort 128 s
+
+told_name : (s : List ℕ) → IfOk (seed_name_of s) IsSeedName
+told_name [] = tt
+told_name (b ∷ bs) = where_true IsSeedName _ (b ∷ bs) NameTooLong (λ e. (omega arith, grind (arith, common_steps, e)))
+
+pub seed_name_kept : (j : Json) → IfOk (seed_name_at j) IsSeedName
+unfolding seed_name_at
+seed_name_kept j = past IsSeedName (text_at j) _ told_name
+
+-- ---- permissions
+
+one_of_three : (P : ℕ → Type 0) (s : List ℕ) → P 0 → P 1 → P 2 → IfOk (remaining_of s) P
+one_of_three P s a b c =
+    either P (bytes_eq s (codes "disabled")) (Ok 0) _ a (either P (bytes_eq s (codes "enabled")) (Ok 1) _ b (either P (bytes_eq s (codes "goal")) (Ok 2) (refused WrongKind) c tt))
+
+abbrev pub IsRemaining : ℕ → Type 0
+IsRemaining n = is_remaining n ≡ true
+
+abbrev pub IsPermission : ℕ → Type 0
+IsPermission n = is_permission n ≡ true
+
+pub remaining_kept : (j : Json) → IfOk (remaining_at j) IsRemaining
+unfolding remaining_at
+remaining_kept j = past IsRemaining (text_at j) _ (λ s. one_of_three IsRemaining s refl refl refl)
+
+pub permission_kept : (j : Json) → IfOk (permission_at j) IsPermission
+unfolding permission_at
+permission_kept j =
+    let P : ℕ → Type 0 = IsPermission in
+    past P (text_at j) _ (λ s. either P (bytes_eq s (codes "auto")) (Ok 6) _ refl (either P (bytes_eq s (codes "auto_enabled")) (Ok 7) (remaining_of s) refl (one_of_three P s refl refl refl)))
+
+-- ---- lists
+
+abbrev HasLength : ℕ → Items → Type 0
+HasLength count js = items_length js ≡ count
+
+abbrev IsUpTo : ℕ → Items → Type 0
+IsUpTo most js = items_length js ≤ most
+
+pub counted : (count : ℕ) (j : Json) → IfOk (list_of_length count j) (HasLength count)
+unfolding list_of_length
+counted count j = past (HasLength count) (list_at j) _ (λ js. where_true (HasLength count) _ js WrongKind (λ e. grind (arith, common_steps, e)))
+
+pub bounded : (most : ℕ) (j : Json) → IfOk (list_up_to most j) (IsUpTo most)
+unfolding list_up_to
+bounded most j = past (IsUpTo most) (list_at j) _ (λ js. where_true (IsUpTo most) _ js TooMany (λ e. grind (arith, common_steps, e)))
+
+pub some_kept : (js : Items) → IfOk (not_empty js) (λ some. (1 ≤ items_length some) × (items_length some ≤ items_length js))
+some_kept no_items = tt
+some_kept (item j js) = (omega arith, omega arith)
+
+-- so many, each of which keeps a rule
+pub record AreKept {A : Type 0} (P : A → Type 0) (count : ℕ) (xs : List A) : Type 0 where
+  pub each : All P xs
+  pub total : length xs ≡ count
+
+-- a reader whose values keep a rule
+module _ {A : Type 0} (P : A → Type 0) (read : Json → Result A Breach) (one : (j : Json) → IfOk (read j) P) where
+  pub each_kept : (i : ℕ) (js : Items) → IfOk (each_from read i js) (AreKept P (items_length js))
+  each_kept i no_items = record { each = All-nil P; total = refl }
+  each_kept i (item j js) =
+      after P (AreKept P (items_length (item j js))) (under (Index i) (read j)) _ (within P (Index i) (read j) (one j)) (λ first h.
+      after (AreKept P (items_length js)) (AreKept P (items_length (item j js))) (each_from read (i + 1) js) _ (each_kept (i + 1) js) (λ others k.
+      record { each = All-cons P first others h k.each; total = omega (arith, k.total) }))
+
+  pub list_kept : (most : ℕ) (j : Json) → IfOk (list_of_at most read j) (λ xs. All P xs × (length xs ≤ most))
+  unfolding list_of_at
+  list_kept most j =
+      let Q : List A → Type 0 = λ xs. All P xs × (length xs ≤ most) in
+      after (IsUpTo most) Q (list_up_to most j) _ (bounded most j) (λ js h.
+      IfOk-weaker (each_from read 0 js) (AreKept P (items_length js)) Q (λ xs k. (k.each, omega (arith, h, k.total))) (each_kept 0 js))
+
+  pub element_kept : (n : ℕ) (js : Items) → IfOk (element_at n read js) P
+  unfolding element_at
+  element_kept n js = within P (Index n) (read (item_at n js)) (one (item_at n js))
+
+-- ---- valid objects
+
+found_valid : (name : List ℕ) (ms : Members) → MembersAreValid ms → IfOk (found_or_missing (find_member name ms)) IsValid
+found_valid name no_members o = tt
+found_valid name (member k j ms) o =
+    elim (bytes_eq k name) as (λ b. IfOk (found_or_missing (if b then Some j else find_member name ms)) IsValid) [ true ↦ o.0 | false ↦ found_valid name ms o.2 ]
+
+pub object_valid : (j : Json) → IsValid j → IfOk (object_at j) MembersAreValid
+object_valid (members ms) o = o
+object_valid not_whole o = tt
+object_valid null o = tt
+object_valid (flag b) o = tt
+object_valid (whole z) o = tt
+object_valid (words s) o = tt
+object_valid (many js) o = tt
+
+pub in_valid_field : {A : Type 0} (P : A → Type 0) (name : List ℕ) (read : Json → Result A Breach) (ms : Members) → MembersAreValid ms
+    → ((j : Json) → IsValid j → IfOk (read j) P) → IfOk (field_at name read ms) P
+unfolding field_at
+in_valid_field P name read ms o h =
+    after IsValid P (member_at name ms) _ (within IsValid (Name name) (found_or_missing (find_member name ms)) (found_valid name ms o)) (λ j k. within P (Name name) (read j) (h j k))
+
+-- a reader of members whose values have the members' names
+module _ {A : Type 0} (P : A → Type 0) (called : A → List ℕ) (read : List ℕ → Json → Result A Breach) (one : (k : List ℕ) (j : Json) → IsValid j → IfOk (read k j) (λ x. (called x ≡ k) × P x)) where
+  pub record AreNamed (ms : Members) (xs : List A) : Type 0 where
+    pub each : All P xs
+    pub follow : (k : List ℕ) → ComeAfter k ms → ComesBefore (slice_cmp nat_cmp) k (map called xs)
+    pub ascend : NamesAscend (map called xs)
+
+  pub members_kept : (ms : Members) → MembersAreValid ms → IfOk (each_member_at read ms) (AreNamed ms)
+  members_kept no_members o = record { each = All-nil P; follow = λ k h. tt; ascend = tt }
+  members_kept (member k j ms) o =
+      let Q : A → Type 0 = λ x. (called x ≡ k) × P x in
+      after Q (AreNamed (member k j ms)) (under (Name k) (read k j)) _ (within Q (Name k) (read k j) (one k j o.0)) (λ first h.
+      after (AreNamed ms) (AreNamed (member k j ms)) (each_member_at read ms) _ (members_kept ms o.2) (λ others l. record {
+        each = All-cons P first others h.1 l.each;
+        follow = λ n a. (subst (λ m. slice_cmp nat_cmp n m ≡ Less) (sym h.0) a.0, l.follow n a.1);
+        ascend = (l.follow (called first) (subst (λ n. ComeAfter n ms) (sym h.0) o.1), l.ascend);
+      }))

@@ -1,8 +1,0 @@
-use Rattle.std.proofs.Common.{◌≡◌, drop}
-use Rattle.mw_json.specs.View.{items_view}
-use Rattle.mw_packets_in.specs.PacketsOf.{wholes_in}
-use Rattle.mw_packets_in.proofs.Fronts.{with_front}
-use Rattle.mw_packets_in.proofs.parts.wholes_among.Given as goal
-
-abbrev pub invariant-loop-item : goal.invariant-loop-item
-invariant-loop-item l = with_front l.wholes (wholes_in (items_view (drop l.item-index l.items))) ≡ wholes_in (items_view l.items)

@@ -1,0 +1,118 @@
+ghost use Rattle.std.specs.Prelude.{◌≡◌};
+ghost use Rattle.mw_multi.specs.Steps.{rule_list};
+ghost use Rattle.mw_reach.specs.Reached.{IsBagFor};
+
+use mw_base::{List, Memory};
+use mw_multi::{Bag, Joint, Placed, Players, TreeRules, World};
+use mw_reach::{Reached, reach_by, unmet_goal_by};
+use mw_rules::{Named, Ruling, Steps};
+use mw_tables::{read_players, read_world};
+use std::alloc::Global;
+use std::marker::Brand;
+use std::sync::ledger::{Blank, Ledger};
+use std::test::Fail;
+
+/// A cave that a sword opens: the places are Menu, Cave, First and Second.
+const WORLD: &str =
+    r#"{"format":"mw-world-1","game":"G","regions":["Menu","Cave"],"items":[{"name":"Sword","id":1,"class":"progression"},{"name":"Coin","id":2,"class":"filler"}],"entrances":[{"name":"Down","from":"Menu","to":"Cave","rule":{"has":"Sword"}}],"locations":[{"name":"First","id":1,"region":"Menu","rule":true},{"name":"Second","id":2,"region":"Cave","rule":true}],"pool":[{"item":"Sword","count":1}],"filler":"Coin","goal":{"has":"Sword"}}"#;
+
+const PLAYERS: &str = r#"{"format":"mw-players-1","players":[{"names":["Ann"],"world":"w.json"}]}"#;
+
+/// A joint's rules, asked through a type of the test's own.
+#[derive(Drop)]
+struct Asked {
+    trees: TreeRules,
+}
+
+impl Ruling for Asked {
+    ghost stands_for = { λ asked rules. rules ≡ asked.trees };
+
+    fn count(&self) -> u32 {
+        self.trees.count()
+    }
+
+    fn ask<L: Ledger>(
+        &self,
+        number: u32,
+        counts: &[u32],
+        places: &[bool],
+        steps: &mut Steps<L>,
+    ) -> bool {
+        self.trees.ask(number, counts, places, steps)
+    }
+
+    fn named(&self, number: u32) -> &Named {
+        self.trees.named(number)
+    }
+}
+
+/// The place numbers up to 3 that are in the list, and the first slot whose goal isn't met, 0 where each is.
+fn told(alloc: Global, reached: &Reached, unmet: Option<u16>) -> Result<String, Memory> {
+    let mut text = String::new(alloc);
+    for place in 0..4 {
+        text.push_str(if reached.has(place) { "x" } else { "." })?;
+    }
+    let slot = u64::from(unmet.unwrap_or(0));
+    Ok(format!(in alloc; "{text} {slot}")?)
+}
+
+/// What is reached with a bag and the events, by rules that are asked of `Asked`.
+fn reached_by<L: Ledger>(
+    blank: Blank,
+    alloc: Global,
+    joint: &Joint,
+    base: &Bag,
+    asked: &Asked,
+) -> Result<String, Memory>
+    requires name { blank.name ≡ L.name }
+    requires parts { (blank.parts ≡ L.parts) × (blank.parts ≡ 1) }
+    requires rules { rule_list joint.now ≡ asked.now.trees }
+    requires base { IsBagFor joint.now base.now }
+{
+    // Reading the joint makes known what its type keeps.
+    let _ = &joint.slots;
+    let placed = Placed::events(alloc, joint)?;
+    let mut reached = Reached::new_by(alloc, joint, asked)?;
+    let mut steps = Steps::<L>::new(blank);
+    reach_by(joint, asked, base, &placed, &mut reached, &mut steps);
+    let unmet = unmet_goal_by(joint, asked, &reached, &mut steps);
+    told(alloc, &reached, unmet)
+}
+
+/// The same with a counter of its own.
+fn reached_with(alloc: Global, joint: &Joint, base: &Bag) -> Result<String, Memory>
+    requires { IsBagFor joint.now base.now }
+{
+    let asked = Asked {
+        trees: TreeRules::of(alloc, joint)?,
+    };
+    reached_by::<Brand>(Blank::new(1), alloc, joint, base, &asked)
+}
+
+/// What is reached with what the slot starts with, and with everything.
+fn start_and_all(
+    alloc: Global,
+    worlds: &List<World>,
+    players: &Players,
+) -> Result<(String, String), Fail> {
+    let files = players.world_files(alloc)?;
+    if worlds.len() != files.len() {
+        return Err(Fail::from("another number of files"));
+    }
+    let joint = Joint::build(alloc, worlds, players)?;
+    let start = reached_with(alloc, &joint, &Bag::starting(alloc, &joint)?)?;
+    let all = reached_with(alloc, &joint, &Bag::everything(alloc, &joint)?)?;
+    Ok((start, all))
+}
+
+#[test]
+fn rules_are_asked_of_a_type_of_ones_own(rt: HostRuntime) -> Result<(), Fail> {
+    let alloc = rt.alloc();
+    let players = read_players(alloc, PLAYERS.as_bytes())?;
+    let mut worlds = List::new(alloc);
+    worlds.push(read_world(alloc, WORLD.as_bytes())?)?;
+    let (start, all) = start_and_all(alloc, &worlds, &players)?;
+    assert_eq!(rt; start.as_str(), "x.x. 1");
+    assert_eq!(rt; all.as_str(), "xxxx 0");
+    Ok(())
+}
