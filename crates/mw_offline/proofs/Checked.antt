@@ -6,8 +6,7 @@ use Rattle.mw_multi.specs.World.{World}
 use Rattle.mw_multi.specs.Players.{Players}
 use Rattle.mw_multi.specs.Joint.{Joint}
 use Rattle.mw_multi.specs.JointOf.{joint_of}
-use Rattle.mw_multi.specs.Placement.{Put}
-use Rattle.mw_fill.specs.Fill.{what_stands}
+use Rattle.mw_multi.specs.Placement.{Put, what_stands}
 use Rattle.mw_spheres.specs.Playthrough.{IsPlaythrough}
 use Rattle.mw_seeds.specs.Played.{played_lines}
 use Rattle.mw_seeds.specs.Judging.{IsRight, IsNotRight}

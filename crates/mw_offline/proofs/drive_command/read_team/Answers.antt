@@ -1,7 +1,6 @@
 use Rattle.std.proofs.Common.{◌≡◌, ◌∙◌, Err, ap, sym, subst, arith}
 use Rattle.mw_model.specs.Seed.{Seed}
-use Rattle.mw_multidata.specs.SeedOf.{IsAccepted}
-use Rattle.mw_multidata.proofs.Accepted.{some_team}
+use Rattle.mw_multidata.specs.SeedKept.{IsSeed}
 use Rattle.mw_offline.specs.declared.drive_cause.DriveCause.TheVariants.{SeedFile}
 use Rattle.mw_offline.proofs.Causes.{refused_seed}
 use Rattle.mw_offline.proofs.Endings.{fault_exit}
@@ -24,7 +23,7 @@ pub returns-else-multidata-eq1-clause-err : goal.returns-else-multidata-eq1-clau
 returns-else-multidata-eq1-clause-err g c =
     let read = c.in_ok-multidata.ensures.ok in
     let teams : c.multidata.inside.teams ≡ c.in_ok-multidata.multidata.teams = ap (λ (s : Seed). s.teams) c.multidata.view_is in
-    let some = some_team c.in_ok-multidata.multidata (subst IsAccepted c.multidata.view_is c.multidata.invariant) in
+    let some = (subst IsSeed c.multidata.view_is c.multidata.invariant).some_team in
     record {
       bytes = read.bytes;
       seed = c.in_ok-multidata.multidata;
