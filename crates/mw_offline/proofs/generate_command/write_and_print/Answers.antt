@@ -63,7 +63,7 @@ returns-clause-left g c =
       text = string_bytes made.text;
       generated = c.in_ok-made.ensures.ok;
       others = λ n other. c.in_ok-write_out.ensures.others n other ∙ c.in_ok-made.ensures.same n;
-      left = inl (written, subst (PutsFront old new) c.as_str.ensures front);
+      left = inl (written, subst (PutsFront old new) c.as_str.ensures.value front);
     })
 
 pub returns-clause-done : goal.returns-clause-done
@@ -84,5 +84,5 @@ returns-clause-done g c =
       generated = c.in_ok-made.ensures.ok;
       others = λ n other. c.in_ok-write_out.ensures.others n other ∙ c.in_ok-made.ensures.same n;
       written = written;
-      put = subst (Appends old new) c.as_str.ensures put;
+      put = subst (Appends old new) c.as_str.ensures.value put;
     }) c.put_text.ensures.done

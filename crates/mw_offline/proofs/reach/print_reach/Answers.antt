@@ -20,10 +20,10 @@ returns-clause-left g c =
     let old = g.O.Sink.held c.args.out.now in
     let new = g.O.Sink.held c.put_text.new.out in
     left_late (HasTableCause files c.args.words.now.players) (Keeps old new) (PutsFrontOfReach files c.args.words.now.players old new) c.put_text.result c.put_text.ensures.late c.put_text.ensures.front
-    (λ front. (string_bytes c.in_ok-text.text, c.in_ok-text.ensures.ok, subst (PutsFront old new) c.as_str.ensures front))
+    (λ front. (string_bytes c.in_ok-text.text, c.in_ok-text.ensures.ok, subst (PutsFront old new) c.as_str.ensures.value front))
 
 pub returns-clause-done : goal.returns-clause-done
 returns-clause-done g c =
     let old = g.O.Sink.held c.args.out.now in
     let new = g.O.Sink.held c.put_text.new.out in
-    on_ok_weaker c.put_text.result (λ put. record { text = string_bytes c.in_ok-text.text; reach = c.in_ok-text.ensures.ok; put = subst (Appends old new) c.as_str.ensures put }) c.put_text.ensures.done
+    on_ok_weaker c.put_text.result (λ put. record { text = string_bytes c.in_ok-text.text; reach = c.in_ok-text.ensures.ok; put = subst (Appends old new) c.as_str.ensures.value put }) c.put_text.ensures.done
