@@ -1,45 +1,28 @@
--- What the readers of numbers, names and lists give keeps their rules.
-use Rattle.std.proofs.Common.{◌≡◌, ◌≤◌, ◌<◌, ◌+◌, ◌==◌, ℕ, List, [], ◌∷◌, Bool, true, false, Some, Result, Ok, Less, nat_cmp, length, map, refl, sym, subst, arith}
-use Rattle.std.specs.Prelude.{All, IfOk, chars, codes, bytes_eq, nat_lt, if◌then◌else◌}
+-- What the readers of numbers and names give keeps their rules, and members are read in their order.
+use Rattle.std.proofs.Common.{◌≡◌, ◌≤◌, ◌<◌, ◌==◌, ℕ, List, [], ◌∷◌, true, false, Result, Ok, Less, nat_cmp, length, map, refl, sym, subst, arith}
+use Rattle.std.specs.Prelude.{All, IfOk, chars, codes, bytes_eq, nat_lt}
 use Rattle.std.specs.Cmp.Lexicographic.{slice_cmp}
 use Rattle.std.proofs.lemmas.Grind.{common_steps}
 use Rattle.std.proofs.lemmas.Int.{ints}
 use Rattle.std.proofs.lemmas.List.Elements.{All-nil, All-cons}
 use Rattle.std.proofs.lemmas.Result.{IfOk-weaker}
-use Rattle.mw_model.specs.Json.{Json, null, flag, whole, not_whole, words, many, members, Items, no_items, item, Members, no_members, member, find_member, ComeAfter}
-use Rattle.mw_json.specs.Grammar.{Breach, refused, under, number_at, text_at, has_control, short_text, name_of, name_at, items_length, list_at, list_up_to, object_at, found_or_missing, member_at, field_at}
-use Rattle.mw_json.specs.Parts.{id_at, not_empty, list_of_length, element_at, item_at}
-use Rattle.mw_json.specs.Readers.{each_from, list_of_at, each_member_at}
+use Rattle.mw_model.specs.Json.{Json, Members, no_members, member, ComeAfter}
+use Rattle.mw_json.specs.Grammar.{Breach, refused, under, number_at, text_at, has_control, short_text, name_of, name_at}
+use Rattle.mw_json.specs.Parts.{id_at}
+use Rattle.mw_json.specs.Readers.{each_member_at}
 use Rattle.mw_json.specs.Settings.{password_at, remaining_of, remaining_at, permission_at}
 use Rattle.mw_json.specs.Valid.{IsValid, MembersAreValid}
-use Rattle.mw_json.specs.declared.refusal.Kind.{Kind}
-use Rattle.mw_json.specs.declared.refusal.Kind.TheVariants.{WrongKind, TooMany, NameTooLong}
-use Rattle.mw_json.specs.declared.refusal.Step.TheVariants.{Name, Index}
-use Rattle.mw_json.proofs.Numbers.{number_in_range}
-use Rattle.mw_json.proofs.Passing.{past, after, within, where_true, if_told}
+use Rattle.mw_json.specs.declared.refusal.Kind.TheVariants.{WrongKind, NameTooLong}
+use Rattle.mw_json.specs.declared.refusal.Step.TheVariants.{Name}
+use Rattle.mw_json.proofs.Kept.{either, unless, IsBetween, number_kept}
+use Rattle.mw_json.proofs.Passing.{past, after, within, where_true}
 use Rattle.mw_multidata.specs.Ascending.{ComesBefore, NamesAscend}
 use Rattle.mw_multidata.specs.Parts.{flags_at}
 use Rattle.mw_multidata.specs.SeedKept.{IsName, IsId, is_class, is_remaining, is_permission}
 use Rattle.mw_multidata.specs.Shape.{seed_name_of, seed_name_at}
 use Rattle.mw_multidata.proofs.Bools.{or_else, neither}
 
-module _ {A : Type 0} (P : A → Type 0) where
-  -- of two readings one
-  either : (test : Bool) (r q : Result A Breach) → IfOk r P → IfOk q P → IfOk (if test then r else q) P
-  either true r q h k = h
-  either false r q h k = k
-
-  unless : (test : Bool) (kind : Kind) (r : Result A Breach) → (test ≡ false → IfOk r P) → IfOk (if test then refused kind else r) P
-  unless true kind r h = tt
-  unless false kind r h = h refl
-
 -- ---- numbers
-
-abbrev pub IsBetween : ℕ → ℕ → ℕ → Type 0
-IsBetween low high n = (low ≤ n) × (n ≤ high)
-
-pub number_kept : (low high : ℕ) (j : Json) → IfOk (number_at low high j) (IsBetween low high)
-number_kept low high j = if_told (IsBetween low high) (number_at low high j) (λ n e. number_in_range low high j n e)
 
 pub id_kept : (j : Json) → IfOk (id_at j) IsId
 unfolding id_at
@@ -68,9 +51,6 @@ plain (b ∷ bs) e =
 
 abbrev pub IsShort : ℕ → List ℕ → Type 0
 IsShort most s = length (chars s) ≤ most
-
-short_kept : (most : ℕ) (s : List ℕ) → IfOk (short_text most s) (λ t. (t ≡ s) × IsShort most t)
-short_kept most s = where_true (λ t. (t ≡ s) × IsShort most t) _ s NameTooLong (λ e. (refl, grind (arith, common_steps, e)))
 
 -- the name itself, which keeps its rule
 pub name_kept : (most : ℕ) (s : List ℕ) → IfOk (name_of most s) (λ t. (t ≡ s) × IsName most t)
@@ -121,72 +101,7 @@ permission_kept j =
     let P : ℕ → Type 0 = IsPermission in
     past P (text_at j) _ (λ s. either P (bytes_eq s (codes "auto")) (Ok 6) _ refl (either P (bytes_eq s (codes "auto_enabled")) (Ok 7) (remaining_of s) refl (one_of_three P s refl refl refl)))
 
--- ---- lists
-
-abbrev HasLength : ℕ → Items → Type 0
-HasLength count js = items_length js ≡ count
-
-abbrev IsUpTo : ℕ → Items → Type 0
-IsUpTo most js = items_length js ≤ most
-
-pub counted : (count : ℕ) (j : Json) → IfOk (list_of_length count j) (HasLength count)
-unfolding list_of_length
-counted count j = past (HasLength count) (list_at j) _ (λ js. where_true (HasLength count) _ js WrongKind (λ e. grind (arith, common_steps, e)))
-
-pub bounded : (most : ℕ) (j : Json) → IfOk (list_up_to most j) (IsUpTo most)
-unfolding list_up_to
-bounded most j = past (IsUpTo most) (list_at j) _ (λ js. where_true (IsUpTo most) _ js TooMany (λ e. grind (arith, common_steps, e)))
-
-pub some_kept : (js : Items) → IfOk (not_empty js) (λ some. (1 ≤ items_length some) × (items_length some ≤ items_length js))
-some_kept no_items = tt
-some_kept (item j js) = (omega arith, omega arith)
-
--- so many, each of which keeps a rule
-pub record AreKept {A : Type 0} (P : A → Type 0) (count : ℕ) (xs : List A) : Type 0 where
-  pub each : All P xs
-  pub total : length xs ≡ count
-
--- a reader whose values keep a rule
-module _ {A : Type 0} (P : A → Type 0) (read : Json → Result A Breach) (one : (j : Json) → IfOk (read j) P) where
-  pub each_kept : (i : ℕ) (js : Items) → IfOk (each_from read i js) (AreKept P (items_length js))
-  each_kept i no_items = record { each = All-nil P; total = refl }
-  each_kept i (item j js) =
-      after P (AreKept P (items_length (item j js))) (under (Index i) (read j)) _ (within P (Index i) (read j) (one j)) (λ first h.
-      after (AreKept P (items_length js)) (AreKept P (items_length (item j js))) (each_from read (i + 1) js) _ (each_kept (i + 1) js) (λ others k.
-      record { each = All-cons P first others h k.each; total = omega (arith, k.total) }))
-
-  pub list_kept : (most : ℕ) (j : Json) → IfOk (list_of_at most read j) (λ xs. All P xs × (length xs ≤ most))
-  unfolding list_of_at
-  list_kept most j =
-      let Q : List A → Type 0 = λ xs. All P xs × (length xs ≤ most) in
-      after (IsUpTo most) Q (list_up_to most j) _ (bounded most j) (λ js h.
-      IfOk-weaker (each_from read 0 js) (AreKept P (items_length js)) Q (λ xs k. (k.each, omega (arith, h, k.total))) (each_kept 0 js))
-
-  pub element_kept : (n : ℕ) (js : Items) → IfOk (element_at n read js) P
-  unfolding element_at
-  element_kept n js = within P (Index n) (read (item_at n js)) (one (item_at n js))
-
--- ---- valid objects
-
-found_valid : (name : List ℕ) (ms : Members) → MembersAreValid ms → IfOk (found_or_missing (find_member name ms)) IsValid
-found_valid name no_members o = tt
-found_valid name (member k j ms) o =
-    elim (bytes_eq k name) as (λ b. IfOk (found_or_missing (if b then Some j else find_member name ms)) IsValid) [ true ↦ o.0 | false ↦ found_valid name ms o.2 ]
-
-pub object_valid : (j : Json) → IsValid j → IfOk (object_at j) MembersAreValid
-object_valid (members ms) o = o
-object_valid not_whole o = tt
-object_valid null o = tt
-object_valid (flag b) o = tt
-object_valid (whole z) o = tt
-object_valid (words s) o = tt
-object_valid (many js) o = tt
-
-pub in_valid_field : {A : Type 0} (P : A → Type 0) (name : List ℕ) (read : Json → Result A Breach) (ms : Members) → MembersAreValid ms
-    → ((j : Json) → IsValid j → IfOk (read j) P) → IfOk (field_at name read ms) P
-unfolding field_at
-in_valid_field P name read ms o h =
-    after IsValid P (member_at name ms) _ (within IsValid (Name name) (found_or_missing (find_member name ms)) (found_valid name ms o)) (λ j k. within P (Name name) (read j) (h j k))
+-- ---- members in order
 
 -- a reader of members whose values have the members' names
 module _ {A : Type 0} (P : A → Type 0) (called : A → List ℕ) (read : List ℕ → Json → Result A Breach) (one : (k : List ℕ) (j : Json) → IsValid j → IfOk (read k j) (λ x. (called x ≡ k) × P x)) where

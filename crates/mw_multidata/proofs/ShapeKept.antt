@@ -9,12 +9,13 @@ use Rattle.mw_json.specs.Parts.{id_at, not_empty, list_of_length, element_at}
 use Rattle.mw_json.specs.Readers.{each_from, list_of_at, each_member_at}
 use Rattle.mw_json.specs.Settings.{password_at, remaining_at, permission_at}
 use Rattle.mw_json.specs.Valid.{IsValid, MembersAreValid}
+use Rattle.mw_json.proofs.Kept.{IsBetween, number_kept, counted, bounded, some_kept, AreKept, each_kept, list_kept, element_kept, object_valid, in_valid_field}
 use Rattle.mw_json.proofs.Passing.{past, after, in_field}
 use Rattle.mw_multidata.specs.Ascending.{NamesAscend}
 use Rattle.mw_multidata.specs.Parts.{slot_number_at, flags_at}
 use Rattle.mw_multidata.specs.SeedKept.{IsName, IsId, ServerKept, EntryKept, entry_name, game_name}
 use Rattle.mw_multidata.specs.Shape.{server_at, named_id_at, ids_at, game_at, games_at, names_at, start_item_at, slot_at, slots_at, held_at, spot_at, sphere_at, spheres_at, format_at, seed_name_at, members_at, shape_at}
-use Rattle.mw_multidata.proofs.Kept.{IsBetween, number_kept, id_kept, IsClass, flags_kept, IsShort, name_kept, named_kept, password_kept, IsSeedName, seed_name_kept, IsRemaining, IsPermission, remaining_kept, permission_kept, counted, bounded, some_kept, AreKept, each_kept, list_kept, element_kept, object_valid, in_valid_field, AreNamed, members_kept}
+use Rattle.mw_multidata.proofs.Kept.{id_kept, IsClass, flags_kept, IsShort, name_kept, named_kept, password_kept, IsSeedName, seed_name_kept, IsRemaining, IsPermission, remaining_kept, permission_kept, AreNamed, members_kept}
 
 -- ---- the settings
 
@@ -99,7 +100,7 @@ unfolding names_at
 names_kept teams j =
     after (λ js. items_length js ≡ teams) (AreNames teams) (list_of_length teams j) _ (counted teams j) (λ js h.
     IfOk-weaker (each_from (name_at 16) 0 js) (AreNames (items_length js)) (AreNames teams) (λ ns k.
-    record { each = k.each; total = omega (arith, h, k.total) }) (each_kept (IsName 16) (name_at 16) (named_kept 16) 0 js))
+    (omega (arith, h, k.0), k.1)) (each_kept (IsName 16) (name_at 16) (named_kept 16) 0 js))
 
 pub record SlotShape (teams : ℕ) (s : Slot) : Type 0 where
   pub count : length s.names ≡ teams
@@ -108,7 +109,7 @@ pub record SlotShape (teams : ℕ) (s : Slot) : Type 0 where
   pub start : All StartShape s.start
 
 abbrev FewStart : List StartItem → Type 0
-FewStart ss = All StartShape ss × (length ss ≤ 256)
+FewStart ss = (length ss ≤ 256) × All StartShape ss
 
 slot_kept : (teams : ℕ) (j : Json) → IfOk (slot_at teams j) (SlotShape teams)
 unfolding slot_at
@@ -118,7 +119,7 @@ slot_kept teams j =
     after (AreNames teams) P (field_at (codes "names") (names_at teams) ms) _ (in_field (AreNames teams) (codes "names") (names_at teams) ms (names_kept teams)) (λ names a.
     past P (field_at (codes "game") (name_at 128) ms) _ (λ game.
     after FewStart P (field_at (codes "start") (list_of_at 256 start_item_at) ms) _ (in_field FewStart (codes "start") (list_of_at 256 start_item_at) ms (list_kept StartShape start_item_at start_kept 256)) (λ start b.
-    record { count = a.total; names = a.each; few = b.1; start = b.0 }))))
+    record { count = a.0; names = a.1; few = b.0; start = b.1 }))))
 
 pub record AreSlots (teams : ℕ) (ss : List Slot) : Type 0 where
   pub some : 1 ≤ length ss
@@ -131,7 +132,7 @@ slots_kept teams j =
     after (λ js. items_length js ≤ 1024) (AreSlots teams) (list_up_to 1024 j) _ (bounded 1024 j) (λ js h.
     after (λ some. (1 ≤ items_length some) × (items_length some ≤ items_length js)) (AreSlots teams) (not_empty js) _ (some_kept js) (λ some k.
     IfOk-weaker (each_from (slot_at teams) 0 some) (AreKept (SlotShape teams) (items_length some)) (AreSlots teams) (λ ss l.
-    record { some = omega (arith, k.0, l.total); few = omega (arith, h, k.1, l.total); each = l.each }) (each_kept (SlotShape teams) (slot_at teams) (slot_kept teams) 0 some)))
+    record { some = omega (arith, k.0, l.0); few = omega (arith, h, k.1, l.0); each = l.1 }) (each_kept (SlotShape teams) (slot_at teams) (slot_kept teams) 0 some)))
 
 -- ---- the locations
 
@@ -149,7 +150,7 @@ held_kept j =
     after IsClass HeldShape (element_at 4 flags_at js) _ (element_kept IsClass flags_at flags_kept 4 js) (λ flags h. h))))))
 
 abbrev FewHeld : List Held → Type 0
-FewHeld hs = All HeldShape hs × (length hs ≤ 16777216)
+FewHeld hs = (length hs ≤ 16777216) × All HeldShape hs
 
 -- ---- the spheres
 
@@ -173,13 +174,13 @@ sphere_kept j =
     past SphereShape (list_at j) _ (λ js.
     after (λ some. (1 ≤ items_length some) × (items_length some ≤ items_length js)) SphereShape (not_empty js) _ (some_kept js) (λ some k.
     IfOk-weaker (each_from spot_at 0 some) (AreKept SpotShape (items_length some)) SphereShape (λ spots l.
-    record { some = omega (arith, k.0, l.total); each = l.each }) (each_kept SpotShape spot_at spot_kept 0 some)))
+    record { some = omega (arith, k.0, l.0); each = l.1 }) (each_kept SpotShape spot_at spot_kept 0 some)))
 
 spheres_kept : (j : Json) → IfOk (spheres_at j) (All SphereShape)
 unfolding spheres_at
 spheres_kept j =
     past (All SphereShape) (list_at j) _ (λ js.
-    IfOk-weaker (each_from sphere_at 0 js) (AreKept SphereShape (items_length js)) (All SphereShape) (λ ss l. l.each) (each_kept SphereShape sphere_at sphere_kept 0 js))
+    IfOk-weaker (each_from sphere_at 0 js) (AreKept SphereShape (items_length js)) (All SphereShape) (λ ss l. l.1) (each_kept SphereShape sphere_at sphere_kept 0 js))
 
 -- ---- the whole
 
@@ -213,8 +214,8 @@ members_shaped ms o =
       server = c;
       games = d;
       slots = e;
-      few_locations = f.1;
-      locations = f.0;
+      few_locations = f.0;
+      locations = f.1;
       spheres = g;
     }))))))))
 

@@ -5,16 +5,17 @@ use Rattle.std.proofs.lemmas.List.Sorted.{All-permutation, Contains-permutation}
 use Rattle.mw_model.specs.Seed.{Seed, Held, held_among}
 use Rattle.mw_multi.specs.Joint.{Slot, Joint, IsJoint}
 use Rattle.mw_multi.specs.Steps.{location_place}
-use Rattle.mw_multi.specs.Placement.{Put, slot_at}
-use Rattle.mw_fill.specs.Fill.{what_stands}
-use Rattle.mw_seeds.specs.Ascending.{Ascend}
-use Rattle.mw_seeds.specs.SeedFile.{held_cmp, held_where, location_held, slot_held, all_held, AreLocations}
+use Rattle.mw_multi.specs.Placement.{Put, slot_at, what_stands}
+use Rattle.mw_multidata.specs.Ascending.{Ascend}
+use Rattle.mw_multidata.specs.SeedKept.{held_cmp}
+use Rattle.mw_seeds.specs.SeedFile.{held_where, location_held, slot_held, all_held, AreLocations}
 use Rattle.mw_seeds.specs.Agreeing.{has_location, held_index, agrees_with, agrees_at, IsFirstDifference}
 use Rattle.mw_seeds.specs.FilePuts.{first_apart, file_puts}
 use Rattle.mw_seeds.specs.Judging.{IsPlacementIn}
 use Rattle.mw_seeds.proofs.SeedHeld.{IsOfSlot, all_of}
 use Rattle.mw_seeds.proofs.Apart.{among_there, among_is, apart_is, same_lists}
-use Rattle.mw_seeds.proofs.FilePlaced.{IsLocated, located, has_it, what_is_put, stands_at_location, put_at, in_numbered, here, is_placement}
+use Rattle.mw_seeds.proofs.Elements.{in_numbered, here}
+use Rattle.mw_seeds.proofs.FilePlaced.{IsLocated, located, has_it, what_is_put, stands_at_location, put_at, is_placement}
 
 -- what the tables and the file say of a location, by what stands there and what the file has
 module _ (slots : List Slot) (due found : Option Held) where

@@ -1,107 +1,30 @@
 -- What the entries of a seed file put is a placement of the joint.
-use Rattle.std.proofs.Common.{◌≡◌, ◌≤◌, ◌<◌, ◌+◌, ◌==◌, ℕ, ℤ, zero, suc, List, [], ◌∷◌, ◌++◌, Bool, true, false, cond, Option, Some, None, map, option_map, option_and_then, filter_map, int_eq, refl, sym, ap, ap₂, subst, ◌∙◌, arith, All, slice_get}
+use Rattle.std.proofs.Common.{◌≡◌, ◌≤◌, ◌<◌, ◌+◌, ◌==◌, ℕ, ℤ, zero, suc, List, [], ◌∷◌, ◌++◌, Bool, true, false, cond, Option, Some, None, map, option_map, option_and_then, refl, sym, ap, ap₂, subst, ◌∙◌, arith, All, slice_get}
 use Rattle.std.specs.Prelude.{Contains, Result, Ok, Err, IfOk, is_some, if◌then◌else◌}
-use Rattle.std.specs.List.{AllByRecursion}
 use Rattle.std.specs.List.Sorted.{IsStrictlyIncreasing}
 use Rattle.std.proofs.lemmas.Bool.Decides.{Decides-eqb}
 use Rattle.std.proofs.lemmas.List.{map-append}
-use Rattle.std.proofs.lemmas.List.Elements.{All-nil, All-cons, Contains-append_left, Contains-append_right}
+use Rattle.std.proofs.lemmas.List.Elements.{All-nil, All-cons}
 use Rattle.mw_model.specs.Seed.{Held, held_among}
 use Rattle.mw_multi.specs.World.{Item, Location}
 use Rattle.mw_multi.specs.WorldKept.{LocationKept, item_id, location_id, has_id, event_fits}
-use Rattle.mw_multi.specs.Names.{IdsDiffer}
 use Rattle.mw_multi.specs.Joint.{Slot, Joint, IsJoint, SlotKept, place_total}
 use Rattle.mw_multi.specs.Steps.{location_place}
-use Rattle.mw_multi.specs.Placement.{Put, PutKept, IsPlacement, put_place, slot_at, item_at, item_in, site_of, site_at, fits_event, fits_site}
+use Rattle.mw_multi.specs.Placement.{Put, PutKept, IsPlacement, put_place, slot_at, item_at, item_in, site_of, site_at, fits_event, fits_site, what_stands}
 use Rattle.mw_multi.specs.declared.item.Class.{Class}
 use Rattle.mw_multi.proofs.Sites.{get_some, location_site}
-use Rattle.mw_tables.specs.Names.{index_of_id}
-use Rattle.mw_fill.specs.Numbered.{each_numbered}
+use Rattle.mw_multi.specs.Indexes.{index_of_id}
+use Rattle.mw_multi.specs.Numbered.{each_numbered}
 use Rattle.mw_fill.specs.Openings.{opening_of, opening_at, slot_openings, openings_of}
-use Rattle.mw_fill.specs.Fill.{what_stands}
 use Rattle.mw_fill.specs.Try.{end_put, placement_of}
-use Rattle.mw_fill.proofs.Numbered.{numbered_all}
+use Rattle.mw_multi.proofs.Numbered.{numbered_all}
 use Rattle.mw_fill.proofs.Ascending.{Rises, place_of, map_same, slots_rise, end_place, placement_kept}
 use Rattle.mw_seeds.specs.SeedFile.{class_flags, held_with, held_item, held_put}
 use Rattle.mw_seeds.specs.Agreeing.{has_location, has_flags, where_flags, index_among, slot_items, held_index}
 use Rattle.mw_seeds.specs.FilePuts.{catalog_at, own_put, put_or_own, file_put, put_where, location_put, slot_puts, file_puts}
-use Rattle.mw_seeds.proofs.SeedHeld.{rest_differ, first_differs}
+use Rattle.mw_seeds.proofs.Ids.{id_found, first_id, some_id}
 use Rattle.mw_seeds.proofs.Apart.{among_is}
-use Rattle.mw_seeds.proofs.SeedPlays.{holds_at}
-
--- ---- elements of lists
-
-pub get_mapped : {A B : Type 0} (f : A → B) (xs : List A) (k : ℕ) → slice_get (map f xs) k ≡ option_map f (slice_get xs k)
-get_mapped f [] k = refl
-get_mapped f (x ∷ xs) zero = refl
-get_mapped f (x ∷ xs) (suc k) = get_mapped f xs k
-
--- what some element gives is among what all give
-pub in_numbered : {A B : Type 0} (f : ℕ → A → List B) (number : ℕ) (xs : List A) (k : ℕ) (x : A) (y : B) → slice_get xs k ≡ Some x → Contains (f (number + k) x) y → Contains (each_numbered f number xs) y
-in_numbered f number [] k x y e c = cc
-in_numbered f number (z ∷ xs) zero x y e c =
-    let same : z ≡ x = cc in
-    let at : number + 0 ≡ number = omega arith in
-    Contains-append_left (f number z) (each_numbered f (suc number) xs) y (subst (λ n. Contains (f n z) y) at (subst (λ v. Contains (f (number + 0) v) y) (sym same) c))
-in_numbered f number (z ∷ xs) (suc k) x y e c =
-    let at : number + suc k ≡ suc number + k = omega arith in
-    Contains-append_right (f number z) (each_numbered f (suc number) xs) y (in_numbered f (suc number) xs k x y e (subst (λ n. Contains (f n x) y) at c))
-
-pub here : {A : Type 0} (x : A) (xs : List A) → xs ≡ x ∷ [] → Contains xs x
-here x xs e = subst (λ ys. Contains ys x) (sym e) (0, omega arith, refl)
-
--- ---- ids
-
-one_found : (x id : ℤ) (ids : List (Option ℤ)) (k : ℕ) (found : Option ℕ) (b : Bool) → int_eq x id ≡ b → (if b then Some 0 else option_map suc found) ≡ Some k → ((m : ℕ) → found ≡ Some m → slice_get ids m ≡ Some (Some id))
-    → slice_get (Some x ∷ ids) k ≡ Some (Some id)
-one_found x id ids zero found true is e rest = let same : x ≡ id = grind (arith, is) in ap (λ v. Some (Some v)) same
-one_found x id ids (suc k) found true is e rest = cc
-one_found x id ids k None false is e rest = cc
-one_found x id ids zero (Some m) false is e rest = cc
-one_found x id ids (suc k) (Some m) false is e rest = let same : m ≡ k = cc in rest k (ap Some same)
-
-none_found : (id : ℤ) (ids : List (Option ℤ)) (k : ℕ) (found : Option ℕ) → option_map suc found ≡ Some k → ((m : ℕ) → found ≡ Some m → slice_get ids m ≡ Some (Some id)) → slice_get (None ∷ ids) k ≡ Some (Some id)
-none_found id ids k None e rest = cc
-none_found id ids zero (Some m) e rest = cc
-none_found id ids (suc k) (Some m) e rest = let same : m ≡ k = cc in rest k (ap Some same)
-
-id_found : (ids : List (Option ℤ)) (id : ℤ) (k : ℕ) → index_of_id ids id ≡ Some k → slice_get ids k ≡ Some (Some id)
-id_found [] id k e = cc
-id_found (Some x ∷ ids) id k e = one_found x id ids k (index_of_id ids id) (int_eq x id) refl e (λ m f. id_found ids id m f)
-id_found (None ∷ ids) id k e = none_found id ids k (index_of_id ids id) e (λ m f. id_found ids id m f)
-
-apart_at : (x id : ℤ) (ids : List (Option ℤ)) (k : ℕ) → AllByRecursion (λ y. int_eq x y ≡ false) (filter_map (λ i. i) ids) → slice_get ids k ≡ Some (Some id) → int_eq x id ≡ false
-apart_at x id [] k h e = cc
-apart_at x id (None ∷ ids) zero h e = cc
-apart_at x id (None ∷ ids) (suc k) h e = apart_at x id ids k h e
-apart_at x id (Some y ∷ ids) zero h e = let same : y ≡ id = cc in subst (λ v. int_eq x v ≡ false) same h.0
-apart_at x id (Some y ∷ ids) (suc k) h e = apart_at x id ids k h.1 e
-
--- an id stands first where it stands at all
-first_id : (ids : List (Option ℤ)) (id : ℤ) (k : ℕ) → IdsDiffer ids → slice_get ids k ≡ Some (Some id) → index_of_id ids id ≡ Some k
-first_id [] id k d e = cc
-first_id (o ∷ ids) id zero d e =
-    let same : o ≡ Some id = cc in
-    let own : int_eq id id ≡ true = grind arith in
-    ap (λ v. index_of_id (v ∷ ids) id) same ∙ ap (λ b. if b then Some 0 else option_map suc (index_of_id ids id)) own
-first_id (None ∷ ids) id (suc k) d e = ap (option_map suc) (first_id ids id k (rest_differ None ids d) e)
-first_id (Some x ∷ ids) id (suc k) d e =
-    ap (λ b. if b then Some 0 else option_map suc (index_of_id ids id)) (apart_at x id ids k (first_differs x (Some x) ids refl d) e)
-    ∙ ap (option_map suc) (first_id ids id k (rest_differ (Some x) ids d) e)
-
-one_some : (b : Bool) (found : Option ℕ) → is_some found ≡ true → is_some (if b then Some 0 else option_map suc found) ≡ true
-one_some true found e = refl
-one_some false None e = cc
-one_some false (Some k) e = refl
-
-some_id : (ids : List (Option ℤ)) (id : ℤ) (k : ℕ) → slice_get ids k ≡ Some (Some id) → is_some (index_of_id ids id) ≡ true
-some_id [] id k e = cc
-some_id (o ∷ ids) id zero e =
-    let same : o ≡ Some id = cc in
-    let own : int_eq id id ≡ true = grind arith in
-    ap (λ v. is_some (index_of_id (v ∷ ids) id)) same ∙ ap (λ b. is_some (if b then Some 0 else option_map suc (index_of_id ids id))) own
-some_id (None ∷ ids) id (suc k) e = one_some false (index_of_id ids id) (some_id ids id k e)
-some_id (Some x ∷ ids) id (suc k) e = one_some (int_eq x id) (index_of_id ids id) (some_id ids id k e)
+use Rattle.mw_seeds.proofs.Elements.{holds_at, get_mapped, unmapped, in_numbered, here}
 
 -- ---- locations
 
@@ -115,11 +38,6 @@ pub record IsLocated (slots : List Slot) (number : ℕ) (id : ℤ) : Type 0 wher
   pub location : Location
   pub listed : slice_get owner.world.locations index ≡ Some location
   pub named : location.id ≡ Some id
-
-unmapped : {A B : Type 0} (f : A → B) (xs : List A) (k : ℕ) (y : B) → slice_get (map f xs) k ≡ Some y → (x : A) × (slice_get xs k ≡ Some x) × (f x ≡ y)
-unmapped f [] k y e = cc
-unmapped f (x ∷ xs) zero y e = let same : f x ≡ y = cc in (x, refl, same)
-unmapped f (x ∷ xs) (suc k) y e = unmapped f xs k y e
 
 located_at : (slots : List Slot) (before : ℕ) (id : ℤ) (s : Slot) (o : Option ℕ) → slice_get slots before ≡ Some s → index_of_id (map location_id s.world.locations) id ≡ o → is_some o ≡ true → IsLocated slots (suc before) id
 located_at slots before id s None there found e = cc

@@ -20,7 +20,8 @@ use Rattle.mw_multi.specs.declared.refusal.JointRefusal.{JointRefusal}
 use Rattle.mw_multi.specs.declared.refusal.JointRefusal.TheVariants.{GameTwice}
 use Rattle.mw_multidata.specs.Names.{all_names}
 use Rattle.mw_seeds.specs.SeedFile.{file_slot}
-use Rattle.mw_seeds.proofs.SeedPlays.{HasNames, OneWorldEach, holds_in}
+use Rattle.mw_seeds.proofs.Elements.{holds_in}
+use Rattle.mw_seeds.proofs.SeedPlays.{HasNames, OneWorldEach}
 
 -- ---- step by step
 

@@ -1,5 +1,5 @@
 -- What is found of a seed file.
-use Rattle.std.proofs.Common.{◌≡◌, List, Ok, Err, refl, sym, subst}
+use Rattle.std.proofs.Common.{◌≡◌, List, Ok, sym, subst}
 use Rattle.std.specs.Prelude.{OnOk}
 use Rattle.mw_model.specs.Seed.{Seed, Spot}
 use Rattle.mw_multi.specs.Joint.{Joint}

@@ -1,7 +1,4 @@
-pub mod SeedParts
-pub mod SeedNames
-pub mod SeedTexts
-pub mod SeedAccepted
+pub mod Elements
 pub mod Sorting
 pub mod SeedTables
 pub mod SeedHeld
@@ -14,7 +11,7 @@ pub mod SeedMade
 pub mod PlayedLines
 pub mod Apart
 pub mod Judged
+pub mod Ids
 pub mod FilePlaced
 pub mod Agreed
-pub mod SeedOrder
 pub mod OneFile

@@ -1,5 +1,5 @@
 -- A joint, a number, a placement and spheres have one seed file.
-use Rattle.std.proofs.Common.{◌≡◌, ◌⊎◌, ◌<◌, ◌+◌, ℕ, zero, suc, List, [], ◌∷◌, All, map, length, get_or, nat_cmp, Ordering, Less, Greater, IsPermutation, inl, inr, refl, sym, ap, ap₂, subst, ◌∙◌, arith}
+use Rattle.std.proofs.Common.{◌≡◌, ◌⊎◌, ℕ, zero, suc, List, [], ◌∷◌, map, nat_cmp, Ordering, Less, Greater, IsPermutation, inl, inr, refl, sym, ap, ap₂, subst, ◌∙◌, arith}
 use Rattle.std.specs.Cmp.{IsTotalOrder}
 use Rattle.std.specs.Cmp.Lexicographic.{slice_cmp}
 use Rattle.std.specs.List.{Contains}
@@ -10,10 +10,12 @@ use Rattle.mw_model.specs.Seed.{Seed, Game, NamedId, Held, Spot}
 use Rattle.mw_multi.specs.World.{World}
 use Rattle.mw_multi.specs.Joint as joined
 use Rattle.mw_multi.specs.Placement.{Put}
-use Rattle.mw_seeds.specs.Ascending.{Ascend, ComesBefore}
-use Rattle.mw_seeds.specs.SeedFile.{entry_name, game_name, held_cmp, IsTable, IsGameOf, IsPlayed, HasGameOf, AreGames, AreLocations, SeedFile}
-use Rattle.mw_seeds.proofs.Sorting.{held_total}
-use Rattle.mw_seeds.proofs.SeedPlays.{OneWorldEach, holds_in}
+use Rattle.mw_multidata.specs.Ascending.{Ascend, ComesBefore}
+use Rattle.mw_multidata.specs.SeedKept.{entry_name, game_name, held_cmp}
+use Rattle.mw_seeds.specs.SeedFile.{IsTable, IsGameOf, IsPlayed, HasGameOf, AreGames, AreLocations, SeedFile}
+use Rattle.mw_multidata.proofs.NamesKept.{held_total}
+use Rattle.mw_seeds.proofs.Elements.{holds_in}
+use Rattle.mw_seeds.proofs.SeedPlays.{OneWorldEach}
 
 -- ---- ascending lists of the same elements
 

@@ -1,7 +1,6 @@
 -- Lists that grow element by element as a loop goes through another list.
-use Rattle.std.proofs.Common.{◌≡◌, ◌<◌, ◌+◌, ℕ, suc, List, [], ◌∷◌, ◌++◌, All, length, map, flat_map, take, drop, get_or, sym, ap, ap₂, subst, ◌∙◌, arith, drop-cons}
+use Rattle.std.proofs.Common.{◌≡◌, ◌<◌, ◌+◌, ℕ, suc, List, [], ◌∷◌, ◌++◌, length, map, flat_map, take, drop, get_or, sym, ap, ap₂, ◌∙◌, arith, drop-cons}
 use Rattle.std.proofs.lemmas.List.{take_more, map_push, flat_map_more}
-use Rattle.std.proofs.lemmas.List.Elements.{All-push}
 
 pub next : {X : Type 0} (xs : List X) (i : ℕ) (y : X) → i < length xs → y ≡ get_or xs i y → take (i + 1) xs ≡ take i xs ++ y ∷ []
 next xs i y h is = take_more xs i y h ∙ ap (λ x. take i xs ++ x ∷ []) (sym is)
@@ -24,6 +23,3 @@ pub gathered : {X Y : Type 0} (f : X → List Y) (xs : List X) (before after : L
     → after ≡ flat_map f (take (i + 1) xs)
 gathered f xs before after i y h is grown so =
     grown ∙ ap (λ zs. zs ++ f y) so ∙ flat_map_more f [] (take i xs) y ∙ ap (flat_map f) (sym (next xs i y h is))
-
-pub kept_all : {X : Type 0} (P : X → Type 0) (before after : List X) (x : X) → after ≡ before ++ x ∷ [] → All P before → P x → All P after
-kept_all P before after x grown h one = subst (All P) (sym grown) (All-push P before x h one)

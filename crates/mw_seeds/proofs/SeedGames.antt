@@ -10,7 +10,9 @@ use Rattle.mw_model.specs.Seed.{Game}
 use Rattle.mw_multi.specs.Names.{NamesDiffer}
 use Rattle.mw_multi.specs.Joint.{Slot}
 use Rattle.mw_multidata.specs.Names.{has_name}
-use Rattle.mw_seeds.specs.SeedFile.{NamesAscend, game_name, has_game, IsGameOf, IsPlayed, HasGameOf, IsGameAdded, AreDifferent, AreGames}
+use Rattle.mw_multidata.specs.Ascending.{NamesAscend}
+use Rattle.mw_multidata.specs.SeedKept.{game_name}
+use Rattle.mw_seeds.specs.SeedFile.{has_game, IsGameOf, IsPlayed, HasGameOf, IsGameAdded, AreDifferent, AreGames}
 
 -- the games of the first slots
 pub record AreMet (slots : List Slot) (i : ℕ) (games : List Game) : Type 0 where

@@ -12,7 +12,7 @@ use Rattle.mw_multi.specs.Names.{IdsDiffer}
 use Rattle.mw_multi.specs.Joint.{Slot, slot_places, place_total}
 use Rattle.mw_multi.specs.Steps.{location_place}
 use Rattle.mw_multi.specs.Placement.{Put, slot_at, item_in}
-use Rattle.mw_fill.specs.Numbered.{each_numbered}
+use Rattle.mw_multi.specs.Numbered.{each_numbered}
 use Rattle.mw_seeds.specs.SeedFile.{class_flags, held_with, held_item, held_put, held_where, location_held, slot_held}
 use Rattle.mw_seeds.proofs.Sorting.{same_held}
 

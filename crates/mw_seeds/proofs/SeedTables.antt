@@ -9,10 +9,18 @@ use Rattle.std.proofs.lemmas.Map.Keys.{IsDistinct-IsPermutation}
 use Rattle.mw_model.specs.Seed.{Game, NamedId}
 use Rattle.mw_multi.specs.World.{World, Item, Location}
 use Rattle.mw_multi.specs.WorldKept.{IsWorld, ItemKept, LocationKept, IsIdOrNone, item_name, item_id, location_name, location_id}
-use Rattle.mw_multi.specs.Names.{IsName, NamesDiffer, IdsDiffer}
+use Rattle.mw_multi.specs.Names.{IsName, IsId, NamesDiffer, IdsDiffer}
 use Rattle.mw_multidata.specs.Names.{has_id}
-use Rattle.mw_seeds.specs.SeedFile.{named_where, item_entry, location_entry, entry_name, IsTable, IsGameOf}
-use Rattle.mw_seeds.proofs.SeedParts.{IsEntry, entry_id, IsIdTable, IsGame}
+use Rattle.mw_multidata.specs.SeedKept as file
+use Rattle.mw_multidata.specs.SeedKept.{EntryKept, TableKept, GameKept, entry_name, entry_id}
+use Rattle.mw_seeds.specs.SeedFile.{named_where, item_entry, location_entry, IsTable, IsGameOf}
+
+-- names and ids of the tables are such as a seed has
+pub name_kept : (most : ℕ) (name : List ℕ) → IsName most name → file.IsName most name
+name_kept most name h = record { there = h.there; short = h.short; plain = h.plain }
+
+id_kept : (id : ℤ) → IsId id → file.IsId id
+id_kept id h = record { low = h.low; high = h.high }
 
 either : (a b : Bool) → b ≡ true → (a || b) ≡ true
 either true b h = refl
@@ -58,12 +66,12 @@ module _ {X : Type 0} (name : X → List ℕ) (id : X → Option ℤ) where
   entry_ids (x ∷ xs) =
       elim (id x) as (λ o. map entry_id (named_where (name x) o ++ entries xs) ≡ filter_map (λ i. i) (o ∷ map id xs)) [ None ↦ entry_ids xs | Some i ↦ ap (λ is. i ∷ is) (entry_ids xs) ]
 
-  with_entry : (n : List ℕ) (o : Option ℤ) (others : List NamedId) → IsName 128 n → IsIdOrNone o → All IsEntry others → All IsEntry (named_where n o ++ others)
+  with_entry : (n : List ℕ) (o : Option ℤ) (others : List NamedId) → IsName 128 n → IsIdOrNone o → All EntryKept others → All EntryKept (named_where n o ++ others)
   with_entry n None others h k rest = rest
-  with_entry n (Some i) others h k rest = All-cons IsEntry record { name = n; id = i } others (record { name = h; id = k }) rest
+  with_entry n (Some i) others h k rest = All-cons EntryKept record { name = n; id = i } others (record { name = name_kept 128 n h; id = id_kept i k }) rest
 
-  entries_kept : (xs : List X) → All (λ x. IsName 128 (name x) × IsIdOrNone (id x)) xs → All IsEntry (entries xs)
-  entries_kept [] h = All-nil IsEntry
+  entries_kept : (xs : List X) → All (λ x. IsName 128 (name x) × IsIdOrNone (id x)) xs → All EntryKept (entries xs)
+  entries_kept [] h = All-nil EntryKept
   entries_kept (x ∷ xs) h =
       let Kept : X → Type 0 = λ x. IsName 128 (name x) × IsIdOrNone (id x) in
       let first : Kept x = All-head Kept x xs h in
@@ -82,11 +90,11 @@ module _ {X : Type 0} (name : X → List ℕ) (id : X → Option ℤ) where
   entry_there (y ∷ xs) (suc k) x i there e = has_later (name y) (id y) (entries xs) i (entry_there xs k x i there e)
 
   module _ (xs : List X) (table : List NamedId) (is : IsTable (entries xs) table) where
-    good_table : All (λ x. IsName 128 (name x) × IsIdOrNone (id x)) xs → IdsDiffer (map id xs) → IsIdTable table
+    good_table : All (λ x. IsName 128 (name x) × IsIdOrNone (id x)) xs → IdsDiffer (map id xs) → TableKept table
     good_table kept ids =
         let differ : IsDistinct int_eq (map entry_id (entries xs)) = subst (IsDistinct int_eq) (sym (entry_ids xs)) ids in
         record {
-          each = All-permutation IsEntry (entries xs) table is.same (entries_kept xs kept);
+          each = All-permutation EntryKept (entries xs) table is.same (entries_kept xs kept);
           ascend = is.ascend;
           ids = IsDistinct-IsPermutation int_eq ints_flip (map entry_id (entries xs)) (map entry_id table) (IsPermutation-map entry_id (entries xs) table is.same) differ;
         }
@@ -99,20 +107,20 @@ item_kept i h = (h.name, h.id)
 location_kept : (w : World) (l : Location) → LocationKept w l → IsName 128 l.name × IsIdOrNone l.id
 location_kept w l h = (h.name, h.id)
 
-module _ (w : World) (g : Game) (is : IsGameOf w g) (kept : IsWorld w) where
-  pub good_game : IsGame g
+module _ (w : World) (g : Game) (is : IsGameOf w g) (of : IsWorld w) where
+  pub good_game : GameKept g
   good_game = record {
-    name = subst (IsName 128) (sym is.name) kept.game;
-    items = good_table item_name item_id w.items g.item_name_to_id is.items (λ k d l. item_kept _ (kept.items.each k d l)) kept.items.ids;
-    locations = good_table location_name location_id w.locations g.location_name_to_id is.locations (λ k d l. location_kept w _ (kept.locations.each k d l)) kept.locations.ids;
+    name = name_kept 128 g.name (subst (IsName 128) (sym is.name) of.game);
+    items = good_table item_name item_id w.items g.item_name_to_id is.items (λ k d l. item_kept _ (of.items.each k d l)) of.items.ids;
+    locations = good_table location_name location_id w.locations g.location_name_to_id is.locations (λ k d l. location_kept w _ (of.locations.each k d l)) of.locations.ids;
   }
 
   -- the game has each item, and each location, that has an id
-  pub has_item : (k : ℕ) (i : Item) (id : ℤ) → slice_get w.items k ≡ Some i → i.id ≡ Some id → has_id g.item_name_to_id id ≡ true
-  has_item k i id there e = same_ids (flat_map item_entry w.items) g.item_name_to_id id is.items.same (entry_there item_name item_id w.items k i id there e)
+  pub item_there : (k : ℕ) (i : Item) (id : ℤ) → slice_get w.items k ≡ Some i → i.id ≡ Some id → has_id g.item_name_to_id id ≡ true
+  item_there k i id there e = same_ids (flat_map item_entry w.items) g.item_name_to_id id is.items.same (entry_there item_name item_id w.items k i id there e)
 
-  pub has_location : (k : ℕ) (l : Location) (id : ℤ) → slice_get w.locations k ≡ Some l → l.id ≡ Some id → has_id g.location_name_to_id id ≡ true
-  has_location k l id there e = same_ids (flat_map location_entry w.locations) g.location_name_to_id id is.locations.same (entry_there location_name location_id w.locations k l id there e)
+  pub location_there : (k : ℕ) (l : Location) (id : ℤ) → slice_get w.locations k ≡ Some l → l.id ≡ Some id → has_id g.location_name_to_id id ≡ true
+  location_there k l id there e = same_ids (flat_map location_entry w.locations) g.location_name_to_id id is.locations.same (entry_there location_name location_id w.locations k l id there e)
 
 -- what is made of a world's items or locations, before it is sorted, has names that differ
 pub item_names_apart : (items : List Item) → NamesDiffer (map item_name items) → NamesDiffer (map entry_name (flat_map item_entry items))

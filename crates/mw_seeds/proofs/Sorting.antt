@@ -5,13 +5,15 @@ use Rattle.std.specs.Cmp.Lexicographic.{slice_cmp}
 use Rattle.std.specs.List.{IsDistinct}
 use Rattle.std.specs.Ordering.{ordering_reverse}
 use Rattle.std.proofs.lemmas.Map.Text.{is_eq-slice_cmp}
-use Rattle.std.proofs.lemmas.Cmp.{int_eq_equiv, nat_eq_equiv, nat_list_eq_equiv, nat_list_cmp_total, nat_cmp_total, int_cmp_total, then_total, on_total}
+use Rattle.std.proofs.lemmas.Cmp.{int_eq_equiv, nat_eq_equiv, nat_list_eq_equiv, nat_list_cmp_total}
 use Rattle.std.proofs.lemmas.List.Sorted.{IsPermutation-map}
 use Rattle.std.proofs.lemmas.Map.Keys.{IsDistinct-IsPermutation}
 use Rattle.mw_model.specs.Seed.{Game, NamedId, Held}
 use Rattle.mw_multi.specs.Names.{NamesDiffer}
-use Rattle.mw_seeds.specs.Ascending.{Ascend, ComesBefore}
-use Rattle.mw_seeds.specs.SeedFile.{NamesAscend, entry_name, game_name, IsTable, held_cmp}
+use Rattle.mw_multidata.specs.Ascending.{Ascend, ComesBefore, NamesAscend}
+use Rattle.mw_multidata.specs.SeedKept.{entry_name, game_name, held_cmp}
+use Rattle.mw_multidata.proofs.NamesKept.{held_total}
+use Rattle.mw_seeds.specs.SeedFile.{IsTable}
 
 tail_sorted : {X : Type 0} (lt : X → X → Bool) (x : X) (xs : List X) → IsSortedBy lt (x ∷ xs) → IsSortedBy lt xs
 tail_sorted lt x xs s k d a b =
@@ -67,9 +69,6 @@ games_ascend games sorted p s d =
 -- of one location
 abbrev pub same_held : Held → Held → Bool
 same_held a b = (a.slot == b.slot) && int_eq a.location b.location
-
-pub held_total : IsTotalOrder held_cmp
-held_total = then_total (on_total (λ h. h.slot) nat_cmp_total) (on_total (λ h. h.location) int_cmp_total)
 
 held_flip : (a b : Held) → same_held a b ≡ same_held b a
 held_flip a b = ap₂ ◌&&◌ (nat_eq_equiv.symm a.slot b.slot) (int_eq_equiv.symm a.location b.location)

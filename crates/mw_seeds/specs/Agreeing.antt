@@ -8,7 +8,7 @@ use Rattle.mw_multi.specs.World.{Item}
 use Rattle.mw_multi.specs.WorldKept.{item_id, location_id}
 use Rattle.mw_multi.specs.Joint.{Slot, Joint}
 use Rattle.mw_multi.specs.Placement.{slot_at}
-use Rattle.mw_tables.specs.Names.{index_of_id}
+use Rattle.mw_multi.specs.Indexes.{index_of_id}
 use Rattle.mw_seeds.specs.SeedFile.{class_flags}
 
 -- the slot's world has a location with this id

@@ -6,8 +6,8 @@ use Rattle.mw_multi.specs.World.{Item, Location}
 use Rattle.mw_multi.specs.Joint.{Slot}
 use Rattle.mw_multi.specs.Steps.{location_place}
 use Rattle.mw_multi.specs.Placement.{Put}
-use Rattle.mw_fill.specs.Numbered.{each_numbered}
-use Rattle.mw_seeds.specs.SeedFile.{held_cmp}
+use Rattle.mw_multi.specs.Numbered.{each_numbered}
+use Rattle.mw_multidata.specs.SeedKept.{held_cmp}
 use Rattle.mw_seeds.specs.Agreeing.{index_among, slot_items}
 
 -- the items for a receiver's number, which counts from 1

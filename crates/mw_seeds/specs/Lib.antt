@@ -1,6 +1,4 @@
-pub mod Ascending
 pub mod SeedFile
-pub mod SeedKept
 pub mod Played
 pub mod Agreeing
 pub mod FilePuts

@@ -10,12 +10,11 @@ use Rattle.mw_multi.specs.World.{World, Item, Location, PoolEntry}
 use Rattle.mw_multi.specs.Joint as joined
 use Rattle.mw_multi.specs.Names.{NamesDiffer}
 use Rattle.mw_multi.specs.Steps.{location_place}
-use Rattle.mw_multi.specs.Placement.{Put, item_at}
+use Rattle.mw_multi.specs.Placement.{Put, item_at, what_stands}
 use Rattle.mw_multi.specs.declared.item.Class.{Class}
 use Rattle.mw_multi.specs.declared.item.Class.TheVariants.{Progression, Useful, Filler, Trap}
-use Rattle.mw_fill.specs.Numbered.{each_numbered}
-use Rattle.mw_fill.specs.Fill.{what_stands}
-use Rattle.mw_seeds.specs.Ascending.{Ascend}
+use Rattle.mw_multi.specs.Numbered.{each_numbered}
+use Rattle.mw_multidata.specs.Ascending.{Ascend}
 
 -- ---- classes
 

@@ -1,6 +1,5 @@
 //! Whether a seed file's entries agree with joined tables.
-ghost use Rattle.std.specs.Prelude.{◌≡◌, ℕ, List, Ok, IfOk, IfErr};
-ghost use Rattle.mw_multidata.specs.SeedOf.{SeedOf};
+ghost use Rattle.std.specs.Prelude.{◌≡◌, IfOk, IfErr};
 ghost use Rattle.mw_seeds.specs.FilePuts.{same_entry as same, earlier_of as earlier, first_apart as apart};
 ghost use Rattle.mw_seeds.specs.Judging.{IsPlacementIn, IsOther};
 
@@ -53,11 +52,10 @@ pub fn placement_in(
     joint: &Joint,
     file: &Multidata,
 ) -> Result<Placement, SeedRefusal>
-    requires { (bytes : List ℕ) × SeedOf bytes (Ok file.now) }
     ensures ok { IfOk result (IsPlacementIn joint.now file.now) }
     ensures err { IfErr result (IsOther joint.now file.now) }
 {
-    // Reading the joint makes known what its type keeps.
+    // Reading these makes known what their types keep.
     let _ = &joint.slots;
     let held = file.locations.as_slice();
     let puts = file_puts(alloc, joint, held)?;

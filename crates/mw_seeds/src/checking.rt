@@ -1,6 +1,5 @@
 //! Whether a seed file is right for joined tables.
-ghost use Rattle.std.specs.Prelude.{ℕ, List, Ok, IfOk, IfErr};
-ghost use Rattle.mw_multidata.specs.SeedOf.{SeedOf};
+ghost use Rattle.std.specs.Prelude.{IfOk, IfErr};
 ghost use Rattle.mw_seeds.specs.Judging.{IsRight, IsNotRight};
 
 use crate::agreeing::placement_in;
@@ -17,7 +16,6 @@ use std::alloc::Global;
 /// `Missing` where the file's spheres aren't right; `Memory` where memory ran out.
 #[tactic(auto, using(crate::proofs::Judged::not_right, crate::proofs::Judged::not_placed))]
 pub fn check_seed(alloc: Global, joint: &Joint, file: &Multidata) -> Result<Placement, SeedRefusal>
-    requires { (bytes : List ℕ) × SeedOf bytes (Ok file.now) }
     ensures ok { IfOk result (IsRight joint.now file.now) }
     ensures err { IfErr result (IsNotRight joint.now file.now) }
 {

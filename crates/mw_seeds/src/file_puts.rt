@@ -1,109 +1,21 @@
 //! What the entries of a seed file put at the locations of joined tables.
 ghost use Rattle.std.specs.Prelude.{◌≡◌, ◌≤◌, ◌<◌, ◌+◌, ◌++◌, ◌^◌, ℤ, IfOk, OnOk, Some, None, length, map, slice_get};
-ghost use Rattle.std.specs.Ordering.{int_eq};
-ghost use Rattle.std.specs.HashMap as hash;
 ghost use Rattle.mw_model.specs.Seed.{held_among};
 ghost use Rattle.mw_multi.specs.Joint.{slot_places};
 ghost use Rattle.mw_multi.specs.Placement.{IsPlacement};
-ghost use Rattle.mw_multi.specs.WorldKept.{item_id};
-ghost use Rattle.mw_tables.specs.Names.{index_of_id};
-ghost use Rattle.mw_tables.specs.Noting.{or_its_place};
-ghost use Rattle.mw_fill.specs.Numbered.{each_numbered};
-ghost use Rattle.mw_seeds.specs.Ascending.{Ascend};
-ghost use Rattle.mw_seeds.specs.SeedFile.{held_cmp};
-ghost use Rattle.mw_seeds.specs.Agreeing.{has_flags as plain_has_flags, where_flags, index_among, slot_items, location_cmp};
+ghost use Rattle.mw_multi.specs.Numbered.{each_numbered};
+ghost use Rattle.mw_multidata.specs.Ascending.{Ascend};
+ghost use Rattle.mw_multidata.specs.SeedKept.{held_cmp};
+ghost use Rattle.mw_seeds.specs.Agreeing.{index_among, location_cmp};
 ghost use Rattle.mw_seeds.specs.FilePuts.{catalog_at, file_put as plain_put, put_where, slot_puts, file_puts as plain_puts};
 
+use crate::catalog::{Catalog, catalogs_of};
 use crate::seed_locations::slot_id;
-use crate::seed_slots::class_flags;
-use mw_base::{ItemId, List, LocId, Memory, SlotId};
-use mw_multi::{Item, Joint, Location, Placement, Put, Slot};
+use mw_base::{List, LocId, Memory, SlotId};
+use mw_multi::{Joint, Location, Placement, Put, Slot};
 use mw_multidata::Held;
 use std::alloc::Global;
 use std::cmp::Ordering;
-use std::collections::HashMap;
-use std::marker::Model;
-
-/// The items of a world, with the place of each id.
-#[derive(Drop)]
-struct Catalog<'a> {
-    items: &'a [Item],
-    places: HashMap<i64, u32>,
-}
-
-impl<'a> Model for Catalog<'a> {
-    ghost use Rattle.std.specs.Prelude.{◌≡◌, ℤ, List, map};
-    ghost use Rattle.std.specs.Ordering.{int_eq};
-    ghost use Rattle.std.specs.HashMap as hash;
-    ghost use Rattle.mw_multi.specs.World as plain;
-    ghost use Rattle.mw_multi.specs.WorldKept.{item_id};
-    ghost use Rattle.mw_tables.specs.Names.{index_of_id};
-
-    ghost Value = { List plain.Item };
-
-    ghost view = { λ c. c.items.now };
-
-    ghost invariant = { λ c. (q : ℤ)
-        → hash.get int_eq c.places q ≡ index_of_id (map item_id c.items.now) q };
-}
-
-/// Notes the place of an item's id, unless it stands at an earlier one.
-fn note(places: &mut HashMap<i64, u32>, id: Option<ItemId>, at: u32) -> Result<(), Memory>
-    ensures { OnOk result ((q : ℤ) → hash.get int_eq places.new q
-        ≡ or_its_place (hash.get int_eq places.old q) id q at) }
-{
-    if let Some(id) = id {
-        if !places.contains_key(&id.get()) {
-            places.insert(id.get(), at)?;
-        }
-    }
-    Ok(())
-}
-
-/// Whether these are the flags of the item's class.
-fn has_flags(flags: u8, item: &Item) -> bool
-    ensures { result ≡ plain_has_flags flags (Some item.now) }
-{
-    flags == class_flags(item.class)
-}
-
-impl<'a> Catalog<'a> {
-    /// The catalog of these items.
-    fn of(alloc: Global, items: &'a [Item]) -> Result<Catalog<'a>, Memory>
-        requires { length items.now ≤ 10000 }
-        ensures { IfOk result (λ c. c ≡ items.now) }
-    {
-        let mut places = HashMap::new(alloc);
-        for (at, item) in items.iter().enumerate() {
-            note(&mut places, item.id, at as u32)?;
-        }
-        Ok(Catalog { items, places })
-    }
-
-    /// Where the item of this id stands, if these are its flags.
-    fn find(&self, item: ItemId, flags: u8) -> Option<u32>
-        ensures { result ≡ where_flags flags self.now (index_of_id (map item_id self.now) item) }
-    {
-        let index = *self.places.get(&item.get())?;
-        if has_flags(flags, self.items.get(index as usize)?) {
-            Some(index)
-        } else {
-            None
-        }
-    }
-}
-
-/// The catalogs of all slots.
-fn catalogs_of<'a>(alloc: Global, slots: &[Slot<'a>]) -> Result<List<Catalog<'a>>, Memory>
-    ensures { IfOk result (λ cs. cs ≡ map slot_items slots.now) }
-{
-    let mut catalogs = List::new(alloc);
-    for slot in slots {
-        let world = slot.world;
-        catalogs.push(Catalog::of(alloc, world.items.as_slice())?)?;
-    }
-    Ok(catalogs)
-}
 
 /// Where the item of an entry stands in its receiver's world, if it has an id there and the entry's flags are those of its
 /// class.

@@ -2,6 +2,7 @@
 #![tactic(auto)]
 
 mod agreeing;
+mod catalog;
 mod checking;
 mod copies;
 mod file_puts;

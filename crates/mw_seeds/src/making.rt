@@ -3,11 +3,10 @@ ghost use Rattle.std.specs.Prelude.{◌≡◌, IfOk, List, Ok, decimal};
 ghost use Rattle.mw_multi.specs.World.{World as PlainWorld};
 ghost use Rattle.mw_multi.specs.JointOf.{joint_of};
 ghost use Rattle.mw_multi.specs.Placement.{IsPlacement};
+ghost use Rattle.mw_multidata.specs.SeedKept.{ServerKept};
 ghost use Rattle.mw_spheres.specs.Spheres.{IsSpheres};
 ghost use Rattle.mw_seeds.specs.SeedFile.{SeedFile};
-ghost use Rattle.mw_seeds.specs.SeedKept.{IsRoom};
 
-use crate::copies::copy_text;
 use crate::seed_games::games_of;
 use crate::seed_locations::locations_of;
 use crate::seed_slots::slots_of;
@@ -23,12 +22,13 @@ fn name_of(alloc: Global, seed: u64) -> Result<Text, Memory>
     Ok(Text::from_string(format!(in alloc; "{seed}")?))
 }
 
-/// A copy of the settings of a room.
-fn server_of(alloc: Global, room: &RoomOptions) -> Result<RoomOptions, Memory>
-    ensures same { IfOk result (λ o. o ≡ room.now) }
-    ensures room { IfOk result IsRoom }
+/// A copy of the settings of the players' room.
+fn server_of(alloc: Global, players: &Players) -> Result<RoomOptions, Memory>
+    ensures same { IfOk result (λ o. o ≡ players.now.room) }
+    ensures kept { IfOk result ServerKept }
 {
-    let password = copy_text(alloc, room.password.as_str())?;
+    let room = &players.room;
+    let password = Text::of(alloc, room.password.as_str())?;
     Ok(RoomOptions {
         password,
         hint_cost: room.hint_cost,
@@ -82,7 +82,7 @@ pub fn seed_file(
     // Reading these makes known what their types keep.
     let _ = &joint.slots;
     let seed_name = name_of(alloc, seed)?;
-    let server = server_of(alloc, &players.room)?;
+    let server = server_of(alloc, players)?;
     let games = games_of(alloc, joint)?;
     let slots = slots_of(alloc, joint)?;
     let locations = locations_of(alloc, joint, placement)?;

@@ -1,13 +1,11 @@
 //! The lines of a playthrough.
 ghost use Rattle.std.specs.Prelude.{◌≡◌, ◌++◌, ◌+◌, ◌<◌, ◌≤◌, ◌^◌, None, OnOk, Some, flat_map, length, slice_get, slice_index_or, string_bytes};
 ghost use Rattle.mw_multi.specs.Joint.{slot_places, place_total};
-ghost use Rattle.mw_multi.specs.Placement.{slot_at, item_at, IsPlacement};
-ghost use Rattle.mw_fill.specs.Fill.{what_stands};
+ghost use Rattle.mw_multi.specs.Placement.{slot_at, item_at, IsPlacement, what_stands};
 ghost use Rattle.mw_seeds.specs.Played.{first_name as plain_first_name, slot_name as plain_slot_name, name_of_item, name_of_location, receiver_name, put_name, stands_in, entry_line, found_line, spot_line, played_lines as plain_lines};
 
-use crate::seed_locations::{slot_of, standing};
 use mw_base::{List, Memory, SphereList, Spot};
-use mw_multi::{Joint, Placement, Put, Slot};
+use mw_multi::{Joint, Placement, Put, Slot, slot_of, stands_of};
 use std::alloc::Global;
 use std::fmt::Write;
 
@@ -215,6 +213,6 @@ pub fn add_played(
         ≡ string_bytes out.old
         ++ plain_lines joint.now.slots (what_stands placement.now) 1 played.now) }
 {
-    let stands = standing(alloc, joint, placement)?;
+    let stands = stands_of(alloc, joint, placement)?;
     add_lines(out, joint, stands.as_slice(), played.as_slice())
 }

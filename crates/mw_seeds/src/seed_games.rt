@@ -1,16 +1,16 @@
 //! The games of a seed.
-ghost use Rattle.std.specs.Prelude.{◌≡◌, ◌++◌, ◌∷◌, [], All, Contains, IfOk, OnOk, flat_map, map, bytes_eq};
+ghost use Rattle.std.specs.Prelude.{◌≡◌, ◌++◌, ◌∷◌, [], IfOk, OnOk, flat_map, map, bytes_eq};
 ghost use Rattle.std.specs.Ordering.{nat_cmp};
 ghost use Rattle.std.specs.List.Sorted.{IsPermutation};
 ghost use Rattle.std.specs.Cmp.Lexicographic.{slice_cmp};
 ghost use Rattle.mw_multi.specs.WorldKept.{item_name, location_name};
 ghost use Rattle.mw_multi.specs.Names.{NamesDiffer};
-ghost use Rattle.mw_seeds.specs.SeedFile.{named_where, item_entry, location_entry, entry_name, game_name, has_game, IsTable, IsGameOf, NamesAscend, AreDifferent, IsGameAdded, AreGames};
-ghost use Rattle.mw_seeds.specs.SeedKept.{IsTextEntry, IsTextGame};
+ghost use Rattle.mw_multidata.specs.Ascending.{NamesAscend};
+ghost use Rattle.mw_multidata.specs.SeedKept.{entry_name, game_name};
+ghost use Rattle.mw_seeds.specs.SeedFile.{named_where, item_entry, location_entry, has_game, IsTable, IsGameOf, AreDifferent, IsGameAdded, AreGames};
 
-use crate::copies::copy_text;
-use mw_base::{List, Memory};
-use mw_multi::{Item, Joint, Location, Slot, World};
+use mw_base::{List, Memory, Text};
+use mw_multi::{HasId, Item, Joint, Location, Slot, World};
 use mw_multidata::{Game, NamedId};
 use std::alloc::Global;
 use std::cmp::Ordering;
@@ -36,26 +36,14 @@ fn push_entry(
     name: &str,
     id: Option<i64>,
 ) -> Result<(), Memory>
-    ensures entries { OnOk result (entries.new.items ≡ entries.old.items
+    ensures { OnOk result (entries.new.items ≡ entries.old.items
         ++ named_where name.now id) }
-    ensures texts { OnOk result (All IsTextEntry entries.old.items
-        → All IsTextEntry entries.new.items) }
 {
     if let Some(id) = id {
-        let name = copy_text(alloc, name)?;
+        let name = Text::of(alloc, name)?;
         entries.push(NamedId { name, id })?;
     }
     Ok(())
-}
-
-/// An item's id, where it has one.
-fn item_id(item: &Item) -> Option<i64>
-    ensures { result ≡ item.now.id }
-{
-    match item.id {
-        Some(id) => Some(id.get()),
-        None => None,
-    }
 }
 
 /// A location's id, where it has one.
@@ -70,11 +58,9 @@ fn location_id(location: &Location) -> Option<i64>
 
 /// Adds an item, where it has an id.
 fn push_item(alloc: Global, entries: &mut Vec<NamedId>, item: &Item) -> Result<(), Memory>
-    ensures entries { OnOk result (entries.new.items ≡ entries.old.items ++ item_entry item.now) }
-    ensures texts { OnOk result (All IsTextEntry entries.old.items
-        → All IsTextEntry entries.new.items) }
+    ensures { OnOk result (entries.new.items ≡ entries.old.items ++ item_entry item.now) }
 {
-    push_entry(alloc, entries, item.name.as_str(), item_id(item))
+    push_entry(alloc, entries, item.name.as_str(), item.id_number())
 }
 
 /// Adds a location, where it has an id.
@@ -83,10 +69,8 @@ fn push_location(
     entries: &mut Vec<NamedId>,
     location: &Location,
 ) -> Result<(), Memory>
-    ensures entries { OnOk result (entries.new.items ≡ entries.old.items
+    ensures { OnOk result (entries.new.items ≡ entries.old.items
         ++ location_entry location.now) }
-    ensures texts { OnOk result (All IsTextEntry entries.old.items
-        → All IsTextEntry entries.new.items) }
 {
     push_entry(
         alloc,
@@ -98,8 +82,7 @@ fn push_location(
 
 /// The items with an id, in table order.
 fn item_entries(alloc: Global, items: &[Item]) -> Result<Vec<NamedId>, Memory>
-    ensures entries { IfOk result (λ entries. entries.items ≡ flat_map item_entry items.now) }
-    ensures texts { IfOk result (λ entries. All IsTextEntry entries.items) }
+    ensures { IfOk result (λ entries. entries.items ≡ flat_map item_entry items.now) }
 {
     let mut entries = Vec::new(alloc);
     for item in items {
@@ -110,9 +93,8 @@ fn item_entries(alloc: Global, items: &[Item]) -> Result<Vec<NamedId>, Memory>
 
 /// The locations with an id, in table order.
 fn location_entries(alloc: Global, locations: &[Location]) -> Result<Vec<NamedId>, Memory>
-    ensures entries { IfOk result (λ entries. entries.items
+    ensures { IfOk result (λ entries. entries.items
         ≡ flat_map location_entry locations.now) }
-    ensures texts { IfOk result (λ entries. All IsTextEntry entries.items) }
 {
     let mut entries = Vec::new(alloc);
     for location in locations {
@@ -124,8 +106,7 @@ fn location_entries(alloc: Global, locations: &[Location]) -> Result<Vec<NamedId
 /// The same entries, in byte order of their names, which differ.
 fn sorted_table(mut entries: Vec<NamedId>) -> List<NamedId>
     requires { NamesDiffer (map entry_name entries.items) }
-    ensures table { IsTable entries.items result }
-    ensures texts { All IsTextEntry entries.items → All IsTextEntry result }
+    ensures { IsTable entries.items result }
 {
     entries.sort_unstable_by(|a, b| compare_entries(a, b));
     List::from_vec(entries)
@@ -133,10 +114,9 @@ fn sorted_table(mut entries: Vec<NamedId>) -> List<NamedId>
 
 /// The game of a world.
 fn game_of(alloc: Global, world: &World) -> Result<Game, Memory>
-    ensures game { IfOk result (IsGameOf world.now) }
-    ensures texts { IfOk result IsTextGame }
+    ensures { IfOk result (IsGameOf world.now) }
 {
-    let name = copy_text(alloc, world.game.as_str())?;
+    let name = Text::of(alloc, world.game.as_str())?;
     let items = item_entries(alloc, world.items.as_slice())?;
     let locations = location_entries(alloc, world.locations.as_slice())?;
     Ok(Game {
@@ -167,8 +147,7 @@ fn has_game(games: &[Game], name: &str) -> bool
 
 /// Adds the game of a slot's world, where it isn't there yet.
 fn push_game(alloc: Global, games: &mut Vec<Game>, slot: &Slot) -> Result<(), Memory>
-    ensures game { OnOk result (IsGameAdded games.old.items slot.now.world games.new.items) }
-    ensures texts { OnOk result (All IsTextGame games.old.items → All IsTextGame games.new.items) }
+    ensures { OnOk result (IsGameAdded games.old.items slot.now.world games.new.items) }
 {
     let world = slot.world;
     if has_game(games.as_slice(), world.game.as_str()) {
@@ -181,8 +160,7 @@ fn push_game(alloc: Global, games: &mut Vec<Game>, slot: &Slot) -> Result<(), Me
 
 /// The different games of the slots' worlds, in the order in which they are met.
 fn different_games(alloc: Global, joint: &Joint) -> Result<Vec<Game>, Memory>
-    ensures games { IfOk result (λ games. AreDifferent joint.now.slots games.items) }
-    ensures texts { IfOk result (λ games. All IsTextGame games.items) }
+    ensures { IfOk result (λ games. AreDifferent joint.now.slots games.items) }
 {
     let mut games = Vec::new(alloc);
     for slot in joint.slots.as_slice() {
@@ -203,8 +181,7 @@ fn sorted_games(mut games: Vec<Game>) -> List<Game>
 
 /// The different games of the slots' worlds, each with the names of its items and of its locations with an id.
 pub(crate) fn games_of(alloc: Global, joint: &Joint) -> Result<List<Game>, Memory>
-    ensures games { IfOk result (AreGames joint.now.slots) }
-    ensures texts { IfOk result (All IsTextGame) }
+    ensures { IfOk result (AreGames joint.now.slots) }
 {
     let games = different_games(alloc, joint)?;
     Ok(sorted_games(games))

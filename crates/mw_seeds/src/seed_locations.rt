@@ -2,55 +2,17 @@
 ghost use Rattle.std.specs.Prelude.{◌≡◌, ◌≤◌, ◌<◌, ◌+◌, ◌^◌, ◌++◌, ℕ, IfOk, IfSome, OnOk, Some, None, length, option_copied, slice_get, slice_index_or, slice_set};
 ghost use Rattle.std.specs.Option.{option_to_list};
 ghost use Rattle.mw_multi.specs.Joint.{place_total, slot_places};
-ghost use Rattle.mw_multi.specs.Placement.{slot_at, IsPlacement};
+ghost use Rattle.mw_multi.specs.Placement.{slot_at, IsPlacement, what_stands};
 ghost use Rattle.mw_multi.specs.Steps.{location_place};
-ghost use Rattle.mw_fill.specs.Fill.{what_stands};
-ghost use Rattle.mw_seeds.specs.SeedFile.{held_item as plain_item, held_put as plain_held, held_where, location_held, slot_held, all_held, held_cmp, AreLocations};
+ghost use Rattle.mw_multidata.specs.SeedKept.{held_cmp};
+ghost use Rattle.mw_seeds.specs.SeedFile.{held_item as plain_item, held_put as plain_held, held_where, location_held, slot_held, all_held, AreLocations};
 
 use crate::seed_slots::class_flags;
 use mw_base::{List, LocId, Memory, SlotId};
-use mw_multi::{Joint, Location, Placement, Put, Slot};
+use mw_multi::{Joint, Location, Placement, Put, Slot, slot_of, stands_of};
 use mw_multidata::Held;
 use std::alloc::Global;
 use std::cmp::Ordering;
-
-/// Notes what stands at its place.
-fn note(stands: &mut Vec<Option<Put>>, put: Put)
-    requires { put.place < length stands.old.items }
-    ensures { stands.new.items ≡ slice_set stands.old.items put.place (Some put) }
-{
-    stands[put.place as usize] = Some(put);
-}
-
-/// For each place of the joint what the placement puts there.
-pub(crate) fn standing(
-    alloc: Global,
-    joint: &Joint,
-    placement: &Placement,
-) -> Result<Vec<Option<Put>>, Memory>
-    requires { IsPlacement joint.now placement.now }
-    ensures size { IfOk result (λ stands. length stands.items ≡ place_total joint.now.slots) }
-    ensures entries { IfOk result (λ stands. (place : ℕ) → slice_index_or stands.items place None
-        ≡ what_stands placement.now place) }
-{
-    let mut stands = vec![in alloc; None; joint.place_count() as usize]?;
-    let puts = placement.as_slice();
-    for done in 0..puts.len() {
-        note(&mut stands, puts[puts.len() - 1 - done]);
-    }
-    Ok(stands)
-}
-
-/// The slot of a number; None exactly where there is no such slot. Numbers count from 1.
-pub(crate) fn slot_of<'a, 'b>(slots: &'a [Slot<'b>], number: u16) -> Option<&'a Slot<'b>>
-    ensures { option_copied result ≡ slot_at slots.now number }
-{
-    if number == 0 {
-        None
-    } else {
-        slots.get(number as usize - 1)
-    }
-}
 
 /// An item of a slot, for the slot of this number, at a location.
 fn held_item(
@@ -185,7 +147,7 @@ pub(crate) fn locations_of(
 {
     // Reading the joint makes known what its type keeps.
     let _ = &joint.slots;
-    let stands = standing(alloc, joint, placement)?;
+    let stands = stands_of(alloc, joint, placement)?;
     let mut held = table_order(alloc, joint, stands.as_slice())?;
     held.sort_unstable_by(|a, b| compare_held(a, b));
     Ok(List::from_vec(held))

@@ -1,11 +1,10 @@
 //! The slots of a seed.
-ghost use Rattle.std.specs.Prelude.{◌≡◌, ◌++◌, ◌<◌, All, IfOk, OnOk, Some, flat_map, length, map, replicate, slice_get};
+ghost use Rattle.std.specs.Prelude.{◌≡◌, ◌++◌, IfOk, OnOk, Some, flat_map, length, map, replicate, slice_get};
 ghost use Rattle.mw_multi.specs.Joint.{StartFits};
 ghost use Rattle.mw_seeds.specs.SeedFile.{class_flags as plain_flags, start_of, start_copies, start_items, file_slot};
-ghost use Rattle.mw_seeds.specs.SeedKept.{IsTextSlot};
 
-use crate::copies::{copy_text, copy_texts};
-use mw_base::{List, Memory};
+use crate::copies::copy_texts;
+use mw_base::{List, Memory, Text};
 use mw_multi::{Class, Item, Joint, PoolEntry, Slot};
 use mw_multidata::{Slot as FileSlot, StartItem};
 use std::alloc::Global;
@@ -68,21 +67,19 @@ fn start_of(alloc: Global, slot: &Slot) -> Result<List<StartItem>, Memory>
 
 /// A slot as the seed file has it.
 fn slot_of(alloc: Global, slot: &Slot) -> Result<FileSlot, Memory>
-    ensures same { IfOk result (λ s. s ≡ file_slot slot.now) }
-    ensures texts { IfOk result IsTextSlot }
+    ensures { IfOk result (λ s. s ≡ file_slot slot.now) }
 {
     let player = slot.player;
     let world = slot.world;
     let names = copy_texts(alloc, player.names.as_slice())?;
-    let game = copy_text(alloc, world.game.as_str())?;
+    let game = Text::of(alloc, world.game.as_str())?;
     let start = start_of(alloc, slot)?;
     Ok(FileSlot { names, game, start })
 }
 
 /// The slots as the seed file has them.
 pub(crate) fn slots_of(alloc: Global, joint: &Joint) -> Result<List<FileSlot>, Memory>
-    ensures same { IfOk result (λ slots. slots ≡ map file_slot joint.now.slots) }
-    ensures texts { IfOk result (All IsTextSlot) }
+    ensures { IfOk result (λ slots. slots ≡ map file_slot joint.now.slots) }
 {
     let mut slots = List::new(alloc);
     for slot in joint.slots.as_slice() {

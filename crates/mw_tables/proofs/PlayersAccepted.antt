@@ -1,15 +1,15 @@
 -- A players file that is accepted stands for players.
-use Rattle.std.proofs.Common.{◌≡◌, ◌≤◌, ℕ, ◌+◌, List, [], ◌∷◌, ◌++◌, length, Bool, true, false, Result, Ok, if◌then◌else◌, All, refl, sym, ap, ◌∙◌, subst, arith, append-nil, append_assoc}
+use Rattle.std.proofs.Common.{◌≡◌, ◌≤◌, ℕ, ◌+◌, List, [], ◌∷◌, ◌++◌, length, Bool, true, false, Ok, All, refl, sym, ap, ◌∙◌, subst, arith, append-nil, append_assoc}
 use Rattle.std.specs.Str.{chars}
 use Rattle.std.specs.Prelude.{IfOk, codes, nat_le, sum_by, flat_map, bytes_eq, not}
 use Rattle.std.specs.List.{IsDistinct}
 use Rattle.std.proofs.lemmas.Cmp.{nat_list_eq_equiv}
 use Rattle.std.proofs.lemmas.Grind.{common_steps}
-use Rattle.std.proofs.lemmas.List.Elements.{All-nil, All-cons}
+use Rattle.std.proofs.lemmas.List.Elements.{All-nil}
 use Rattle.std.proofs.lemmas.Map.Keys.{IsDistinct-push}
 use Rattle.std.proofs.lemmas.Result.{IfOk-weaker, IfOk-at_ok}
-use Rattle.mw_model.specs.Json.{Json, Items, no_items, item, Members, no_members, member}
-use Rattle.mw_json.specs.Grammar.{Breach, under, number_at, text_at, name_of, name_at, list_at, items_length, list_up_to, object_at, field_at}
+use Rattle.mw_model.specs.Json.{Json, Items, no_items, item}
+use Rattle.mw_json.specs.Grammar.{under, number_at, text_at, name_of, name_at, list_at, items_length, list_up_to, object_at, field_at}
 use Rattle.mw_json.specs.Parts.{not_empty, list_of_length}
 use Rattle.mw_json.specs.Readers.{each_from, field_or_at, each_member_at}
 use Rattle.mw_json.specs.Settings.{password_at, remaining_at, permission_at}

@@ -1,10 +1,10 @@
 -- What the tables of a world keep as they are written.
-use Rattle.std.proofs.Common.{◌≡◌, ◌≤◌, ℕ, ◌+◌, ◌&&◌, List, length, Bool, true, false, Option, Some, None, Result, Ok, Err, if◌then◌else◌, All, arith}
+use Rattle.std.proofs.Common.{◌≡◌, ◌≤◌, ℕ, ◌+◌, ◌&&◌, List, length, true, false, Option, Some, None, Result, Ok, Err, All, arith}
 use Rattle.std.specs.Prelude.{IfOk, bytes_eq, codes, nat_le}
 use Rattle.std.proofs.lemmas.Grind.{common_steps}
 use Rattle.std.proofs.lemmas.Result.{IfOk-weaker}
 use Rattle.mw_model.specs.Json.{Json, null, flag, whole, not_whole, words, many, members, Items, no_items, item, Members, no_members, member}
-use Rattle.mw_json.specs.Grammar.{Breach, ◌>>=◌, under, refused, number_at, name_at, object_at, field_at}
+use Rattle.mw_json.specs.Grammar.{Breach, under, refused, number_at, name_at, object_at, field_at}
 use Rattle.mw_json.specs.Parts.{there}
 use Rattle.mw_json.specs.Readers.{field_or_at}
 use Rattle.mw_json.specs.declared.refusal.Kind.TheVariants.{WrongKind, RuleTooLarge}

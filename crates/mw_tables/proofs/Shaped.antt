@@ -1,14 +1,13 @@
 -- What a world keeps that has its shape.
-use Rattle.std.proofs.Common.{◌≡◌, ◌≤◌, ℕ, ℤ, ◌||◌, List, length, true, Option, Some, None, Ok, All, arith}
+use Rattle.std.proofs.Common.{◌≡◌, ◌≤◌, ℕ, ℤ, ◌||◌, List, length, true, Option, Some, None, All, arith}
 use Rattle.std.specs.Prelude.{IfOk, codes, nat_le, is_some, sum_by}
 use Rattle.std.proofs.lemmas.Grind.{common_steps}
-use Rattle.mw_model.specs.Json.{Json, null, flag, whole, not_whole, words, many, members, Members, find_member}
-use Rattle.mw_json.specs.Grammar.{under, other_kind, number_at, name_at, text_at, list_at, object_at, field_at, items_length}
+use Rattle.mw_model.specs.Json.{Json, null, flag, whole, not_whole, words, many, members, Members}
+use Rattle.mw_json.specs.Grammar.{other_kind, number_at, name_at, list_at, object_at, field_at, items_length}
 use Rattle.mw_json.specs.declared.refusal.Kind.TheVariants.{WrongKind, TooMany}
-use Rattle.mw_json.specs.declared.refusal.Step.TheVariants.{Name}
 use Rattle.mw_json.specs.Parts.{id_at, null_or_at}
 use Rattle.mw_json.specs.Readers.{each_from, list_of_at, field_or_at}
-use Rattle.mw_multi.specs.Names.{IsName, IsId}
+use Rattle.mw_multi.specs.Names.{IsName}
 use Rattle.mw_multi.specs.RulesKept.{is_progression}
 use Rattle.mw_multi.specs.WorldKept.{IsIdOrNone, ItemKept}
 use Rattle.mw_multi.specs.declared.item.Class.{Class}

@@ -1,4 +1,4 @@
-ghost use Rattle.std.specs.Prelude.{◌≡◌};
+ghost use Rattle.std.specs.Prelude.{◌≡◌, ℕ, List};
 ghost use Rattle.mw_json.specs.View.{view, members_view};
 ghost use Rattle.mw_json.specs.Grammar.{Gives};
 ghost use Rattle.mw_tables.specs.WorldShape.{format_at, format_in as format_in_members};
@@ -19,7 +19,8 @@ fn format_in(alloc: Global, tree: &Tree, format: &str) -> Result<(), Refusal>
 
 /// The file is of this format.
 pub(crate) fn judge_format(alloc: Global, members: &[Member], format: &str) -> Result<(), Refusal>
-    ensures { Gives result (format_in_members format.now (members_view members.now)) }
+    ensures { (word : List ℕ) → word ≡ format.now
+        → Gives result (format_in_members word (members_view members.now)) }
 {
     field_in(alloc, members, "format", |a, t| format_in(a, t, format))
 }

@@ -1,13 +1,14 @@
-ghost use Rattle.std.specs.Prelude.{◌≡◌, nat_le, sum_by};
-ghost use Rattle.mw_json.specs.View.{view};
+ghost use Rattle.std.specs.Prelude.{◌≡◌, ℕ, List, [], nat_le, sum_by};
+ghost use Rattle.mw_json.specs.View.{view, members_view};
 ghost use Rattle.mw_json.specs.Grammar.{Gives, number_at};
+ghost use Rattle.mw_json.specs.Readers.{field_or_at};
 ghost use Rattle.mw_multi.specs.PlayersKept.{start_count};
 ghost use Rattle.mw_tables.specs.PlayersShape.{wishes_at, start_entry_at, start_inventory_at, options_at, no_options as plain_options};
 
 use crate::parts::long_name_in;
 use mw_base::{List, Text};
 use mw_json::{
-    Kind, Refusal, Tree, copy_name, each, each_member, field_or, list_of, number_between,
+    Kind, Member, Refusal, Tree, copy_name, each, each_member, field_or, list_of, number_between,
     object_of, refuse,
 };
 use mw_multi::{Options, StartEntry};
@@ -20,6 +21,14 @@ fn wishes_of(alloc: Global, tree: &Tree) -> Result<List<Text>, Refusal>
 {
     let items = list_of(alloc, tree)?;
     each(alloc, items, long_name_in)
+}
+
+/// The names under a name, none where it is absent.
+fn wishes_or_none(alloc: Global, members: &[Member], name: &str) -> Result<List<Text>, Refusal>
+    ensures { (called : List ℕ) → called ≡ name.now
+        → Gives result (field_or_at called [] wishes_at (members_view members.now)) }
+{
+    field_or(alloc, members, name, List::new(alloc), wishes_of)
 }
 
 /// A count from 1 to 256.
@@ -72,28 +81,10 @@ pub(crate) fn options_of(alloc: Global, tree: &Tree) -> Result<Options, Refusal>
     ensures { Gives result (options_at (view tree.now)) }
 {
     let members = object_of(alloc, tree)?;
-    let local_items = field_or(alloc, members, "local_items", List::new(alloc), wishes_of)?;
-    let non_local_items = field_or(
-        alloc,
-        members,
-        "non_local_items",
-        List::new(alloc),
-        wishes_of,
-    )?;
-    let exclude_locations = field_or(
-        alloc,
-        members,
-        "exclude_locations",
-        List::new(alloc),
-        wishes_of,
-    )?;
-    let priority_locations = field_or(
-        alloc,
-        members,
-        "priority_locations",
-        List::new(alloc),
-        wishes_of,
-    )?;
+    let local_items = wishes_or_none(alloc, members, "local_items")?;
+    let non_local_items = wishes_or_none(alloc, members, "non_local_items")?;
+    let exclude_locations = wishes_or_none(alloc, members, "exclude_locations")?;
+    let priority_locations = wishes_or_none(alloc, members, "priority_locations")?;
     let start_inventory = field_or(
         alloc,
         members,

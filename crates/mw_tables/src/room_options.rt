@@ -1,12 +1,15 @@
-ghost use Rattle.std.specs.Prelude.{◌≡◌, IfOk};
-ghost use Rattle.mw_json.specs.View.{view};
-ghost use Rattle.mw_json.specs.Grammar.{Gives};
+ghost use Rattle.std.specs.Prelude.{◌≡◌, ℕ, List, IfOk};
+ghost use Rattle.mw_base.specs.Permissions.{permission_number};
+ghost use Rattle.mw_json.specs.View.{view, members_view};
+ghost use Rattle.mw_json.specs.Grammar.{Gives, GivesBy, number_at};
+ghost use Rattle.mw_json.specs.Readers.{field_or_at};
+ghost use Rattle.mw_json.specs.Settings.{permission_at};
 ghost use Rattle.mw_tables.specs.PlayersShape.{room_at, usual_room as usual_settings};
 
 use mw_base::{Memory, Permission, RoomOptions, Text};
 use mw_json::{
-    Refusal, Tree, count_in, field_or, field_or_seen, object_of, password_in, permission_in,
-    remaining_in,
+    Member, Refusal, Tree, count_in, field_or, field_or_seen, object_of, password_in,
+    permission_in, remaining_in,
 };
 use std::alloc::Global;
 
@@ -24,6 +27,29 @@ pub(crate) fn usual_room(alloc: Global) -> Result<RoomOptions, Memory>
     })
 }
 
+/// The count under a name, at most `most`, or what it is where it is absent.
+fn count_or(
+    alloc: Global,
+    members: &[Member],
+    name: &str,
+    absent: u32,
+    most: u32,
+) -> Result<u32, Refusal>
+    ensures { (called : List ℕ) → called ≡ name.now
+        → Gives result (field_or_at called absent (number_at 0 most) (members_view members.now)) }
+{
+    field_or(alloc, members, name, absent, |a, t| count_in(a, t, most))
+}
+
+/// The permission under a name, `auto` where it is absent.
+fn permission_or_auto(alloc: Global, members: &[Member], name: &str) -> Result<Permission, Refusal>
+    ensures { (called : List ℕ) → called ≡ name.now → GivesBy permission_number result
+        (field_or_at called 6 permission_at (members_view members.now)) }
+{
+    let auto = Permission::Auto;
+    field_or_seen(alloc, members, name, auto, |a, t| permission_in(a, t))
+}
+
 /// The settings of a room, each of which may be absent.
 #[tactic(auto, unfolding(crate::specs::PlayersShape::room_at))]
 pub(crate) fn room_of(alloc: Global, tree: &Tree) -> Result<RoomOptions, Refusal>
@@ -37,34 +63,10 @@ pub(crate) fn room_of(alloc: Global, tree: &Tree) -> Result<RoomOptions, Refusal
         Text::of(alloc, "")?,
         |a, t| password_in(a, t),
     )?;
-    let hint_cost = field_or(
-        alloc,
-        members,
-        "hint_cost",
-        10,
-        |a, t| count_in(a, t, 1_000),
-    )?;
-    let location_check_points = field_or(
-        alloc,
-        members,
-        "location_check_points",
-        1,
-        |a, t| count_in(a, t, 1_000_000),
-    )?;
-    let release = field_or_seen(
-        alloc,
-        members,
-        "release",
-        Permission::Auto,
-        |a, t| permission_in(a, t),
-    )?;
-    let collect = field_or_seen(
-        alloc,
-        members,
-        "collect",
-        Permission::Auto,
-        |a, t| permission_in(a, t),
-    )?;
+    let hint_cost = count_or(alloc, members, "hint_cost", 10, 1_000)?;
+    let location_check_points = count_or(alloc, members, "location_check_points", 1, 1_000_000)?;
+    let release = permission_or_auto(alloc, members, "release")?;
+    let collect = permission_or_auto(alloc, members, "collect")?;
     let remaining = field_or_seen(
         alloc,
         members,

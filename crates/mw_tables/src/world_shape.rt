@@ -1,19 +1,49 @@
 ghost use Rattle.std.specs.Prelude.{◌≡◌};
 ghost use Rattle.mw_json.specs.View.{view};
-ghost use Rattle.mw_json.specs.Grammar.{Gives};
-ghost use Rattle.mw_tables.specs.WorldShape.{world_shape_at};
+ghost use Rattle.mw_json.specs.Grammar.{Gives, name_at};
+ghost use Rattle.mw_json.specs.Readers.{list_of_at};
+ghost use Rattle.mw_tables.specs.WorldShape.{item_at, entrance_at, location_at, world_shape_at};
 
 use crate::format::judge_format;
 use crate::parts::long_name_in;
-use crate::raw::RawWorld;
+use crate::raw::{RawEntrance, RawLocation, RawWorld};
 use crate::rules::rule_of;
 use crate::world_entrances::entrance_of;
 use crate::world_items::item_of;
 use crate::world_locations::location_of;
 use crate::world_pool::pool_of;
-use mw_base::Text;
+use mw_base::{List, Text};
 use mw_json::{Refusal, Tree, field_in, field_or, field_seen, list, object_of};
+use mw_multi::Item;
 use std::alloc::Global;
+
+/// At most 5,000 regions.
+fn regions_of(alloc: Global, tree: &Tree) -> Result<List<Text>, Refusal>
+    ensures { Gives result (list_of_at 5000 (name_at 128) (view tree.now)) }
+{
+    list(alloc, tree, 5_000, long_name_in)
+}
+
+/// At most 10,000 items.
+fn items_of(alloc: Global, tree: &Tree) -> Result<List<Item>, Refusal>
+    ensures { Gives result (list_of_at 10000 item_at (view tree.now)) }
+{
+    list(alloc, tree, 10_000, item_of)
+}
+
+/// At most 10,000 entrances.
+fn entrances_of(alloc: Global, tree: &Tree) -> Result<List<RawEntrance>, Refusal>
+    ensures { Gives result (list_of_at 10000 entrance_at (view tree.now)) }
+{
+    list(alloc, tree, 10_000, entrance_of)
+}
+
+/// At most 10,000 locations.
+fn locations_of(alloc: Global, tree: &Tree) -> Result<List<RawLocation>, Refusal>
+    ensures { Gives result (list_of_at 10000 location_at (view tree.now)) }
+{
+    list(alloc, tree, 10_000, location_of)
+}
 
 /// What stands in a world file, before its names are judged.
 #[tactic(auto, unfolding(crate::specs::WorldShape::world_shape_at))]
@@ -30,25 +60,10 @@ pub(crate) fn world_shape(alloc: Global, tree: &Tree) -> Result<RawWorld, Refusa
         Text::of(alloc, "Menu")?,
         long_name_in,
     )?;
-    let regions = field_in(
-        alloc,
-        members,
-        "regions",
-        |a, t| list(a, t, 5_000, long_name_in),
-    )?;
-    let items = field_in(alloc, members, "items", |a, t| list(a, t, 10_000, item_of))?;
-    let entrances = field_in(
-        alloc,
-        members,
-        "entrances",
-        |a, t| list(a, t, 10_000, entrance_of),
-    )?;
-    let locations = field_in(
-        alloc,
-        members,
-        "locations",
-        |a, t| list(a, t, 10_000, location_of),
-    )?;
+    let regions = field_in(alloc, members, "regions", regions_of)?;
+    let items = field_in(alloc, members, "items", items_of)?;
+    let entrances = field_in(alloc, members, "entrances", entrances_of)?;
+    let locations = field_in(alloc, members, "locations", locations_of)?;
     let pool = field_in(alloc, members, "pool", pool_of)?;
     let filler = field_in(alloc, members, "filler", long_name_in)?;
     let goal = field_seen(alloc, members, "goal", rule_of)?;

@@ -1,11 +1,13 @@
-use Rattle.std.proofs.Common.{All, ap, subst, sym}
-use Rattle.mw_model.specs.Seed.{Seed}
-use Rattle.mw_seeds.proofs.SeedOrder.{HasSome, in_order}
+use Rattle.std.proofs.Common.{All, List, ◌≤◌, length, ap, subst, sym}
+use Rattle.mw_model.specs.Seed.{Seed, Spot}
+use Rattle.mw_multidata.specs.SeedKept.{IsSeed}
 use Rattle.mw_seeds.proofs.Judged.{right_for}
 use Rattle.mw_seeds.proofs.checking.check_seed.Goals as goal
 
 pub check_spheres-requires-clause-claimed : goal.check_spheres-requires-clause-claimed
-check_spheres-requires-clause-claimed c = subst (All HasSome) (sym (ap (λ (s : Seed). s.spheres) c.file.view_is)) (in_order c.requires.0 c.args.file.now c.requires.1).some
+check_spheres-requires-clause-claimed c =
+    let seed = subst IsSeed c.file.view_is c.file.invariant in
+    subst (All (λ (sphere : List Spot). 1 ≤ length sphere)) (sym (ap (λ (s : Seed). s.spheres) c.file.view_is)) (λ k d l. (seed.spheres k d l).some)
 
 pub returns-clause-ok : goal.returns-clause-ok
 returns-clause-ok c =

@@ -1,5 +1,5 @@
-use Rattle.std.proofs.Common.{◌≡◌, All, IsUtf8, take}
+use Rattle.std.proofs.Common.{◌≡◌, take}
 use Rattle.mw_seeds.proofs.copies.copy_texts.Given as goal
 
 abbrev pub invariant-loop-text : goal.invariant-loop-text
-invariant-loop-text l = (l.copies ≡ take l.text-index l.texts) × All IsUtf8 l.copies
+invariant-loop-text l = l.copies ≡ take l.text-index l.texts

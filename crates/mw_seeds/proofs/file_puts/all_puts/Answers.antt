@@ -1,8 +1,8 @@
 use Rattle.std.proofs.Common.{◌≡◌, ◌++◌, ◌+◌, ◌<◌, length, take, ap, subst, ◌∙◌, sym, arith}
 use Rattle.mw_multi.specs.Joint.{Joint, IsJoint}
 use Rattle.mw_reach.proofs.Slots.{slot_fits}
-use Rattle.mw_fill.specs.Numbered.{each_numbered}
-use Rattle.mw_fill.proofs.Numbered.{numbered_more}
+use Rattle.mw_multi.specs.Numbered.{each_numbered}
+use Rattle.mw_multi.proofs.Numbered.{numbered_more}
 use Rattle.mw_seeds.specs.FilePuts.{slot_puts}
 use Rattle.mw_seeds.proofs.file_puts.all_puts.Goals as goal
 

@@ -1,5 +1,5 @@
 use Rattle.std.proofs.Common.{◌≡◌, take}
-use Rattle.mw_fill.specs.Numbered.{each_numbered}
+use Rattle.mw_multi.specs.Numbered.{each_numbered}
 use Rattle.mw_seeds.specs.FilePuts.{slot_puts}
 use Rattle.mw_seeds.proofs.file_puts.all_puts.Given as goal
 

@@ -1,7 +1,7 @@
 use Rattle.std.proofs.Common.{◌≡◌, ℕ, List, ◌++◌, ◌+◌, take, ap, ◌∙◌, append_assoc, arith, sym}
 use Rattle.mw_multi.specs.Placement.{Put}
-use Rattle.mw_fill.specs.Numbered.{each_numbered}
-use Rattle.mw_fill.proofs.Numbered.{numbered_more}
+use Rattle.mw_multi.specs.Numbered.{each_numbered}
+use Rattle.mw_multi.proofs.Numbered.{numbered_more}
 use Rattle.mw_seeds.specs.FilePuts.{put_where, location_put}
 use Rattle.mw_seeds.proofs.file_puts.push_slot.Goals as goal
 

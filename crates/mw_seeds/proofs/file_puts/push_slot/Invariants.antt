@@ -1,5 +1,5 @@
 use Rattle.std.proofs.Common.{◌≡◌, ◌++◌, take}
-use Rattle.mw_fill.specs.Numbered.{each_numbered}
+use Rattle.mw_multi.specs.Numbered.{each_numbered}
 use Rattle.mw_seeds.specs.FilePuts.{location_put}
 use Rattle.mw_seeds.proofs.file_puts.push_slot.Given as goal
 

@@ -1,7 +1,5 @@
-use Rattle.std.proofs.Common.{All}
-use Rattle.mw_seeds.specs.SeedKept.{IsTextGame}
 use Rattle.mw_seeds.proofs.SeedGames.{AreMet}
 use Rattle.mw_seeds.proofs.seed_games.different_games.Given as goal
 
 abbrev pub invariant-loop-slot : goal.invariant-loop-slot
-invariant-loop-slot l = AreMet l.slot-items l.slot-index l.games.items × All IsTextGame l.games.items
+invariant-loop-slot l = AreMet l.slot-items l.slot-index l.games.items

@@ -1,9 +1,10 @@
 use Rattle.std.proofs.Common.{◌≡◌, ◌∙◌, None, slice_index_or, is_lt, rules, ap, sym, subst}
 use Rattle.std.proofs.lemmas.List.Sorted.{answers_always, ranks_by}
 use Rattle.mw_multi.specs.Joint.{IsJoint}
-use Rattle.mw_seeds.specs.SeedFile.{all_held, held_cmp, AreLocations}
+use Rattle.mw_multidata.specs.SeedKept.{held_cmp}
+use Rattle.mw_seeds.specs.SeedFile.{all_held, AreLocations}
 use Rattle.mw_seeds.proofs.SeedLocations.{locations_are}
-use Rattle.mw_seeds.proofs.Sorting.{held_total}
+use Rattle.mw_multidata.proofs.NamesKept.{held_total}
 use Rattle.mw_seeds.proofs.seed_locations.locations_of.Goals as goal
 
 pub returns : goal.returns

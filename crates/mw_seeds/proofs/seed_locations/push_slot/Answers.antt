@@ -3,8 +3,8 @@ use Rattle.std.proofs.lemmas.List.{get_or_read}
 use Rattle.mw_multi.specs.Joint.{Slot}
 use Rattle.mw_multi.specs.Steps.{location_place}
 use Rattle.mw_multi.specs.World.{World}
-use Rattle.mw_fill.specs.Numbered.{each_numbered}
-use Rattle.mw_fill.proofs.Numbered.{numbered_more}
+use Rattle.mw_multi.specs.Numbered.{each_numbered}
+use Rattle.mw_multi.proofs.Numbered.{numbered_more}
 use Rattle.mw_seeds.specs.SeedFile.{held_where, location_held}
 use Rattle.mw_seeds.proofs.seed_locations.push_slot.Goals as goal
 

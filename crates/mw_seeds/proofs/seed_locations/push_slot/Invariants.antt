@@ -1,5 +1,5 @@
 use Rattle.std.proofs.Common.{◌≡◌, ◌++◌, None, slice_index_or, take}
-use Rattle.mw_fill.specs.Numbered.{each_numbered}
+use Rattle.mw_multi.specs.Numbered.{each_numbered}
 use Rattle.mw_seeds.specs.SeedFile.{location_held}
 use Rattle.mw_seeds.proofs.seed_locations.push_slot.Given as goal
 

@@ -1,5 +1,5 @@
 use Rattle.std.proofs.Common.{◌≡◌, None, slice_index_or, take}
-use Rattle.mw_fill.specs.Numbered.{each_numbered}
+use Rattle.mw_multi.specs.Numbered.{each_numbered}
 use Rattle.mw_seeds.specs.SeedFile.{slot_held}
 use Rattle.mw_seeds.proofs.seed_locations.table_order.Given as goal
 
