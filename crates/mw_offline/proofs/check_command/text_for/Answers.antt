@@ -27,9 +27,6 @@ returns-in_err-file-clause-fault g c =
     let r = c.from_residual-in_err-file in
     λ e. c.in_err-file.ensures.fault (ap Err (fault_exit SeedFile r.result _ r.ensures.1 e))
 
-pub check_seed-placement-requires : goal.check_seed-placement-requires
-check_seed-placement-requires g c = (c.in_ok-file.ensures.ok.bytes, c.in_ok-file.ensures.ok.is)
-
 pub returns-in_err-placement-clause-err : goal.returns-in_err-placement-clause-err
 returns-in_err-placement-clause-err g c =
     let t = c.args.tables.now in
