@@ -67,8 +67,8 @@ pub beatable_table : (joint : Joint) (puts : List Put) → IsJoint joint → IsP
 beatable_table joint puts kept placement h = h (placement_table joint puts) (placed_table joint puts kept placement)
 
 -- the first try's placement with what is made of it
-pub generates : (joint : Joint) (seed tries stream : ℕ) (placement : List Put) (bytes text : List ℕ) → IsJoint joint → CanBeTried joint × IsFirst joint seed tries stream placement → IsMade joint seed stream placement bytes text → Generates joint seed tries bytes text
-generates joint seed tries stream placement bytes text kept h made = record { kept = kept; can = h.0; stream = stream; placement = placement; first = h.1; made = made }
+pub generates : (joint : Joint) (seed tries stream : ℕ) (placement : List Put) (bytes text : List ℕ) → CanBeTried joint × IsFirst joint seed tries stream placement → IsMade joint seed stream placement bytes text → Generates joint seed tries bytes text
+generates joint seed tries stream placement bytes text h made = record { can = h.0; stream = stream; placement = placement; first = h.1; made = made }
 
 -- ---- why there is none
 

@@ -11,7 +11,7 @@ use Rattle.mw_model.specs.Seed.{Seed, Spot}
 use Rattle.mw_multi.specs.World.{World}
 use Rattle.mw_multi.specs.Players.{Players}
 use Rattle.mw_multi.specs.Files.{world_files}
-use Rattle.mw_multi.specs.Joint.{Joint, IsJoint}
+use Rattle.mw_multi.specs.Joint.{Joint}
 use Rattle.mw_multi.specs.JointOf.{joint_of}
 use Rattle.mw_multi.specs.Placement.{Put, what_stands}
 use Rattle.mw_multidata.specs.Written.{seed_text}
@@ -106,14 +106,14 @@ module _ (joint : Joint) (seed tries : ℕ) where
 -- ---- the whole
 
 -- the same of one placement
-one_of : (worlds : List World) (players : Players) (joint : Joint) → joint_of worlds players ≡ Ok joint → (seed stream : ℕ) (puts : List Put) (bytes text others other : List ℕ) → IsJoint joint
+one_of : (worlds : List World) (players : Players) (joint : Joint) → joint_of worlds players ≡ Ok joint → (seed stream : ℕ) (puts : List Put) (bytes text others other : List ℕ)
     → IsMade joint seed stream puts bytes text → IsMade joint seed stream puts others other → (bytes ≡ others) × (text ≡ other)
-one_of worlds players joint is seed stream puts bytes text others other kept p q =
+one_of worlds players joint is seed stream puts bytes text others other p q =
     let spheres : p.spheres ≡ q.spheres = spheres_are_one joint puts p.spheres q.spheres p.are_spheres q.are_spheres in
     let played : p.played ≡ q.played =
     playthroughs_are_one joint puts p.spheres p.played q.played p.is_playthrough (subst (λ ss. IsPlaythrough joint puts ss q.played) (sym spheres) q.is_playthrough) in
     let file : p.file ≡ q.file =
-    one_file joint seed puts p.spheres p.file q.file (one_world_each worlds players joint is kept) p.is_file (subst (λ ss. SeedFile joint seed puts ss q.file) (sym spheres) q.is_file) in (
+    one_file joint seed puts p.spheres p.file q.file (one_world_each worlds players joint is p.kept) p.is_file (subst (λ ss. SeedFile joint seed puts ss q.file) (sym spheres) q.is_file) in (
       p.written ∙ ap seed_text file ∙ sym q.written,
       p.printed
           ∙ ap₂ (λ (ss ps : List (List Spot)). generated_line seed stream (length ss) ++ played_lines joint.slots (what_stands puts) 1 ps) spheres played
@@ -128,7 +128,7 @@ one_made worlds players joint is seed tries bytes text others other p q =
     let puts : p.placement ≡ q.placement = one_placement joint seed tries p.stream p.placement q.placement p.first first in
     let made : IsMade joint seed p.stream p.placement others other =
     subst (λ s. IsMade joint seed s p.placement others other) (sym streams) (subst (λ ps. IsMade joint seed q.stream ps others other) (sym puts) q.made) in
-    one_of worlds players joint is seed p.stream p.placement bytes text others other p.kept p.made made
+    one_of worlds players joint is seed p.stream p.placement bytes text others other p.made made
 
 pub generate_is_one : GenerateIsOne
 generate_is_one files wanted bytes text others other told p q =

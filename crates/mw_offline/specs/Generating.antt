@@ -55,6 +55,7 @@ generated_line seed stream spheres = codes "seed " ++ decimal seed ++ codes " tr
 -- the placement can be beaten, as its spheres show, which the file has; the text has its playthrough, of which no entry can
 -- be left out
 pub record IsMade (joint : Joint) (seed stream : ℕ) (placement : List Put) (bytes text : List ℕ) : Type 0 where
+  pub kept : IsJoint joint
   pub beatable : IsBeatable joint (placement_table joint placement)
   pub spheres : List (List Spot)
   pub are_spheres : IsSpheres joint placement spheres
@@ -69,7 +70,6 @@ pub record IsMade (joint : Joint) (seed stream : ℕ) (placement : List Put) (by
 
 -- each goal holds with everything in hand, there is room for all copies, and it is made of the first try's placement
 pub record Generates (joint : Joint) (seed tries : ℕ) (bytes text : List ℕ) : Type 0 where
-  pub kept : IsJoint joint
   pub can : CanBeTried joint
   pub stream : ℕ
   pub placement : List Put

@@ -76,7 +76,6 @@ fn made_of(
 }
 
 /// The seed file of the first try that gives a placement, and the text beside it.
-#[tactic(auto, using(crate::proofs::Generated::generates))]
 pub(crate) fn make(
     alloc: Global,
     players: &Players,

@@ -14,6 +14,7 @@ returns c =
     let kept = subst IsJoint c.joint.view_is c.joint.invariant in
     let beatable = beatable_table joint puts kept c.requires.placement c.requires.beatable in
     record {
+      kept = kept;
       beatable = beatable;
       spheres = c.in_ok-spheres.spheres;
       are_spheres = c.in_ok-spheres.ensures;
