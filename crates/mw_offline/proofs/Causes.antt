@@ -1,5 +1,5 @@
 -- What `drive` reads and puts.
-use Rattle.std.proofs.Common.{◌≡◌, ℕ, List, Option, Result, Err, refl, sym, ap, subst, inl, inr}
+use Rattle.std.proofs.Common.{◌≡◌, ◌⊎◌, ◌∙◌, ℕ, List, Option, Result, Err, refl, sym, ap, subst, inl, inr}
 use Rattle.std.specs.Prelude.{IfErr, IsErrAnd}
 use Rattle.std.specs.Io.KnownBytes.{Appends}
 use Rattle.mw_edges.specs.Causes.{PutsFront}
@@ -7,7 +7,7 @@ use Rattle.mw_model.specs.Seed.{Seed}
 use Rattle.mw_model.specs.Room.{Room, empty_room}
 use Rattle.mw_offline.specs.Commands.{Command}
 use Rattle.mw_offline.specs.Drive.{drive_text}
-use Rattle.mw_offline.specs.Ends.{stop_with}
+use Rattle.mw_offline.specs.Ends.{stop_with, HasLeft}
 use Rattle.mw_offline.specs.Gives.{GivesScript}
 use Rattle.mw_offline.specs.SeedFiles.{IsSeedStopped}
 use Rattle.mw_offline.specs.Script.{script_of}
@@ -21,8 +21,16 @@ use Rattle.mw_offline.specs.declared.stop.Stop.TheVariants.{Fault, Memory, Refus
 use Rattle.mw_offline.specs.declared.seed_cause.SeedCause.{SeedCause}
 use Rattle.mw_offline.specs.declared.drive_cause.DriveCause.{DriveCause}
 use Rattle.mw_offline.specs.declared.drive_cause.DriveCause.TheVariants.{SeedFile, SeedFileNotBuilt, Script, LineNotBuilt}
-use Rattle.mw_offline.proofs.Endings.{at_exit}
+use Rattle.mw_offline.proofs.Endings.{passed_exit, left_some}
 use Rattle.mw_offline.proofs.Judged.{accepted_within}
+
+halt_late : (halt : Halt) → (halt_stop halt ≡ Fault) ⊎ (halt_stop halt ≡ Memory)
+halt_late halted.Fault = inl refl
+halt_late halted.Memory = inr refl
+
+-- commands that stop have put some of their text
+pub halt_left : {T : Type 0} (why : Stop DriveCause → Type 0) (nothing some : Type 0) (answer : Result T (Stop DriveCause)) (halt : Halt) → some → IsErrAnd answer (λ e. e ≡ halt_stop halt) → IfErr answer (HasLeft why nothing some)
+halt_left why nothing some answer halt h is = passed_exit (HasLeft why nothing some) answer (halt_stop halt) (left_some why nothing some (halt_stop halt) (halt_late halt) h) is
 
 -- a source that fails is a fault, and a script that is refused is none
 pub halt_fault : (halt : Halt) → halt_stop halt ≡ Fault → halt ≡ halted.Fault
@@ -41,7 +49,7 @@ file_refused file (Refused cause) h = h
 
 -- a seed file that gives no seed gives none of one team
 pub refused_seed : {T : Type 0} (file : Option (Option (List ℕ))) (answer : Result T (Stop DriveCause)) (stop : Stop SeedCause) → IsSeedStopped file stop → IsErrAnd answer (λ e. e ≡ stop_with SeedFile stop) → IfErr answer (IsSeedRefused file)
-refused_seed file answer stop h is = at_exit answer (λ e. e ≡ stop_with SeedFile stop) (IsSeedRefused file) is (λ e same. subst (IsSeedRefused file) (sym same) (file_refused file stop h))
+refused_seed file answer stop h is = passed_exit (IsSeedRefused file) answer (stop_with SeedFile stop) (file_refused file stop h) is
 
 module _ {S : Type 0} (left : S → Option (List ℕ)) (file : Option (Option (List ℕ))) (before : S) where
   -- the source isn't touched before the seed file stands
@@ -54,7 +62,7 @@ module _ {S : Type 0} (left : S → Option (List ℕ)) (file : Option (Option (L
   seed_cause (Refused (LineNotBuilt line)) h = absurd h
 
   pub seed_exit : {T : Type 0} (answer : Result T (Stop DriveCause)) (stop : Stop DriveCause) → IsSeedRefused file stop → IsErrAnd answer (λ e. e ≡ stop) → IfErr answer (HasDriveCause left file before before)
-  seed_exit answer stop h is = at_exit answer (λ e. e ≡ stop) (HasDriveCause left file before before) is (λ e same. subst (HasDriveCause left file before before) (sym same) (seed_cause stop h))
+  seed_exit answer stop h is = passed_exit (HasDriveCause left file before before) answer stop (seed_cause stop h) is
 
   module _ (after : S) (seed : Seed) (has : HasSeed file seed) where
     halt_by : (halt : Halt) → HasDriveCause left file before after (halt_stop halt)
@@ -63,17 +71,17 @@ module _ {S : Type 0} (left : S → Option (List ℕ)) (file : Option (Option (L
 
     -- a source that fails
     pub halt_cause : {T : Type 0} (answer : Result T (Stop DriveCause)) (halt : Halt) → IsErrAnd answer (λ e. e ≡ halt_stop halt) → IfErr answer (HasDriveCause left file before after)
-    halt_cause answer halt is = at_exit answer (λ e. e ≡ halt_stop halt) (HasDriveCause left file before after) is (λ e same. subst (HasDriveCause left file before after) (sym same) (halt_by halt))
+    halt_cause answer halt is = passed_exit (HasDriveCause left file before after) answer (halt_stop halt) (halt_by halt) is
 
-    module _ (script : List ℕ) (r : IsRead (left before) (left after) script) where
-      script_by : (e : ScriptError) → GivesScript (Err e) (script_of seed script) → HasDriveCause left file before after (script_stop e)
+    module _ (bytes script : List ℕ) (same : bytes ≡ script) (r : IsRead (left before) (left after) script) where
+      script_by : (e : ScriptError) → GivesScript (Err e) (script_of seed bytes) → HasDriveCause left file before after (script_stop e)
       script_by error.Memory h = tt
-      script_by (error.Refused line) h = record { seed = seed; has_seed = has; script = script; is_read = r; judged = h }
-      script_by (error.NotBuilt line) h = record { seed = seed; has_seed = has; script = script; is_read = r; judged = h }
+      script_by (error.Refused line) h = record { seed = seed; has_seed = has; script = script; is_read = r; judged = ap (script_of seed) (sym same) ∙ h }
+      script_by (error.NotBuilt line) h = record { seed = seed; has_seed = has; script = script; is_read = r; judged = ap (script_of seed) (sym same) ∙ h }
 
       -- a script that is refused
-      pub script_cause : {T : Type 0} (answer : Result T (Stop DriveCause)) (e : ScriptError) → GivesScript (Err e) (script_of seed script) → IsErrAnd answer (λ s. s ≡ script_stop e) → IfErr answer (HasDriveCause left file before after)
-      script_cause answer e h is = at_exit answer (λ s. s ≡ script_stop e) (HasDriveCause left file before after) is (λ s same. subst (HasDriveCause left file before after) (sym same) (script_by e h))
+      pub script_cause : {T : Type 0} (answer : Result T (Stop DriveCause)) (e : ScriptError) → GivesScript (Err e) (script_of seed bytes) → IsErrAnd answer (λ s. s ≡ script_stop e) → IfErr answer (HasDriveCause left file before after)
+      script_cause answer e h is = passed_exit (HasDriveCause left file before after) answer (script_stop e) (script_by e h) is
 
 -- the text of commands that are ready
 text_read : (file : Option (Option (List ℕ))) (before after : Option (List ℕ)) (seed : Seed) (cs : List Command) (room : Room) → room ≡ empty_room seed → IsReady file before after seed cs → TextRead file before after (drive_text room cs)

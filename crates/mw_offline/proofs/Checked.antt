@@ -6,8 +6,7 @@ use Rattle.mw_multi.specs.World.{World}
 use Rattle.mw_multi.specs.Players.{Players}
 use Rattle.mw_multi.specs.Joint.{Joint}
 use Rattle.mw_multi.specs.JointOf.{joint_of}
-use Rattle.mw_multi.specs.Placement.{Put}
-use Rattle.mw_fill.specs.Fill.{what_stands}
+use Rattle.mw_multi.specs.Placement.{Put, what_stands}
 use Rattle.mw_spheres.specs.Playthrough.{IsPlaythrough}
 use Rattle.mw_seeds.specs.Played.{played_lines}
 use Rattle.mw_seeds.specs.Judging.{IsRight, IsNotRight}
@@ -23,7 +22,7 @@ use Rattle.mw_offline.specs.declared.table_cause.TableCause.{TableCause}
 use Rattle.mw_offline.specs.declared.seed_cause.SeedCause.{SeedCause}
 use Rattle.mw_offline.specs.declared.check_cause.CheckCause.{CheckCause}
 use Rattle.mw_offline.specs.declared.check_cause.CheckCause.TheVariants.{Tables, SeedFile, OtherTables, GoalMissed, Wrong, Missing}
-use Rattle.mw_offline.proofs.Endings.{at_exit}
+use Rattle.mw_offline.proofs.Endings.{passed_exit}
 use Rattle.mw_offline.proofs.TableCauses.{unjoined_cause, joint_in}
 
 -- a seed file that isn't right is no fault
@@ -42,7 +41,7 @@ module _ (joined : Joint → Type 0) (unjoined : Stop TableCause → Type 0) (fi
   unjoined_by (Refused cause) h = h
 
   pub unjoined_for : {T : Type 0} (answer : Result T (Stop CheckCause)) (stop : Stop TableCause) → unjoined stop → IsErrAnd answer (λ e. e ≡ stop_with Tables stop) → IfErr answer (IsUntextFor joined unjoined file)
-  unjoined_for answer stop h is = at_exit answer (λ e. e ≡ stop_with Tables stop) (IsUntextFor joined unjoined file) is (λ e same. subst (IsUntextFor joined unjoined file) (sym same) (unjoined_by stop h))
+  unjoined_for answer stop h is = passed_exit (IsUntextFor joined unjoined file) answer (stop_with Tables stop) (unjoined_by stop h) is
 
   module _ (joint : Joint) (is_joined : joined joint) where
     -- the seed file gives no seed
@@ -52,7 +51,7 @@ module _ (joined : Joint → Type 0) (unjoined : Stop TableCause → Type 0) (fi
     unread_by (Refused cause) h = (joint, is_joined, h)
 
     pub unread_for : {T : Type 0} (answer : Result T (Stop CheckCause)) (stop : Stop SeedCause) → IsSeedStopped file stop → IsErrAnd answer (λ e. e ≡ stop_with SeedFile stop) → IfErr answer (IsUntextFor joined unjoined file)
-    unread_for answer stop h is = at_exit answer (λ e. e ≡ stop_with SeedFile stop) (IsUntextFor joined unjoined file) is (λ e same. subst (IsUntextFor joined unjoined file) (sym same) (unread_by stop h))
+    unread_for answer stop h is = passed_exit (IsUntextFor joined unjoined file) answer (stop_with SeedFile stop) (unread_by stop h) is
 
     module _ (seed : Seed) (seed_in : SeedIn file seed) where
       -- its seed isn't right
@@ -64,7 +63,7 @@ module _ (joined : Joint → Type 0) (unjoined : Stop TableCause → Type 0) (fi
       wrong_by found.Memory h = tt
 
       pub wrong_for : {T : Type 0} (answer : Result T (Stop CheckCause)) (refusal : SeedRefusal) → IsNotRight joint seed refusal → IsErrAnd answer (λ e. e ≡ wrong_stop refusal) → IfErr answer (IsUntextFor joined unjoined file)
-      wrong_for answer refusal h is = at_exit answer (λ e. e ≡ wrong_stop refusal) (IsUntextFor joined unjoined file) is (λ e same. subst (IsUntextFor joined unjoined file) (sym same) (wrong_by refusal h))
+      wrong_for answer refusal h is = passed_exit (IsUntextFor joined unjoined file) answer (wrong_stop refusal) (wrong_by refusal h) is
 
       -- it is
       pub text_for : (puts : List Put) (spheres : List (List Spot)) (text : List ℕ) → spheres ≡ seed.spheres → IsRight joint seed puts

@@ -3,7 +3,7 @@ use Rattle.std.proofs.Common.{◌≡◌, ℕ, zero, suc, ◌+◌, List, map, Res
 use Rattle.mw_rules.specs.Holds.{Places}
 use Rattle.std.specs.Prelude.{IfOk}
 use Rattle.mw_multi.specs.Joint.{Joint}
-use Rattle.mw_multi.specs.Bags.{start_count, pool_count}
+use Rattle.mw_multi.specs.Bags.{start_count, everything}
 use Rattle.mw_reach.specs.Reach.{one_if}
 use Rattle.mw_offline.specs.Reaching.{reached_from, reached_in, Reaches, slot_lines, ReachLines}
 
@@ -24,7 +24,7 @@ counted_more w first (suc n) =
 -- ---- the lines of what is counted
 
 pub lines_there : {L E : Type 0} (bytes : L → List ℕ) (joint : Joint) (counts : List ℕ) (some every : Places) (r : Result L E)
-    → Reaches joint (start_count joint.slots) some → Reaches joint (λ n. start_count joint.slots n + pool_count joint.slots n) every
+    → Reaches joint (start_count joint.slots) some → Reaches joint (everything joint.slots) every
     → counts ≡ map (λ s. reached_in s some) joint.slots
     → IfOk r (λ t. (p : Places) → counts ≡ map (λ s. reached_in s p) joint.slots → bytes t ≡ slot_lines 1 joint.slots p every)
     → IfOk r (λ t. ReachLines joint (bytes t))

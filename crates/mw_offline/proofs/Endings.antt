@@ -11,6 +11,10 @@ use Rattle.mw_offline.specs.declared.stop.Stop.TheVariants.{Fault, Memory, Refus
 pub at_exit : {T E : Type 0} (answer : Result T E) (Q P : E → Type 0) → IsErrAnd answer Q → ((e : E) → Q e → P e) → IfErr answer P
 at_exit answer Q P h f = let p = err_from_is_err_and answer h in subst (λ a. IfErr a P) (sym p.1) (f p.0 p.2)
 
+-- the same where it is passed on as it is
+pub passed_exit : {T E : Type 0} (P : E → Type 0) (answer : Result T E) (x : E) → P x → IsErrAnd answer (λ e. e ≡ x) → IfErr answer P
+passed_exit P answer x h is = at_exit answer (λ e. e ≡ x) P is (λ e same. subst P (sym same) h)
+
 fault_with : {C D : Type 0} (cause_of : C → D) (stop : Stop C) → stop_with cause_of stop ≡ Fault → stop ≡ Fault
 fault_with cause_of Fault e = refl
 fault_with cause_of Memory e = cc
@@ -27,9 +31,6 @@ fault_passed {T = T} {C = C} answer stop h e =
 -- want of memory is none
 pub memory_late : {T C : Type 0} (answer : Result T (Stop C)) → IsErrAnd answer (λ e. e ≡ Memory) → answer ≡ Err Fault → ⊥
 memory_late {C = C} answer h e = let same : Memory ≡ Fault = fault_passed answer Memory h e in cc
-
-pub memory_exit : {T C : Type 0} (P : Stop C → Type 0) (answer : Result T (Stop C)) → P Memory → IsErrAnd answer (λ e. e ≡ Memory) → IfErr answer P
-memory_exit P answer h is = at_exit answer (λ e. e ≡ Memory) P is (λ e same. subst P (sym same) h)
 
 -- and was one of the part
 pub fault_exit : {T C D : Type 0} (cause_of : C → D) (answer : Result T (Stop D)) (stop : Stop C) → IsErrAnd answer (λ e. e ≡ stop_with cause_of stop) → answer ≡ Err Fault → stop ≡ Fault
@@ -48,7 +49,7 @@ module _ {C : Type 0} (why : Stop C → Type 0) (nothing some : Type 0) where
   left_some stop (inr e) h = subst (HasLeft why nothing some) (sym e) (inr h)
 
   pub left_exit : {T : Type 0} (answer : Result T (Stop C)) (stop : Stop C) → why stop → nothing → IsErrAnd answer (λ e. e ≡ stop) → IfErr answer (HasLeft why nothing some)
-  left_exit answer stop h k is = at_exit answer (λ e. e ≡ stop) (HasLeft why nothing some) is (λ e same. subst (HasLeft why nothing some) (sym same) (left_before stop h k))
+  left_exit answer stop h k is = passed_exit (HasLeft why nothing some) answer stop (left_before stop h k) is
 
   pub left_late : {T P : Type 0} (answer : Result T (Stop C)) → IfErr answer (λ stop. (stop ≡ Fault) ⊎ (stop ≡ Memory)) → OnErr answer P → (P → some) → IfErr answer (HasLeft why nothing some)
   left_late (Ok x) late p f = tt

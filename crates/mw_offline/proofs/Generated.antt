@@ -28,7 +28,7 @@ use Rattle.mw_offline.specs.declared.stop.Stop.TheVariants.{Fault, Memory, Refus
 use Rattle.mw_offline.specs.declared.table_cause.TableCause.{TableCause}
 use Rattle.mw_offline.specs.declared.generate_cause.GenerateCause.{GenerateCause}
 use Rattle.mw_offline.specs.declared.generate_cause.GenerateCause.TheVariants.{Tables, NotBeatable, TooManyItems, Exhausted}
-use Rattle.mw_offline.proofs.Endings.{at_exit}
+use Rattle.mw_offline.proofs.Endings.{passed_exit}
 use Rattle.mw_offline.proofs.TableCauses.{unjoined_cause, joint_in}
 
 -- ---- the table of a placement
@@ -67,8 +67,8 @@ pub beatable_table : (joint : Joint) (puts : List Put) → IsJoint joint → IsP
 beatable_table joint puts kept placement h = h (placement_table joint puts) (placed_table joint puts kept placement)
 
 -- the first try's placement with what is made of it
-pub generates : (joint : Joint) (seed tries stream : ℕ) (placement : List Put) (bytes text : List ℕ) → IsJoint joint → CanBeTried joint × IsFirst joint seed tries stream placement → IsMade joint seed stream placement bytes text → Generates joint seed tries bytes text
-generates joint seed tries stream placement bytes text kept h made = record { kept = kept; can = h.0; stream = stream; placement = placement; first = h.1; made = made }
+pub generates : (joint : Joint) (seed tries stream : ℕ) (placement : List Put) (bytes text : List ℕ) → CanBeTried joint × IsFirst joint seed tries stream placement → IsMade joint seed stream placement bytes text → Generates joint seed tries bytes text
+generates joint seed tries stream placement bytes text h made = record { can = h.0; stream = stream; placement = placement; first = h.1; made = made }
 
 -- ---- why there is none
 
@@ -87,7 +87,7 @@ module _ (joined : Joint → Type 0) (unjoined : Stop TableCause → Type 0) (wa
   unjoined_by (Refused cause) h = h
 
   pub unjoined_for : {T : Type 0} (answer : Result T (Stop GenerateCause)) (stop : Stop TableCause) → unjoined stop → IsErrAnd answer (λ e. e ≡ stop_with Tables stop) → IfErr answer (IsUntextFor joined unjoined wanted)
-  unjoined_for answer stop h is = at_exit answer (λ e. e ≡ stop_with Tables stop) (IsUntextFor joined unjoined wanted) is (λ e same. subst (IsUntextFor joined unjoined wanted) (sym same) (unjoined_by stop h))
+  unjoined_for answer stop h is = passed_exit (IsUntextFor joined unjoined wanted) answer (stop_with Tables stop) (unjoined_by stop h) is
 
   module _ (joint : Joint) (is_joined : joined joint) where
     -- it is refused

@@ -1,8 +1,6 @@
 -- Two runs of `generate` on the same files come to one thing.
 use Rattle.std.proofs.Common.{◌≡◌, ◌⊎◌, ◌<◌, ◌≤◌, ◌++◌, ◌-◌, ℕ, List, [], ◌∷◌, Bool, false, length, Option, Some, None, Result, Ok, Err, map, inl, inr, refl, sym, ap, ap₂, subst, ◌∙◌, arith}
-use Rattle.std.specs.Prelude.{filter, slice_set}
 use Rattle.std.proofs.lemmas.Bool.{cases_lt}
-use Rattle.std.proofs.lemmas.List.{ext_get_or}
 use Rattle.mw_edges.specs.Folders.{GivesFile}
 use Rattle.mw_edges.specs.declared.folder.FileRead.TheVariants.{Whole}
 use Rattle.mw_json.specs.Files.{FileOf}
@@ -10,26 +8,20 @@ use Rattle.mw_json.specs.Grammar.{Breach}
 use Rattle.mw_json.specs.Reading.{IsReading, reading}
 use Rattle.mw_model.specs.Json.{Json, depth}
 use Rattle.mw_model.specs.Seed.{Seed, Spot}
-use Rattle.mw_rules.specs.Holds.{Places, places_of}
 use Rattle.mw_multi.specs.World.{World}
 use Rattle.mw_multi.specs.Players.{Players}
 use Rattle.mw_multi.specs.Files.{world_files}
-use Rattle.mw_multi.specs.Joint.{Joint, IsJoint}
+use Rattle.mw_multi.specs.Joint.{Joint}
 use Rattle.mw_multi.specs.JointOf.{joint_of}
-use Rattle.mw_multi.specs.Bags.{start_count}
-use Rattle.mw_multi.specs.Placement.{Put}
-use Rattle.mw_multi.specs.Steps.{steps_of}
+use Rattle.mw_multi.specs.Placement.{Put, what_stands}
 use Rattle.mw_multidata.specs.Written.{seed_text}
-use Rattle.mw_reach.specs.Reach.{Placed, bag_with}
-use Rattle.mw_reach.specs.Goals.{unmet_goal}
-use Rattle.mw_fill.specs.Fill.{Outcome, filled, stuck, what_stands}
+use Rattle.mw_fill.specs.Fill.{Outcome, filled, stuck}
 use Rattle.mw_fill.specs.Try.{lists_of, placement_of}
 use Rattle.mw_fill.specs.Generated.{IsFirst}
 use Rattle.mw_fill.proofs.Determined.{has_one_outcome}
-use Rattle.mw_spheres.specs.Spots.{placement_table, spot_place}
-use Rattle.mw_spheres.specs.Unmet.{IsFirstUnmet}
-use Rattle.mw_spheres.specs.Playthrough.{only, after, IsThinned, IsPlaythrough, is_kept}
-use Rattle.mw_spheres.proofs.OneList.{least_same, spheres_are_one}
+use Rattle.mw_spheres.specs.Playthrough.{IsPlaythrough}
+use Rattle.mw_spheres.proofs.OneList.{spheres_are_one}
+use Rattle.mw_spheres.proofs.OnePlaythrough.{playthroughs_are_one}
 use Rattle.mw_seeds.specs.SeedFile.{SeedFile}
 use Rattle.mw_seeds.specs.Played.{played_lines}
 use Rattle.mw_seeds.proofs.JointFacts.{one_world_each}
@@ -111,39 +103,17 @@ module _ (joint : Joint) (seed tries : ℕ) where
       let puts : p.filled.0 ≡ q.filled.0 = cc in
       p.filled.2 ∙ ap (placement_of joint) puts ∙ sym q.filled.2
 
--- ---- the playthrough
-
-one_unmet : (joint : Joint) (table : Placed) (a b : Option ℕ) → IsFirstUnmet joint table a → IsFirstUnmet joint table b → a ≡ b
-one_unmet joint table a b p q =
-    let same : p.reached ≡ q.reached = λ i place. least_same (steps_of joint) (start_count joint.slots) table p.reached q.reached p.least q.least place i in
-    p.unmet ∙ ap (λ (w : Places). unmet_goal joint (bag_with (start_count joint.slots) table w) w) same ∙ sym q.unmet
-
-one_thinned : (joint : Joint) (table : Placed) (places : List ℕ) (first a b : List Bool) → IsThinned joint table places first a → IsThinned joint table places first b → a ≡ b
-one_thinned joint table [] first a b p q = p ∙ sym q
-one_thinned joint table (place ∷ places) first a b (later, thinned, asked) (others, so_thinned, so_asked) =
-    let same : later ≡ others = one_thinned joint table places first later others thinned so_thinned in
-    let slots : asked.slot ≡ so_asked.slot =
-    one_unmet joint (only (slice_set later place false) table) asked.slot so_asked.slot asked.unmet
-    (subst (λ ks. IsFirstUnmet joint (only (slice_set ks place false) table) so_asked.slot) (sym same) so_asked.unmet) in
-    asked.is ∙ ap₂ (λ (slot : Option ℕ) (ks : List Bool). after slot ks place) slots same ∙ sym so_asked.is
-
-one_playthrough : (joint : Joint) (puts : List Put) (spheres a b : List (List Spot)) → IsPlaythrough joint puts spheres a → IsPlaythrough joint puts spheres b → a ≡ b
-one_playthrough joint puts spheres a b p q =
-    let first : p.first ≡ q.first = ext_get_or false p.first q.first (p.size ∙ sym q.size) (λ i less. p.entries i ∙ sym (q.entries i)) in
-    let kept : p.kept ≡ q.kept = one_thinned joint _ _ p.first p.kept q.kept p.thinned (subst (λ fs. IsThinned joint _ _ fs q.kept) (sym first) q.thinned) in
-    p.is ∙ ap (λ ks. map (filter (is_kept joint.slots ks)) spheres) kept ∙ sym q.is
-
 -- ---- the whole
 
 -- the same of one placement
-one_of : (worlds : List World) (players : Players) (joint : Joint) → joint_of worlds players ≡ Ok joint → (seed stream : ℕ) (puts : List Put) (bytes text others other : List ℕ) → IsJoint joint
+one_of : (worlds : List World) (players : Players) (joint : Joint) → joint_of worlds players ≡ Ok joint → (seed stream : ℕ) (puts : List Put) (bytes text others other : List ℕ)
     → IsMade joint seed stream puts bytes text → IsMade joint seed stream puts others other → (bytes ≡ others) × (text ≡ other)
-one_of worlds players joint is seed stream puts bytes text others other kept p q =
+one_of worlds players joint is seed stream puts bytes text others other p q =
     let spheres : p.spheres ≡ q.spheres = spheres_are_one joint puts p.spheres q.spheres p.are_spheres q.are_spheres in
     let played : p.played ≡ q.played =
-    one_playthrough joint puts p.spheres p.played q.played p.is_playthrough (subst (λ ss. IsPlaythrough joint puts ss q.played) (sym spheres) q.is_playthrough) in
+    playthroughs_are_one joint puts p.spheres p.played q.played p.is_playthrough (subst (λ ss. IsPlaythrough joint puts ss q.played) (sym spheres) q.is_playthrough) in
     let file : p.file ≡ q.file =
-    one_file joint seed puts p.spheres p.file q.file (one_world_each worlds players joint is kept) p.is_file (subst (λ ss. SeedFile joint seed puts ss q.file) (sym spheres) q.is_file) in (
+    one_file joint seed puts p.spheres p.file q.file (one_world_each worlds players joint is p.kept) p.is_file (subst (λ ss. SeedFile joint seed puts ss q.file) (sym spheres) q.is_file) in (
       p.written ∙ ap seed_text file ∙ sym q.written,
       p.printed
           ∙ ap₂ (λ (ss ps : List (List Spot)). generated_line seed stream (length ss) ++ played_lines joint.slots (what_stands puts) 1 ps) spheres played
@@ -158,7 +128,7 @@ one_made worlds players joint is seed tries bytes text others other p q =
     let puts : p.placement ≡ q.placement = one_placement joint seed tries p.stream p.placement q.placement p.first first in
     let made : IsMade joint seed p.stream p.placement others other =
     subst (λ s. IsMade joint seed s p.placement others other) (sym streams) (subst (λ ps. IsMade joint seed q.stream ps others other) (sym puts) q.made) in
-    one_of worlds players joint is seed p.stream p.placement bytes text others other p.kept p.made made
+    one_of worlds players joint is seed p.stream p.placement bytes text others other p.made made
 
 pub generate_is_one : GenerateIsOne
 generate_is_one files wanted bytes text others other told p q =

@@ -1,8 +1,13 @@
 -- Files that are read one after another.
-use Rattle.std.proofs.Common.{◌≡◌, ◌⊎◌, inl, inr, ℕ, suc, ◌-◌, List, [], ◌∷◌, length, sym, subst, ap, ◌∙◌}
+use Rattle.std.proofs.Common.{◌≡◌, ◌⊎◌, inl, inr, ℕ, suc, ◌-◌, List, [], ◌∷◌, length, Ok, sym, subst, ap, ◌∙◌}
+use Rattle.mw_edges.specs.Folders.{GivesFile}
+use Rattle.mw_edges.specs.declared.folder.FileRead.TheVariants.{Whole}
 use Rattle.mw_multi.specs.World.{World}
+use Rattle.mw_multi.specs.Players.{Players}
+use Rattle.mw_multi.specs.Files.{world_files}
 use Rattle.mw_multi.specs.declared.refusal.JointRefusal.{JointRefusal}
-use Rattle.mw_offline.specs.Tables.{Files, WorldsOf, AreWorldsStopped, AreTablesStopped, HasTableCause}
+use Rattle.mw_tables.specs.PlayersOf.{PlayersOf}
+use Rattle.mw_offline.specs.Tables.{Files, max_table_file, max_world_files, WorldsOf, AreWorldsStopped, AreTablesStopped, HasTableCause}
 use Rattle.mw_offline.specs.declared.stop.Stop.{Stop}
 use Rattle.mw_offline.specs.declared.stop.Stop.TheVariants.{Fault, Memory, Refused}
 use Rattle.mw_offline.specs.declared.table_cause.TableCause.{TableCause}
@@ -33,6 +38,15 @@ stopped_cause files name (Refused (Joined refusal)) h = absurd (tables_unjoined 
 pub unread_cause : (files : Files) (name : List ℕ) (stop : Stop TableCause) → (stop ≡ Memory) ⊎ AreTablesStopped files name stop → HasTableCause files name stop
 unread_cause files name stop (inl e) = subst (HasTableCause files name) (sym e) tt
 unread_cause files name stop (inr h) = stopped_cause files name stop h
+
+-- the same of the world files that players name, which were read after their file
+pub worlds_cause : (files later : Files) (name bytes : List ℕ) (players : Players) (names : List (List ℕ)) (stop : Stop TableCause) → ((n : List ℕ) → later n ≡ files n) → names ≡ world_files players
+    → GivesFile (files name) max_table_file (Whole bytes) → PlayersOf bytes (Ok players) → (stop ≡ Memory) ⊎ AreWorldsStopped later max_world_files names stop → HasTableCause files name stop
+worlds_cause files later name bytes players names stop same named file is (inl e) = unread_cause files name stop (inl e)
+worlds_cause files later name bytes players names stop same named file is (inr h) =
+    let there : later ≡ files = λ i n. same n i in
+    let of_names : AreWorldsStopped later max_world_files (world_files players) stop = subst (λ ns. AreWorldsStopped later max_world_files ns stop) named h in
+    unread_cause files name stop (inr (inr (bytes, players, file, is, subst (λ (fs : Files). AreWorldsStopped fs max_world_files (world_files players) stop) there of_names)))
 
 -- ---- as many worlds as files
 

@@ -13,7 +13,7 @@ use Rattle.mw_offline.specs.declared.stop.Stop.{Stop}
 use Rattle.mw_offline.specs.declared.stop.Stop.TheVariants.{Fault, Memory, Refused}
 use Rattle.mw_offline.specs.declared.table_cause.TableCause.{TableCause}
 use Rattle.mw_offline.specs.declared.table_cause.TableCause.TheVariants.{TooLong, File, Joined}
-use Rattle.mw_offline.proofs.Endings.{at_exit}
+use Rattle.mw_offline.proofs.Endings.{passed_exit}
 
 -- a joint that is refused is no fault
 pub joint_late : (refusal : JointRefusal) → joint_stop refusal ≡ Fault → ⊥
@@ -34,7 +34,7 @@ unjoined_by worlds players refused.Memory h = tt
 pub unjoined_exit : {T : Type 0} (worlds : List World) (players : Players) (answer : Result T (Stop TableCause)) (refusal : JointRefusal) → (refusal ≢ refused.Memory → joint_of worlds players ≡ Err refusal) → IsErrAnd answer (λ e. e ≡ joint_stop refusal)
     → IfErr answer (AreUnjoined worlds players)
 unjoined_exit worlds players answer refusal h is =
-    at_exit answer (λ e. e ≡ joint_stop refusal) (AreUnjoined worlds players) is (λ e same. subst (AreUnjoined worlds players) (sym same) (unjoined_by worlds players refusal h))
+    passed_exit (AreUnjoined worlds players) answer (joint_stop refusal) (unjoined_by worlds players refusal h) is
 
 module _ (files : Files) (name : List ℕ) (players : Players) (worlds : List World) (t : TablesOf files name players worlds) where
   -- tables that aren't joined give no joint

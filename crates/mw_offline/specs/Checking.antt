@@ -5,8 +5,7 @@ use Rattle.std.specs.Io.KnownBytes.{Keeps, Appends}
 use Rattle.mw_edges.specs.Causes.{PutsFront}
 use Rattle.mw_model.specs.Seed.{Seed, Spot}
 use Rattle.mw_multi.specs.Joint.{Joint}
-use Rattle.mw_multi.specs.Placement.{Put}
-use Rattle.mw_fill.specs.Fill.{what_stands}
+use Rattle.mw_multi.specs.Placement.{Put, what_stands}
 use Rattle.mw_spheres.specs.Playthrough.{IsPlaythrough}
 use Rattle.mw_seeds.specs.Played.{played_lines}
 use Rattle.mw_seeds.specs.Judging.{IsRight, IsNotRight}

@@ -1,20 +1,19 @@
 -- What `generate` writes and prints, and how it ends.
-use Rattle.std.specs.Prelude.{◌≡◌, ◌≢◌, ◌⊎◌, ◌++◌, ℕ, List, All, Option, codes, decimal, false, length, slice_set, ⊤}
+use Rattle.std.specs.Prelude.{◌≡◌, ◌≢◌, ◌⊎◌, ◌++◌, ℕ, List, Option, codes, decimal, length, ⊤}
 use Rattle.std.specs.Io.KnownBytes.{Keeps, Appends}
 use Rattle.mw_edges.specs.Causes.{PutsFront, Rose}
 use Rattle.mw_edges.specs.Folders.{IsWritten}
 use Rattle.mw_model.specs.Seed.{Seed, Spot}
 use Rattle.mw_multi.specs.Joint.{Joint, IsJoint}
-use Rattle.mw_multi.specs.Placement.{Put}
+use Rattle.mw_multi.specs.Placement.{Put, what_stands}
 use Rattle.mw_multidata.specs.Written.{seed_text}
 use Rattle.mw_reach.specs.Goals.{IsBeatable}
-use Rattle.mw_fill.specs.Fill.{what_stands}
 use Rattle.mw_fill.specs.Generated.{CanBeTried, IsFirst, IsRefused}
 use Rattle.mw_fill.specs.declared.seed.GenerateError.{GenerateError}
 use Rattle.mw_fill.specs.declared.seed.GenerateError.TheVariants as refused
-use Rattle.mw_spheres.specs.Spots.{spot_place, placement_table}
-use Rattle.mw_spheres.specs.Spheres.{IsSpheres, listed, Shows}
-use Rattle.mw_spheres.specs.Playthrough.{only, IsPlaythrough}
+use Rattle.mw_spheres.specs.Spots.{placement_table}
+use Rattle.mw_spheres.specs.Spheres.{IsSpheres, Shows}
+use Rattle.mw_spheres.specs.Playthrough.{IsPlaythrough, NoneToSpare}
 use Rattle.mw_seeds.specs.SeedFile.{SeedFile}
 use Rattle.mw_seeds.specs.Played.{played_lines}
 use Rattle.mw_offline.specs.Ends.{Told, Ends}
@@ -53,21 +52,17 @@ wrote_by holds refusals old new = record { before = holds old; after = holds new
 abbrev pub generated_line : ℕ → ℕ → ℕ → List ℕ
 generated_line seed stream spheres = codes "seed " ++ decimal seed ++ codes " try " ++ decimal stream ++ codes " spheres " ++ decimal spheres ++ codes "\n"
 
--- without any one entry of the playthrough the others alone leave a goal unmet
-abbrev pub AreNeeded : (joint : Joint) (puts : List Put) (spheres played : List (List Spot)) → IsPlaythrough joint puts spheres played → Type 0
-AreNeeded joint puts spheres played is =
-    All (λ spot. IsBeatable joint (only (slice_set is.kept (spot_place joint.slots spot) false) (placement_table joint puts)) → ⊥) (listed played)
-
 -- the placement can be beaten, as its spheres show, which the file has; the text has its playthrough, of which no entry can
 -- be left out
 pub record IsMade (joint : Joint) (seed stream : ℕ) (placement : List Put) (bytes text : List ℕ) : Type 0 where
+  pub kept : IsJoint joint
   pub beatable : IsBeatable joint (placement_table joint placement)
   pub spheres : List (List Spot)
   pub are_spheres : IsSpheres joint placement spheres
   pub shows : Shows joint placement spheres
   pub played : List (List Spot)
   pub is_playthrough : IsPlaythrough joint placement spheres played
-  pub needed : AreNeeded joint placement spheres played is_playthrough
+  pub needed : NoneToSpare joint placement played
   pub file : Seed
   pub is_file : SeedFile joint seed placement spheres file
   pub written : bytes ≡ seed_text file
@@ -75,7 +70,6 @@ pub record IsMade (joint : Joint) (seed stream : ℕ) (placement : List Put) (by
 
 -- each goal holds with everything in hand, there is room for all copies, and it is made of the first try's placement
 pub record Generates (joint : Joint) (seed tries : ℕ) (bytes text : List ℕ) : Type 0 where
-  pub kept : IsJoint joint
   pub can : CanBeTried joint
   pub stream : ℕ
   pub placement : List Put

@@ -5,7 +5,7 @@ use Rattle.mw_edges.specs.Causes.{PutsFront}
 use Rattle.mw_rules.specs.Holds.{Places, bag_of}
 use Rattle.mw_multi.specs.Joint.{Slot, Joint}
 use Rattle.mw_multi.specs.Steps.{steps_of, location_place}
-use Rattle.mw_multi.specs.Bags.{start_count, pool_count, IsBagOf}
+use Rattle.mw_multi.specs.Bags.{start_count, everything, IsBagOf}
 use Rattle.mw_multi.specs.Placement.{IsPlaced}
 use Rattle.mw_multi.specs.Events.{events_of}
 use Rattle.mw_reach.specs.Reach.{one_if, IsLeast}
@@ -51,7 +51,7 @@ pub record ReachLines (joint : Joint) (text : List ℕ) : Type 0 where
   pub start : Places
   pub with_start : Reaches joint (start_count joint.slots) start
   pub all : Places
-  pub with_all : Reaches joint (λ n. start_count joint.slots n + pool_count joint.slots n) all
+  pub with_all : Reaches joint (everything joint.slots) all
   pub printed : text ≡ slot_lines 1 joint.slots start all
 
 -- ReachText: the same of the tables that a players file names

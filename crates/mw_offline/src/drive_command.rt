@@ -113,7 +113,8 @@ fn drive<F: Folder, S: Source, O: Sink>(
         ⊎ Rose (O.faults out.old) (O.faults out.new)) }
     ensures same { (n : List ℕ) → F.holds folder.new n ≡ F.holds folder.old n }
 {
-    let Prepared { mut room, commands } = prepare(alloc, words, folder, input)?;
+    let prepared = prepare(alloc, words, folder, input)?;
+    let Prepared { mut room, commands } = prepared;
     Ok(run_commands(alloc, &mut room, commands, out)?)
 }
 

@@ -2,10 +2,9 @@
 ghost use Rattle.std.specs.Prelude.{◌≡◌, ◌≤◌, ◌++◌, ℕ, IfOk, IfErr, List, Ok, string_bytes};
 ghost use Rattle.mw_multi.specs.World.{World as PlainWorld};
 ghost use Rattle.mw_multi.specs.JointOf.{joint_of};
-ghost use Rattle.mw_multi.specs.Placement.{IsPlacement, IsPlaced};
+ghost use Rattle.mw_multi.specs.Placement.{IsPlacement, IsPlaced, what_stands};
 ghost use Rattle.mw_multi.specs.Events.{with_events};
 ghost use Rattle.mw_reach.specs.Goals.{IsBeatable};
-ghost use Rattle.mw_fill.specs.Fill.{what_stands};
 ghost use Rattle.mw_fill.specs.Generated.{IsRefused};
 ghost use Rattle.mw_seeds.specs.Played.{played_lines};
 ghost use Rattle.mw_offline.specs.Generating.{generated_line, IsMade, Generates};
@@ -77,7 +76,6 @@ fn made_of(
 }
 
 /// The seed file of the first try that gives a placement, and the text beside it.
-#[tactic(auto, using(crate::proofs::Generated::generates))]
 pub(crate) fn make(
     alloc: Global,
     players: &Players,

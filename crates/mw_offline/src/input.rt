@@ -1,7 +1,7 @@
 ghost use Rattle.std.specs.Prelude.{◌≡◌, ◌<◌, ◌≤◌, ◌++◌, IfOk, length, take};
 ghost use Rattle.std.specs.Io.KnownBytes.{Consumes, IsAtEnd};
 ghost use Rattle.mw_edges.specs.Causes.{Rose};
-ghost use Rattle.mw_offline.specs.Endings.{IsRead};
+ghost use Rattle.mw_offline.specs.Driving.{IsRead};
 
 use crate::drive::Halt;
 use mw_edges::Source;

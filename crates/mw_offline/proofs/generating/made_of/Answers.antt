@@ -1,8 +1,7 @@
 use Rattle.std.proofs.Common.{◌++◌, ap, subst, ◌∙◌}
 use Rattle.mw_multi.specs.Joint.{IsJoint}
-use Rattle.mw_fill.specs.Fill.{what_stands}
+use Rattle.mw_multi.specs.Placement.{what_stands}
 use Rattle.mw_spheres.proofs.Showing.{spheres_show}
-use Rattle.mw_spheres.proofs.Sparing.{none_to_spare}
 use Rattle.mw_seeds.specs.Played.{played_lines}
 use Rattle.mw_offline.specs.Generating.{generated_line}
 use Rattle.mw_offline.proofs.Generated.{beatable_table}
@@ -15,13 +14,14 @@ returns c =
     let kept = subst IsJoint c.joint.view_is c.joint.invariant in
     let beatable = beatable_table joint puts kept c.requires.placement c.requires.beatable in
     record {
+      kept = kept;
       beatable = beatable;
       spheres = c.in_ok-spheres.spheres;
       are_spheres = c.in_ok-spheres.ensures;
       shows = spheres_show joint puts c.in_ok-spheres.spheres kept c.requires.placement beatable c.in_ok-spheres.ensures;
       played = c.in_ok-played.played;
-      is_playthrough = c.in_ok-played.ensures;
-      needed = none_to_spare joint puts c.in_ok-spheres.spheres c.in_ok-played.played c.in_ok-played.ensures;
+      is_playthrough = c.in_ok-played.ensures.played;
+      needed = c.in_ok-played.ensures.spare;
       file = c.in_ok-file.file;
       is_file = c.in_ok-file.ensures;
       written = c.in_ok-bytes.ensures.text;

@@ -1,7 +1,17 @@
 use Rattle.std.proofs.Common.{length, ap, ◌∙◌}
-use Rattle.mw_offline.specs.Tables.{max_world_files}
-use Rattle.mw_offline.proofs.Reading.{as_many_worlds}
+use Rattle.mw_offline.specs.Tables.{max_world_files, HasTableCause}
+use Rattle.mw_offline.proofs.Endings.{passed_exit}
+use Rattle.mw_offline.proofs.Reading.{as_many_worlds, worlds_cause}
 use Rattle.mw_offline.proofs.tables.read_tables.Goals as goal
+
+pub returns-in_err-worlds-clause-err : goal.returns-in_err-worlds-clause-err
+returns-in_err-worlds-clause-err g c =
+    let files = g.F.Folder.holds c.args.folder.now in
+    let read = c.in_ok-players.ensures.ok in
+    let r = c.from_residual-in_err-worlds in
+    passed_exit (HasTableCause files c.args.name.now) r.result _
+    (worlds_cause files (g.F.Folder.holds c.players_in.new.folder) c.args.name.now read.0 c.in_ok-players.players c.as_slice.result.now _ c.in_ok-players.ensures.same (c.as_slice.ensures ∙ c.in_ok-files.ensures)
+    read.1 read.2 c.in_err-worlds.ensures.err) r.ensures.1
 
 pub returns-clause-number : goal.returns-clause-number
 returns-clause-number g c =
