@@ -11,24 +11,20 @@ use Rattle.mw_seeds.specs.Keys.{Key, AreKeys, first_other_key}
 use Rattle.mw_seeds.proofs.Agreed.{placed_at, difference_at}
 use Rattle.mw_seeds.proofs.agreeing.placement_in.Goals as goal
 
-pub file_puts-requires-in-None : goal.file_puts-requires-in-None
-file_puts-requires-in-None c =
-    let same = c.as_slice-held.ensures ∙ ap (λ (s : Seed). s.locations) c.file.view_is in
-    subst (Ascend held_cmp) (sym same) (subst IsSeed c.file.view_is c.file.invariant).locations.ascend
-
-pub returns-in-None-in_ok-puts-clause-ok : goal.returns-in-None-in_ok-puts-clause-ok
-returns-in-None-in_ok-puts-clause-ok c =
+pub returns-in-None-clause-ok : goal.returns-in-None-clause-ok
+returns-in-None-clause-ok c =
     let joint = c.args.joint.now in
     let seed = subst IsSeed c.file.view_is c.file.invariant in
     let held = c.as_slice-held.ensures ∙ ap (λ (s : Seed). s.locations) c.file.view_is in
     let tables = c.as_slice-2.ensures ∙ c.in_ok-catalogs.ensures ∙ ap (map slot_items) (c.as_slice.ensures ∙ ap (λ (j : Joint). j.slots) c.joint.view_is) in
+    let put_tables = c.as_slice-in-None.ensures ∙ c.in_ok-catalogs.ensures ∙ ap (map slot_items) (c.as_slice.ensures ∙ ap (λ (j : Joint). j.slots) c.joint.view_is) in
     let none : first_other_key c.as_slice-2.result.now c.as_slice-3.result.now c.as_slice-held.result.now ≡ None = sym c.first_other.ensures ∙ search rules in
-    subst (IsPlacementIn joint c.args.file.now) (sym (c.in_ok-puts.ensures ∙ ap (λ cs. each_numbered (slot_puts cs c.as_slice-held.result.now) 1 joint.slots) tables))
+    subst (IsPlacementIn joint c.args.file.now) (sym (c.in_ok-puts-in-None.ensures ∙ ap (λ cs. each_numbered (slot_puts cs c.as_slice-held.result.now) 1 joint.slots) put_tables))
     (placed_at joint (subst IsJoint c.joint.view_is c.joint.invariant) c.args.file.now seed.locations.ascend c.as_slice-3.result.now (subst (AreKeys joint.slots) (sym c.as_slice-3.ensures) c.in_ok-keys.ensures)
     c.as_slice-2.result.now tables c.as_slice-held.result.now held none)
 
-pub returns-in-Some-clause-err : goal.returns-in-Some-clause-err
-returns-in-Some-clause-err c =
+pub returns-clause-err : goal.returns-clause-err
+returns-clause-err c =
     let joint = c.args.joint.now in
     let seed = subst IsSeed c.file.view_is c.file.invariant in
     let held = c.as_slice-held.ensures ∙ ap (λ (s : Seed). s.locations) c.file.view_is in
