@@ -1,21 +1,27 @@
 -- Where a seed file's entries first differ from those of the placement that they put, tables and file first differ.
-use Rattle.std.proofs.Common.{◌≡◌, ◌+◌, ℕ, ℤ, suc, List, [], ◌∷◌, Bool, true, false, Option, Some, None, refl, sym, ap, subst, ◌∙◌, arith, All}
+use Rattle.std.proofs.Common.{◌≡◌, ◌+◌, ℕ, ℤ, suc, List, [], ◌∷◌, Bool, true, false, Option, Some, None, map, option_map, refl, sym, ap, subst, ◌∙◌, arith, All}
 use Rattle.std.specs.Prelude.{Contains, is_some}
 use Rattle.std.proofs.lemmas.List.Sorted.{All-permutation, Contains-permutation}
+use mathlib.Core.Path.{fun_ext}
 use Rattle.mw_model.specs.Seed.{Seed, Held, held_among}
+use Rattle.mw_multi.specs.World.{Item}
 use Rattle.mw_multi.specs.Joint.{Slot, Joint, IsJoint}
 use Rattle.mw_multi.specs.Steps.{location_place}
 use Rattle.mw_multi.specs.Placement.{Put, slot_at, what_stands}
 use Rattle.mw_multidata.specs.Ascending.{Ascend}
 use Rattle.mw_multidata.specs.SeedKept.{held_cmp}
 use Rattle.mw_seeds.specs.SeedFile.{held_where, location_held, slot_held, all_held, AreLocations}
-use Rattle.mw_seeds.specs.Agreeing.{has_location, held_index, agrees_with, agrees_at, IsFirstDifference}
+use Rattle.mw_seeds.specs.Agreeing.{has_location, held_index, index_among, slot_items, agrees_with, agrees_at, TablesAgree, IsFirstDifference}
 use Rattle.mw_seeds.specs.FilePuts.{first_apart, file_puts}
 use Rattle.mw_seeds.specs.Judging.{IsPlacementIn}
-use Rattle.mw_seeds.proofs.SeedHeld.{IsOfSlot, all_of}
+use Rattle.mw_seeds.specs.Keys.{Key, as_held, AreKeys, first_other, key_of, fits_among, first_other_key}
+use Rattle.mw_seeds.proofs.InOrder.{in_order}
+use Rattle.mw_seeds.proofs.KeyOrder.{keys_tell}
+use Rattle.mw_seeds.proofs.Walk.{is_fit, agree, agree_all, differ_at}
+use Rattle.mw_seeds.proofs.SeedHeld.{IsOfSlot, all_of, all_apart}
 use Rattle.mw_seeds.proofs.Apart.{among_there, among_is, apart_is, same_lists}
 use Rattle.mw_seeds.proofs.Elements.{in_numbered, here}
-use Rattle.mw_seeds.proofs.FilePlaced.{IsLocated, located, has_it, what_is_put, stands_at_location, put_at, is_placement}
+use Rattle.mw_seeds.proofs.FilePlaced.{catalog_is, IsLocated, located, has_it, what_is_put, stands_at_location, put_at, is_placement}
 
 -- what the tables and the file say of a location, by what stands there and what the file has
 module _ (slots : List Slot) (due found : Option Held) where
@@ -140,16 +146,58 @@ module _ (joint : Joint) (kept : IsJoint joint) (seed : Seed) (ascend : Ascend h
         entries = subst (AreLocations joint.slots puts) same are;
       }
 
--- the same over what the code has
-module _ (joint : Joint) (kept : IsJoint joint) (seed : Seed) (ascend : Ascend held_cmp seed.locations) (held : List Held) (same : held ≡ seed.locations) (put : List Put) (is : put ≡ file_puts joint.slots held)
-    (due listed : List Held) (are : AreLocations joint.slots put due) (read : listed ≡ due) where
-  are_here : AreLocations joint.slots (file_puts joint.slots seed.locations) due
-  are_here = subst (λ ps. AreLocations joint.slots ps due) (is ∙ ap (file_puts joint.slots) same) are
+-- where the tables and the file agree, its entries are those of what they put
+module _ (joint : Joint) (kept : IsJoint joint) (seed : Seed) (ascend : Ascend held_cmp seed.locations) where
+  by_difference : (due : List Held) → AreLocations joint.slots (file_puts joint.slots seed.locations) due → TablesAgree joint seed → (o : Option Held) → first_apart due seed.locations ≡ o
+      → IsPlacementIn joint seed (file_puts joint.slots seed.locations)
+  by_difference due are agree None e = placed_in joint kept seed ascend due are e
+  by_difference due are agree (Some h) e =
+      let found = first_difference joint kept seed ascend due are h e in
+      let never : true ≡ false = sym (agree h.slot h.location) ∙ found.differs in
+      cc
 
-  pub placed_at : first_apart listed held ≡ None → IsPlacementIn joint seed put
-  placed_at e =
-      subst (IsPlacementIn joint seed) (sym (is ∙ ap (file_puts joint.slots) same))
-      (placed_in joint kept seed ascend due are_here (ap (λ ds. first_apart ds seed.locations) (sym read) ∙ ap (first_apart listed) (sym same) ∙ e))
+  pub placed_where_agreed : TablesAgree joint seed → IsPlacementIn joint seed (file_puts joint.slots seed.locations)
+  placed_where_agreed agree =
+      let held = all_held joint.slots (what_stands (file_puts joint.slots seed.locations)) in
+      let due = in_order held (all_apart joint.slots (what_stands (file_puts joint.slots seed.locations)) 1 joint.slots (λ k d l. (kept.each k d l).world.locations.ids)) in
+      by_difference due.0 record { same = due.1; ascend = due.2 } agree (first_apart due.0 seed.locations) refl
 
-  pub difference_at : (h : Held) → first_apart listed held ≡ Some h → IsFirstDifference joint seed h.slot h.location
-  difference_at h e = first_difference joint kept seed ascend due are_here h (ap (λ ds. first_apart ds seed.locations) (sym read) ∙ ap (first_apart listed) (sym same) ∙ e)
+-- by the keys of the tables' locations
+module _ (joint : Joint) (kept : IsJoint joint) (seed : Seed) (ascend : Ascend held_cmp seed.locations) (keys : List Key) (are : AreKeys joint.slots keys) where
+  abbrev listed_keys : List Held
+  listed_keys = map as_held keys
+
+  told : (s : ℕ) (l : ℤ) → agree joint.slots listed_keys seed.locations s l ≡ agrees_at joint seed s l
+  told s l = ap (λ b. agrees_with joint.slots b (held_among seed.locations s l)) (keys_tell joint.slots keys are s l)
+
+  pub placed_by_keys : first_other (is_fit joint.slots) listed_keys seed.locations ≡ None → IsPlacementIn joint seed (file_puts joint.slots seed.locations)
+  placed_by_keys e = placed_where_agreed joint kept seed ascend (λ s l. sym (told s l) ∙ agree_all joint.slots listed_keys seed.locations are.ascend ascend e s l)
+
+  pub differs_by_keys : (h : Held) → first_other (is_fit joint.slots) listed_keys seed.locations ≡ Some h → IsFirstDifference joint seed h.slot h.location
+  differs_by_keys h e =
+      let d = differ_at joint.slots listed_keys seed.locations h are.ascend ascend e in
+      record { differs = sym (told h.slot h.location) ∙ d.differs; earlier = λ s l less. sym (told s l) ∙ d.earlier s l less }
+
+  -- over what the code has
+  fits_same : (tables : List (List Item)) → tables ≡ map slot_items joint.slots → fits_among tables ≡ is_fit joint.slots
+  fits_same tables same = ap fits_among same ∙ fun_ext (λ h. ap (λ o. is_some (index_among h o)) (catalog_is joint.slots h.receiver))
+
+  module _ (tables : List (List Item)) (same : tables ≡ map slot_items joint.slots) (held : List Held) (is : held ≡ seed.locations) where
+    found_so : first_other_key tables keys held ≡ option_map key_of (first_other (is_fit joint.slots) listed_keys seed.locations)
+    found_so = ap (λ f. option_map key_of (first_other f listed_keys held)) (fits_same tables same) ∙ ap (λ hs. option_map key_of (first_other (is_fit joint.slots) listed_keys hs)) is
+
+    none_of : (o : Option Held) → option_map key_of o ≡ None → o ≡ None
+    none_of None e = refl
+    none_of (Some h) e = cc
+
+    pub placed_at : first_other_key tables keys held ≡ None → IsPlacementIn joint seed (file_puts joint.slots held)
+    placed_at e = subst (λ hs. IsPlacementIn joint seed (file_puts joint.slots hs)) (sym is) (placed_by_keys (none_of (first_other (is_fit joint.slots) listed_keys seed.locations) (sym found_so ∙ e)))
+
+    one_of : (o : Option Held) (k : Key) → first_other (is_fit joint.slots) listed_keys seed.locations ≡ o → option_map key_of o ≡ Some k → IsFirstDifference joint seed k.slot k.location
+    one_of None k e f = cc
+    one_of (Some h) k e f =
+        let same_key : key_of h ≡ k = cc in
+        subst (λ (x : Key). IsFirstDifference joint seed x.slot x.location) same_key (differs_by_keys h e)
+
+    pub difference_at : (k : Key) → first_other_key tables keys held ≡ Some k → IsFirstDifference joint seed k.slot k.location
+    difference_at k e = one_of (first_other (is_fit joint.slots) listed_keys seed.locations) k refl (sym found_so ∙ e)

@@ -11,14 +11,11 @@ use Rattle.mw_model.specs.Seed.{Held, held_among}
 use Rattle.mw_multidata.specs.Ascending.{Ascend, ComesBefore}
 use Rattle.mw_multidata.specs.SeedKept.{held_cmp}
 use Rattle.mw_seeds.specs.Agreeing.{location_cmp}
+use Rattle.mw_seeds.specs.Keys.{entry_at}
 use Rattle.mw_seeds.specs.FilePuts.{same_entry, earlier_of, first_apart}
 use Rattle.mw_multidata.proofs.NamesKept.{held_total}
 
 -- ---- entries by their location
-
--- some entry of the location
-abbrev pub entry_at : ℕ → ℤ → Held
-entry_at s l = record { slot = s; location = l; item = pos 0; receiver = 0; flags = 0 }
 
 abbrev pub is_at : ℕ → ℤ → Held → Bool
 is_at s l h = (h.slot == s) && int_eq h.location l
@@ -39,14 +36,14 @@ pub none_before : (s : ℕ) (l : ℤ) (hs : List Held) → ComesBefore held_cmp 
 none_before s l [] c = refl
 none_before s l (h ∷ hs) c = ap (λ b. if b then Some h else held_among hs s l) (not_before s l h c.0) ∙ none_before s l hs c.1
 
-below : (a b : Held) (hs : List Held) → held_cmp a b ≡ Less → ComesBefore held_cmp b hs → ComesBefore held_cmp a hs
+pub below : (a b : Held) (hs : List Held) → held_cmp a b ≡ Less → ComesBefore held_cmp b hs → ComesBefore held_cmp a hs
 below a b [] l h = tt
 below a b (k ∷ hs) l h = (held_total.trans a b k l h.0, below a b hs l h.1)
 
-none_earlier : (s : ℕ) (l : ℤ) (h : Held) (hs : List Held) → location_cmp s l h.slot h.location ≡ Less → Ascend held_cmp (h ∷ hs) → held_among (h ∷ hs) s l ≡ None
+pub none_earlier : (s : ℕ) (l : ℤ) (h : Held) (hs : List Held) → location_cmp s l h.slot h.location ≡ Less → Ascend held_cmp (h ∷ hs) → held_among (h ∷ hs) s l ≡ None
 none_earlier s l h hs e dsc = none_before s l (h ∷ hs) (e, below (entry_at s l) h hs e dsc.0)
 
-first_there : (h : Held) (hs : List Held) → held_among (h ∷ hs) h.slot h.location ≡ Some h
+pub first_there : (h : Held) (hs : List Held) → held_among (h ∷ hs) h.slot h.location ≡ Some h
 first_there h hs = ap (λ b. if b then Some h else held_among hs h.slot h.location) (at_own h)
 
 past_first : (s : ℕ) (l : ℤ) (h : Held) (hs : List Held) → location_cmp h.slot h.location s l ≡ Less → held_among (h ∷ hs) s l ≡ held_among hs s l
@@ -119,17 +116,17 @@ none_some a b h e f same = cc
 some_none : (a b : Option Held) (h : Held) → a ≡ Some h → b ≡ None → a ≢ b
 some_none a b h e f same = cc
 
-earlier_first : (a b : Held) → held_cmp a b ≡ Less → earlier_of a b ≡ a
+pub earlier_first : (a b : Held) → held_cmp a b ≡ Less → earlier_of a b ≡ a
 earlier_first a b e =
     let back : held_cmp b a ≡ Greater = held_total.antisymm b a ∙ ap ordering_reverse e in
     ap (λ o. if is_lt o then b else a) back
 
-earlier_second : (a b : Held) → held_cmp a b ≡ Greater → earlier_of a b ≡ b
+pub earlier_second : (a b : Held) → held_cmp a b ≡ Greater → earlier_of a b ≡ b
 earlier_second a b e =
     let back : held_cmp b a ≡ Less = held_total.antisymm b a ∙ ap ordering_reverse e in
     ap (λ o. if is_lt o then b else a) back
 
-earlier_tied : (a b : Held) → held_cmp a b ≡ Equal → earlier_of a b ≡ a
+pub earlier_tied : (a b : Held) → held_cmp a b ≡ Equal → earlier_of a b ≡ a
 earlier_tied a b e =
     let back : held_cmp b a ≡ Equal = held_total.antisymm b a ∙ ap ordering_reverse e in
     ap (λ o. if is_lt o then b else a) back

@@ -137,7 +137,7 @@ pub record IsPutFor (slots : List Slot) (number : ℕ) (id : ℤ) (found : Optio
   pub same : (h : Held) → found ≡ Some h → h.slot ≡ number → h.location ≡ id → is_some (held_index slots h) ≡ true → entry ≡ h
   pub item : is_some (item_at slots put.receiver put.item) ≡ true
 
-catalog_is : (slots : List Slot) (receiver : ℕ) → catalog_at (map slot_items slots) receiver ≡ option_map slot_items (slot_at slots receiver)
+pub catalog_is : (slots : List Slot) (receiver : ℕ) → catalog_at (map slot_items slots) receiver ≡ option_map slot_items (slot_at slots receiver)
 catalog_is slots zero = refl
 catalog_is slots (suc before) = get_mapped slot_items slots before
 
@@ -338,9 +338,3 @@ module _ (joint : Joint) (kept : IsJoint joint) (held : List Held) where
     -- what is put at a location stands there
     pub stands_at_location : what_stands puts (location_place s index) ≡ Some (put_at (suc before) s index id)
     stands_at_location = ap (what_stands puts) (sym (where_it_is before s at index l listed id named)) ∙ stands_there (put_at (suc before) s index id) put_there
-
--- the answer with these catalogs is a placement
-pub placed_ok : {E : Type 0} (joint : Joint) → IsJoint joint → (held : List Held) (tables : List (List Item)) (result : Result (List Put) E) → tables ≡ map slot_items joint.slots
-    → IfOk result (λ puts. puts ≡ each_numbered (slot_puts tables held) 1 joint.slots) → IfOk result (IsPlacement joint)
-placed_ok joint kept held tables (Ok found) same is = subst (IsPlacement joint) (sym (is ∙ ap (λ cs. each_numbered (slot_puts cs held) 1 joint.slots) same)) (is_placement joint kept held)
-placed_ok joint kept held tables (Err e) same is = tt

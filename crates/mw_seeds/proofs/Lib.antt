@@ -13,5 +13,8 @@ pub mod Apart
 pub mod Judged
 pub mod Ids
 pub mod FilePlaced
+pub mod InOrder
+pub mod Walk
+pub mod KeyOrder
 pub mod Agreed
 pub mod OneFile

@@ -59,25 +59,25 @@ part_here : {K : Type 0} (e : K → K → Bool) (x : K) (ys zs : List K) → All
 part_here e x [] zs h k = k
 part_here e x (y ∷ ys) zs h k = (h.0, part_here e x ys zs h.1 k)
 
-distinct_both : {K : Type 0} (e : K → K → Bool) (xs ys : List K) → IsDistinct e xs → IsDistinct e ys → All (λ x. AllByRecursion (λ y. e x y ≡ false) ys) xs → IsDistinct e (xs ++ ys)
+pub distinct_both : {K : Type 0} (e : K → K → Bool) (xs ys : List K) → IsDistinct e xs → IsDistinct e ys → All (λ x. AllByRecursion (λ y. e x y ≡ false) ys) xs → IsDistinct e (xs ++ ys)
 unfolding IsDistinct
 distinct_both e [] ys h k c = k
 distinct_both {K = K} e (x ∷ xs) ys h k c =
     let Apart : K → Type 0 = λ x. AllByRecursion (λ y. e x y ≡ false) ys in
     (part_here e x xs ys h.0 (All-head Apart x xs c), distinct_both e xs ys h.1 k (All-tail Apart x xs c))
 
-apart_where : {K : Type 0} (e : K → K → Bool) (P : K → Type 0) (x : K) (ys : List K) → ((y : K) → P y → e x y ≡ false) → All P ys → AllByRecursion (λ y. e x y ≡ false) ys
+pub apart_where : {K : Type 0} (e : K → K → Bool) (P : K → Type 0) (x : K) (ys : List K) → ((y : K) → P y → e x y ≡ false) → All P ys → AllByRecursion (λ y. e x y ≡ false) ys
 apart_where e P x [] f h = tt
 apart_where e P x (y ∷ ys) f h = (f y (All-head P y ys h), apart_where e P x ys f (All-tail P y ys h))
 
-differ_slots : (a b : Held) → a.slot < b.slot → same_held a b ≡ false
+pub differ_slots : (a b : Held) → a.slot < b.slot → same_held a b ≡ false
 differ_slots a b h = grind (arith, h)
 
-and_false : (a b : Bool) → b ≡ false → (a && b) ≡ false
+pub and_false : (a b : Bool) → b ≡ false → (a && b) ≡ false
 and_false true b h = h
 and_false false b h = refl
 
-differ_ids : (a b : Held) → int_eq a.location b.location ≡ false → same_held a b ≡ false
+pub differ_ids : (a b : Held) → int_eq a.location b.location ≡ false → same_held a b ≡ false
 differ_ids a b h = and_false (a.slot == b.slot) (int_eq a.location b.location) h
 
 -- ---- the locations of a slot
@@ -90,7 +90,7 @@ IsOfOne slots number w h = (k : ℕ) × (l : Location) × (id : ℤ) × (slice_g
 abbrev HasIdAmong : List Location → Held → Type 0
 HasIdAmong ls h = (d : ℤ) → AllByRecursion (λ y. int_eq d y ≡ false) (filter_map (λ i. i) (map location_id ls)) → int_eq d h.location ≡ false
 
-skip : (d : ℤ) (o : Option ℤ) (os : List (Option ℤ)) → AllByRecursion (λ y. int_eq d y ≡ false) (filter_map (λ i. i) (o ∷ os)) → AllByRecursion (λ y. int_eq d y ≡ false) (filter_map (λ i. i) os)
+pub skip : (d : ℤ) (o : Option ℤ) (os : List (Option ℤ)) → AllByRecursion (λ y. int_eq d y ≡ false) (filter_map (λ i. i) (o ∷ os)) → AllByRecursion (λ y. int_eq d y ≡ false) (filter_map (λ i. i) os)
 skip d None os h = h
 skip d (Some i) os h = h.1
 

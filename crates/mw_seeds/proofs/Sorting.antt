@@ -13,6 +13,7 @@ use Rattle.mw_multi.specs.Names.{NamesDiffer}
 use Rattle.mw_multidata.specs.Ascending.{Ascend, ComesBefore, NamesAscend}
 use Rattle.mw_multidata.specs.SeedKept.{entry_name, game_name, held_cmp}
 use Rattle.mw_multidata.proofs.NamesKept.{held_total}
+use Rattle.mw_seeds.specs.Keys.{Key, as_held}
 use Rattle.mw_seeds.specs.SeedFile.{IsTable}
 
 tail_sorted : {X : Type 0} (lt : X → X → Bool) (x : X) (xs : List X) → IsSortedBy lt (x ∷ xs) → IsSortedBy lt xs
@@ -84,3 +85,8 @@ pub held_ascends : (entries held : List Held) → IsPermutation entries held →
 held_ascends entries held p s d =
     subst (Ascend held_cmp) (map_same held)
     (sorted_ascends held_cmp held_total same_held held_same (λ h. h) held s (subst (IsDistinct same_held) (sym (map_same held)) (IsDistinct-IsPermutation same_held held_flip entries held p d)))
+
+pub keys_ascend : (entries keys : List Key) → IsPermutation entries keys → IsSortedBy (λ a b. is_lt (held_cmp (as_held a) (as_held b))) keys → IsDistinct same_held (map as_held entries) → Ascend held_cmp (map as_held keys)
+keys_ascend entries keys p s d =
+    sorted_ascends held_cmp held_total same_held held_same as_held keys s
+    (IsDistinct-IsPermutation same_held held_flip (map as_held entries) (map as_held keys) (IsPermutation-map as_held entries keys p) d)

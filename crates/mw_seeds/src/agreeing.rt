@@ -1,46 +1,61 @@
 //! Whether a seed file's entries agree with joined tables.
 ghost use Rattle.std.specs.Prelude.{◌≡◌, IfOk, IfErr};
-ghost use Rattle.mw_seeds.specs.FilePuts.{same_entry as same, earlier_of as earlier, first_apart as apart};
+ghost use Rattle.mw_seeds.specs.FilePuts.{earlier_of as earlier};
+ghost use Rattle.mw_seeds.specs.Keys.{as_held, key_of as plain_key, fits_at, fits_among, first_other_key};
 ghost use Rattle.mw_seeds.specs.Judging.{IsPlacementIn, IsOther};
 
-use crate::file_puts::file_puts;
+use crate::catalog::{Catalog, catalogs_of};
+use crate::file_puts::{file_puts, index_of};
+use crate::keys::{Key, compare_keys, keys_of};
 use crate::refusal::SeedRefusal;
-use crate::seed_locations::{compare_held, locations_of};
 use mw_multi::{Joint, Placement};
 use mw_multidata::{Held, Multidata};
 use std::alloc::Global;
 
-/// Whether two entries are the same.
-fn same_entry(a: &Held, b: &Held) -> bool
-    ensures { result ≡ same a.now b.now }
+/// Whether an entry is at the location of this key, with an item that fits.
+fn agrees(catalogs: &[Catalog], key: &Key, held: &Held) -> bool
+    ensures { result ≡ fits_at (fits_among catalogs.now) (as_held key.now) held.now }
 {
-    a.slot.get() == b.slot.get()
-        && a.location.get() == b.location.get()
-        && a.item.get() == b.item.get()
-        && a.receiver == b.receiver
-        && a.flags == b.flags
+    key.slot.get() == held.slot.get()
+        && key.location.get() == held.location.get()
+        && index_of(catalogs, held).is_some()
 }
 
-/// The one of two entries whose location comes first.
-fn earlier_of(a: Held, b: Held) -> Held
-    ensures { result ≡ earlier a b }
+/// The location of an entry.
+fn key_of(held: &Held) -> Key
+    ensures { result ≡ plain_key held.now }
 {
-    if compare_held(&b, &a).is_lt() { b } else { a }
+    Key {
+        slot: held.slot,
+        location: held.location,
+    }
 }
 
-/// The first entry in which two lists differ.
-fn first_apart(due: &[Held], held: &[Held]) -> Option<Held>
-    ensures { result ≡ apart due.now held.now }
+/// The location of a key or of an entry, whichever comes first.
+fn earlier_of(key: Key, held: &Held) -> Key
+    ensures { result ≡ plain_key (earlier (as_held key) held.now) }
 {
-    for (index, entry) in due.iter().enumerate() {
+    let other = key_of(held);
+    if compare_keys(&other, &key).is_lt() {
+        other
+    } else {
+        key
+    }
+}
+
+/// The first location that only one of the two has, or whose entry's item doesn't fit.
+fn first_other(catalogs: &[Catalog], keys: &[Key], held: &[Held]) -> Option<Key>
+    ensures { result ≡ first_other_key catalogs.now keys.now held.now }
+{
+    for (index, key) in keys.iter().enumerate() {
         if index >= held.len() {
-            return Some(*entry);
+            return Some(*key);
         }
-        if !same_entry(entry, &held[index]) {
-            return Some(earlier_of(*entry, held[index]));
+        if !agrees(catalogs, key, &held[index]) {
+            return Some(earlier_of(*key, &held[index]));
         }
     }
-    held.get(due.len()).copied()
+    Some(key_of(held.get(keys.len())?))
 }
 
 /// The placement that a seed file's entries are, where they agree with the tables.
@@ -58,13 +73,16 @@ pub fn placement_in(
     // Reading these makes known what their types keep.
     let _ = &joint.slots;
     let held = file.locations.as_slice();
-    let puts = file_puts(alloc, joint, held)?;
-    let due = locations_of(alloc, joint, &puts)?;
-    match first_apart(due.as_slice(), held) {
-        None => Ok(puts),
-        Some(entry) => Err(SeedRefusal::OtherTables {
-            slot: entry.slot,
-            location: entry.location,
+    let catalogs = catalogs_of(alloc, joint.slots.as_slice())?;
+    let keys = keys_of(alloc, joint)?;
+    match first_other(catalogs.as_slice(), keys.as_slice(), held) {
+        None => {
+            let puts = file_puts(alloc, catalogs.as_slice(), joint, held)?;
+            Ok(puts)
+        }
+        Some(key) => Err(SeedRefusal::OtherTables {
+            slot: key.slot,
+            location: key.location,
         }),
     }
 }

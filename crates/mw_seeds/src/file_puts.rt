@@ -2,14 +2,13 @@
 ghost use Rattle.std.specs.Prelude.{◌≡◌, ◌≤◌, ◌<◌, ◌+◌, ◌++◌, ◌^◌, ℤ, IfOk, OnOk, Some, None, length, map, slice_get};
 ghost use Rattle.mw_model.specs.Seed.{held_among};
 ghost use Rattle.mw_multi.specs.Joint.{slot_places};
-ghost use Rattle.mw_multi.specs.Placement.{IsPlacement};
 ghost use Rattle.mw_multi.specs.Numbered.{each_numbered};
 ghost use Rattle.mw_multidata.specs.Ascending.{Ascend};
 ghost use Rattle.mw_multidata.specs.SeedKept.{held_cmp};
 ghost use Rattle.mw_seeds.specs.Agreeing.{index_among, location_cmp};
-ghost use Rattle.mw_seeds.specs.FilePuts.{catalog_at, file_put as plain_put, put_where, slot_puts, file_puts as plain_puts};
+ghost use Rattle.mw_seeds.specs.FilePuts.{catalog_at, file_put as plain_put, put_where, slot_puts};
 
-use crate::catalog::{Catalog, catalogs_of};
+use crate::catalog::Catalog;
 use crate::seed_locations::slot_id;
 use mw_base::{List, LocId, Memory, SlotId};
 use mw_multi::{Joint, Location, Placement, Put, Slot};
@@ -19,7 +18,7 @@ use std::cmp::Ordering;
 
 /// Where the item of an entry stands in its receiver's world, if it has an id there and the entry's flags are those of its
 /// class.
-fn index_of(catalogs: &[Catalog], held: &Held) -> Option<u32>
+pub(crate) fn index_of(catalogs: &[Catalog], held: &Held) -> Option<u32>
     ensures { result ≡ index_among held.now (catalog_at catalogs.now held.now.receiver) }
 {
     if held.receiver == 0 {
@@ -116,13 +115,14 @@ fn push_slot(
     Ok(())
 }
 
-/// What the file puts at the locations of all slots.
-fn all_puts(
+/// What the entries of a seed file put at the locations with an id, in ascending order of places: the item that an entry
+/// names, or the location's own filler where no entry names an item that fits.
+pub(crate) fn file_puts(
     alloc: Global,
     catalogs: &[Catalog],
     joint: &Joint,
     held: &[Held],
-) -> Result<List<Put>, Memory>
+) -> Result<Placement, Memory>
     requires { Ascend held_cmp held.now }
     ensures { IfOk result
         (λ puts. puts ≡ each_numbered (slot_puts catalogs.now held.now) 1 joint.now.slots) }
@@ -132,17 +132,4 @@ fn all_puts(
         push_slot(&mut puts, catalogs, held, slot_id(index).get(), slot)?;
     }
     Ok(puts)
-}
-
-/// What the entries of a seed file put at the locations with an id, in ascending order of places: the item that an entry
-/// names, or the location's own filler where no entry names an item that fits.
-pub(crate) fn file_puts(alloc: Global, joint: &Joint, held: &[Held]) -> Result<Placement, Memory>
-    requires { Ascend held_cmp held.now }
-    ensures puts { IfOk result (λ puts. puts ≡ plain_puts joint.now.slots held.now) }
-    ensures placement { IfOk result (IsPlacement joint.now) }
-{
-    // Reading the joint makes known what its type keeps.
-    let _ = &joint.slots;
-    let catalogs = catalogs_of(alloc, joint.slots.as_slice())?;
-    all_puts(alloc, catalogs.as_slice(), joint, held)
 }

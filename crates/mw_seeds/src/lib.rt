@@ -6,6 +6,7 @@ mod catalog;
 mod checking;
 mod copies;
 mod file_puts;
+mod keys;
 mod making;
 mod played_lines;
 mod refusal;

@@ -1,32 +1,35 @@
-use Rattle.std.proofs.Common.{◌≡◌, ◌∙◌, None, Some, ap, rules, subst, sym}
-use Rattle.mw_model.specs.Seed.{Seed, Held}
-use Rattle.mw_multi.specs.Joint.{IsJoint}
-use Rattle.mw_seeds.specs.Agreeing.{IsFirstDifference}
+use Rattle.std.proofs.Common.{◌≡◌, ◌∙◌, None, Some, map, ap, rules, subst, sym}
+use Rattle.mw_model.specs.Seed.{Seed}
+use Rattle.mw_multi.specs.Joint.{Joint, IsJoint}
+use Rattle.mw_multi.specs.Numbered.{each_numbered}
 use Rattle.mw_multidata.specs.Ascending.{Ascend}
-use Rattle.mw_seeds.specs.FilePuts.{first_apart}
 use Rattle.mw_multidata.specs.SeedKept.{IsSeed, held_cmp}
+use Rattle.mw_seeds.specs.Agreeing.{slot_items, IsFirstDifference}
+use Rattle.mw_seeds.specs.FilePuts.{slot_puts}
+use Rattle.mw_seeds.specs.Judging.{IsPlacementIn}
+use Rattle.mw_seeds.specs.Keys.{Key, AreKeys, first_other_key}
 use Rattle.mw_seeds.proofs.Agreed.{placed_at, difference_at}
 use Rattle.mw_seeds.proofs.agreeing.placement_in.Goals as goal
 
-pub file_puts-requires : goal.file_puts-requires
-file_puts-requires c =
-    let same = c.as_slice-held.ensures ∙ ap (λ (s : Seed). s.locations) c.file.view_is in
-    subst (Ascend held_cmp) (sym same) (subst IsSeed c.file.view_is c.file.invariant).locations.ascend
-
 pub returns-in-None-clause-ok : goal.returns-in-None-clause-ok
 returns-in-None-clause-ok c =
-    let held = c.as_slice-held.result.now in
-    let same = c.as_slice-held.ensures ∙ ap (λ (s : Seed). s.locations) c.file.view_is in
-    let ascend = (subst IsSeed c.file.view_is c.file.invariant).locations.ascend in
-    let none : first_apart c.as_slice.result.now held ≡ None = sym c.first_apart.ensures ∙ search rules in
-    placed_at c.args.joint.now (subst IsJoint c.joint.view_is c.joint.invariant) c.args.file.now ascend held same c.in_ok-puts.puts c.in_ok-puts.ensures.puts c.in_ok-due.due c.as_slice.result.now c.in_ok-due.ensures c.as_slice.ensures none
+    let joint = c.args.joint.now in
+    let seed = subst IsSeed c.file.view_is c.file.invariant in
+    let held = c.as_slice-held.ensures ∙ ap (λ (s : Seed). s.locations) c.file.view_is in
+    let tables = c.as_slice-2.ensures ∙ c.in_ok-catalogs.ensures ∙ ap (map slot_items) (c.as_slice.ensures ∙ ap (λ (j : Joint). j.slots) c.joint.view_is) in
+    let put_tables = c.as_slice-in-None.ensures ∙ c.in_ok-catalogs.ensures ∙ ap (map slot_items) (c.as_slice.ensures ∙ ap (λ (j : Joint). j.slots) c.joint.view_is) in
+    let none : first_other_key c.as_slice-2.result.now c.as_slice-3.result.now c.as_slice-held.result.now ≡ None = sym c.first_other.ensures ∙ search rules in
+    subst (IsPlacementIn joint c.args.file.now) (sym (c.in_ok-puts-in-None.ensures ∙ ap (λ cs. each_numbered (slot_puts cs c.as_slice-held.result.now) 1 joint.slots) put_tables))
+    (placed_at joint (subst IsJoint c.joint.view_is c.joint.invariant) c.args.file.now seed.locations.ascend c.as_slice-3.result.now (subst (AreKeys joint.slots) (sym c.as_slice-3.ensures) c.in_ok-keys.ensures)
+    c.as_slice-2.result.now tables c.as_slice-held.result.now held none)
 
-pub returns-in-Some-clause-err : goal.returns-in-Some-clause-err
-returns-in-Some-clause-err c =
-    let held = c.as_slice-held.result.now in
-    let same = c.as_slice-held.ensures ∙ ap (λ (s : Seed). s.locations) c.file.view_is in
-    let ascend = (subst IsSeed c.file.view_is c.file.invariant).locations.ascend in
-    let some : first_apart c.as_slice.result.now held ≡ Some c.in-Some.entry = sym c.first_apart.ensures ∙ search rules in
-    subst (λ (h : Held). IsFirstDifference c.args.joint.now c.args.file.now h.slot h.location) (sym c.entry.view_is)
-    (difference_at c.args.joint.now (subst IsJoint c.joint.view_is c.joint.invariant) c.args.file.now ascend held same c.in_ok-puts.puts c.in_ok-puts.ensures.puts c.in_ok-due.due c.as_slice.result.now c.in_ok-due.ensures
-    c.as_slice.ensures c.in-Some.entry some)
+pub returns-clause-err : goal.returns-clause-err
+returns-clause-err c =
+    let joint = c.args.joint.now in
+    let seed = subst IsSeed c.file.view_is c.file.invariant in
+    let held = c.as_slice-held.ensures ∙ ap (λ (s : Seed). s.locations) c.file.view_is in
+    let tables = c.as_slice-2.ensures ∙ c.in_ok-catalogs.ensures ∙ ap (map slot_items) (c.as_slice.ensures ∙ ap (λ (j : Joint). j.slots) c.joint.view_is) in
+    let some : first_other_key c.as_slice-2.result.now c.as_slice-3.result.now c.as_slice-held.result.now ≡ Some c.in-Some.key = sym c.first_other.ensures ∙ search rules in
+    subst (λ (k : Key). IsFirstDifference joint c.args.file.now k.slot k.location) (sym c.key.view_is)
+    (difference_at joint (subst IsJoint c.joint.view_is c.joint.invariant) c.args.file.now seed.locations.ascend c.as_slice-3.result.now (subst (AreKeys joint.slots) (sym c.as_slice-3.ensures) c.in_ok-keys.ensures)
+    c.as_slice-2.result.now tables c.as_slice-held.result.now held c.in-Some.key some)

@@ -1,12 +1,31 @@
-use Rattle.std.proofs.Common.{map, ap, subst, ◌∙◌}
+use Rattle.std.proofs.Common.{◌≡◌, ◌++◌, ◌+◌, ◌<◌, length, take, ap, subst, ◌∙◌, sym, arith}
 use Rattle.mw_multi.specs.Joint.{Joint, IsJoint}
-use Rattle.mw_seeds.specs.Agreeing.{slot_items}
-use Rattle.mw_seeds.proofs.FilePlaced.{placed_ok}
+use Rattle.mw_reach.proofs.Slots.{slot_fits}
+use Rattle.mw_multi.specs.Numbered.{each_numbered}
+use Rattle.mw_multi.proofs.Numbered.{numbered_more}
+use Rattle.mw_seeds.specs.FilePuts.{slot_puts}
 use Rattle.mw_seeds.proofs.file_puts.file_puts.Goals as goal
 
-pub returns-clause-placement : goal.returns-clause-placement
-returns-clause-placement c =
+pub slot_id-requires : goal.slot_id-requires
+slot_id-requires c =
+    let slots : c.as_slice-slot-items.result.now ≡ c.args.joint.now.slots = c.as_slice-slot-items.ensures ∙ ap (λ (j : Joint). j.slots) c.joint.view_is in
+    let few = (subst IsJoint c.joint.view_is c.joint.invariant).few in
+    let many : length c.args.joint.now.slots < 1024 + 1 = omega (arith, few) in
+    omega (arith, many, c.loop-index-test.true, ap length slots)
+
+pub push_slot-requires-clause-fits : goal.push_slot-requires-clause-fits
+push_slot-requires-clause-fits c =
     let joint = c.args.joint.now in
-    let slots = ap (λ (j : Joint). j.slots) c.joint.view_is in
-    let catalogs = c.as_slice-2.ensures ∙ c.in_ok-catalogs.ensures ∙ ap (map slot_items) (c.as_slice.ensures ∙ slots) in
-    placed_ok joint (subst IsJoint c.joint.view_is c.joint.invariant) c.args.held.now c.as_slice-2.result.now c.all_puts.result catalogs c.all_puts.ensures
+    let slots : c.as_slice-slot-items.result.now ≡ joint.slots = c.as_slice-slot-items.ensures ∙ ap (λ (j : Joint). j.slots) c.joint.view_is in
+    let fits = slot_fits joint (subst IsJoint c.joint.view_is c.joint.invariant) c.loop-index.index c.slot-item.result (rw slots at c.loop-index-test.true) (rw slots at c.slot-item.is) in
+    omega (arith, fits.places, fits.few_places)
+
+pub loop-index-preserved : goal.loop-index-preserved
+loop-index-preserved c =
+    let i = c.loop-index.index in
+    let items = c.as_slice-slot-items.result.now in
+    let f = slot_puts c.args.catalogs.now c.args.held.now in
+    let s = c.slot-item.result in
+    let number : c.get.result ≡ 1 + i = omega (arith, c.get.ensures.value, c.slot_id.ensures) in
+    let more = numbered_more f 1 items i s c.loop-index-test.true c.slot-item.is in
+    c.in_ok-push_slot.ensures ∙ ap (λ puts. puts ++ f c.get.result s) c.loop-index.invariant ∙ ap (λ n. each_numbered f 1 (take i items) ++ f n s) number ∙ sym more
