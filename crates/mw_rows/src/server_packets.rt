@@ -1,3 +1,5 @@
+ghost use Rattle.std.specs.Prelude.{◌≡◌, ◌∷◌, [], IfOk};
+
 use mw_base::{List, NetItem, Permission, Text};
 use mw_packets_out::{
     Connected, GameSum, NetworkPlayer, NetworkSlot, RoomInfo, ServerPacket, write_message,
@@ -5,7 +7,10 @@ use mw_packets_out::{
 use std::alloc::Global;
 use std::test::Fail;
 
-fn list<T: Drop>(alloc: Global, item: T) -> Result<List<T>, Fail> {
+/// A list of one.
+fn list<T: Drop>(alloc: Global, item: T) -> Result<List<T>, Fail>
+    ensures { IfOk result (λ l. l ≡ item ∷ []) }
+{
     let mut list = List::new(alloc);
     list.push(item)?;
     Ok(list)
