@@ -1,4 +1,3 @@
-use Rattle.std.proofs.Common.{string_bytes}
 use Rattle.mw_offline.proofs.Generated.{generates}
 use Rattle.mw_offline.proofs.generating.make.Goals as goal
 
