@@ -3,4 +3,4 @@ use Rattle.mw_packets_out.specs.Room.{GamesAscend}
 use Rattle.mw_rows.proofs.server_packets.room_info.Goals as goal
 
 pub invariant_of-result : goal.invariant_of-result
-invariant_of-result c = subst GamesAscend (sym c.in_ok-games.ensures) (tt, tt, tt)
+invariant_of-result c = subst GamesAscend (sym c.in_ok-list.ensures) (tt, tt, tt)
