@@ -1,6 +1,7 @@
 //! Numbers in their ranges, owned texts, bytes and lists, and the plain data that every crate above speaks of.
 #![tactic(auto)]
 
+mod growth;
 mod ids;
 mod item;
 mod list;
@@ -9,6 +10,7 @@ mod options;
 mod spheres;
 mod text;
 
+pub use growth::Growth;
 pub use ids::{ItemId, LocId, SessionId, SlotId, TeamId};
 pub use item::NetItem;
 pub use list::{Bytes, List};

@@ -1,8 +1,8 @@
 -- The games that slots play, and a game's entry in the data package.
 use Rattle.std.specs.Prelude.{ℕ, List, Option, None, codes, if◌then◌else◌}
 use Rattle.mw_model.specs.Json.{Json, members, words, member, no_members}
-use Rattle.mw_model.specs.Messages.{checksum_of, ids_members}
-use Rattle.mw_model.specs.Room.{plays}
+use Rattle.mw_model.specs.Games.{checksum_of, ids_members}
+use Rattle.mw_protocol.specs.Room.{plays}
 use Rattle.mw_model.specs.Seed.{Game, Seed}
 use Rattle.mw_multidata.specs.Names.{find_game}
 

@@ -1,7 +1,7 @@
 ghost use Rattle.std.specs.Prelude.{◌≡◌, ◌↔◌, IfOk, IfSome, IsSome, IsTrue, option_map};
 ghost use Rattle.mw_model.specs.Json.{IsWritable};
-ghost use Rattle.mw_model.specs.Messages.{checksum_of};
-ghost use Rattle.mw_model.specs.Room.{plays};
+ghost use Rattle.mw_model.specs.Games.{checksum_of};
+ghost use Rattle.mw_protocol.specs.Room.{plays};
 ghost use Rattle.mw_json.specs.View.{view};
 ghost use Rattle.mw_datapack.specs.Played.{data_json, game_played};
 

@@ -1,7 +1,7 @@
 ghost use Rattle.std.specs.Prelude.{◌≡◌, IfOk};
 ghost use Rattle.hex.specs.Hex.{encode_lower};
 ghost use Rattle.sha1.specs.Sha1.{sha1};
-ghost use Rattle.mw_model.specs.Messages.{checksum_of};
+ghost use Rattle.mw_model.specs.Games.{checksum_of};
 
 use mw_base::{Memory, Text};
 use mw_json::compact_text;
@@ -18,7 +18,7 @@ fn digest_of(alloc: Global, text: &str) -> Result<Text, Memory>
 }
 
 /// The checksum of a game: SHA-1, in lower-case hexadecimal, of the compact text of its names.
-#[tactic(auto, unfolding(mw_model::specs::Messages::checksum_of))]
+#[tactic(auto, unfolding(mw_model::specs::Games::checksum_of))]
 pub fn checksum_of_game(alloc: Global, game: &Game) -> Result<Text, Memory>
     ensures { IfOk result (λ t. t ≡ checksum_of game.now) }
 {

@@ -1,5 +1,5 @@
 ghost use Rattle.std.specs.Prelude.{◌≡◌, ◌↔◌, IsSome, IsTrue, option_map};
-ghost use Rattle.mw_model.specs.Room.{plays};
+ghost use Rattle.mw_protocol.specs.Room.{plays};
 ghost use Rattle.mw_multidata.specs.Names.{find_game};
 ghost use Rattle.mw_datapack.specs.Played.{game_played};
 

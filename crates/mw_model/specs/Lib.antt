@@ -1,10 +1,9 @@
-pub mod Checks
-pub mod Examples
+pub mod Games
 pub mod Items
 pub mod Json
-pub mod Messages
-pub mod Packets
-pub mod Records
-pub mod Room
+pub mod Passed
 pub mod Seed
+pub mod Sets
 pub mod Spelling
+pub mod Texts
+pub mod Trees

@@ -5,7 +5,8 @@ use Rattle.std.proofs.lemmas.Grind.{common_steps}
 use Rattle.std.proofs.lemmas.Int.{ints}
 use Rattle.std.proofs.lemmas.List.Elements.{All-head, All-tail}
 use Rattle.mw_model.specs.Json.{Json, whole, words, many, members, Items, no_items, item, Members, no_members, find_member}
-use Rattle.mw_model.specs.Messages.{text_json, game_json, ids_members}
+use Rattle.mw_model.specs.Games.{game_json, ids_members}
+use Rattle.mw_model.specs.Trees.{text_json}
 use Rattle.mw_model.specs.Seed.{Slot, StartItem, Game, NamedId, Held, RoomOptions, Spot}
 use Rattle.mw_json.specs.Grammar.{Breach, number_at, has_control, short_text, name_of, name_at, items_length, list_up_to, field_at}
 use Rattle.mw_json.specs.Parts.{id_at, item_at, list_of_length, element_at, not_empty}

@@ -1,7 +1,7 @@
 -- Names with their ids as members.
 use Rattle.std.proofs.Common.{◌≡◌, ℕ, List, [], ◌∷◌, ◌++◌, map, refl, ap}
 use Rattle.mw_model.specs.Json.{IsWritable, Json, MembersAreWritable, member, whole}
-use Rattle.mw_model.specs.Messages.{ids_members}
+use Rattle.mw_model.specs.Games.{ids_members}
 use Rattle.mw_model.specs.Seed.{NamedId}
 use Rattle.mw_json.specs.View.{members_of}
 

@@ -6,7 +6,7 @@ use Rattle.std.specs.Ordering.{int_eq}
 use Rattle.std.proofs.lemmas.List.Elements.{All-head, All-tail}
 use Rattle.std.proofs.lemmas.Slice.Eq.{bytes_eq-Decides}
 use Rattle.mw_model.specs.Json.{words, many, Members, find_member, depth, ComeAfter, IsWritable, IsOrdered, MembersAreOrdered}
-use Rattle.mw_model.specs.Messages.{game_json, ids_members}
+use Rattle.mw_model.specs.Games.{game_json, ids_members}
 use Rattle.mw_model.specs.Seed.{Seed, Slot, Game, NamedId, Held, Spot, slot_of}
 use Rattle.mw_json.specs.Grammar.{number_at, field_at}
 use Rattle.mw_json.specs.Reading.{reading, max_depth}

@@ -1,7 +1,8 @@
 -- The seed file of a seed: its members in ascending byte order, without white space.
 use Rattle.std.specs.Prelude.{ℕ, pos, ◌==◌, List, [], ◌∷◌, codes, map, if◌then◌else◌}
 use Rattle.mw_model.specs.Json.{Json, whole, words, many, members, no_members, member}
-use Rattle.mw_model.specs.Messages.{game_json, text_json}
+use Rattle.mw_model.specs.Games.{game_json}
+use Rattle.mw_model.specs.Trees.{text_json}
 use Rattle.mw_model.specs.Seed.{Seed, Slot, StartItem, Game, Held, RoomOptions, Spot}
 use Rattle.mw_model.specs.Spelling.{spelling}
 use Rattle.mw_json.specs.View.{items_of, members_of}

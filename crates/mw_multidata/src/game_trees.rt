@@ -1,6 +1,6 @@
 ghost use Rattle.std.specs.Prelude.{◌≡◌, ◌++◌, ◌∷◌, [], IfOk, OnOk, map};
 ghost use Rattle.mw_model.specs.Json.{IsWritable, MembersAreWritable, members, whole};
-ghost use Rattle.mw_model.specs.Messages.{game_json, ids_members};
+ghost use Rattle.mw_model.specs.Games.{game_json, ids_members};
 ghost use Rattle.mw_json.specs.View.{view, member_view, members_view};
 
 use crate::seed::{Game, NamedId};

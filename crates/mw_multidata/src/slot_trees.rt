@@ -1,6 +1,6 @@
 ghost use Rattle.std.specs.Prelude.{◌≡◌, IfOk, map};
 ghost use Rattle.mw_model.specs.Json.{IsWritable, many};
-ghost use Rattle.mw_model.specs.Messages.{text_json};
+ghost use Rattle.mw_model.specs.Trees.{text_json};
 ghost use Rattle.mw_json.specs.View.{view, items_of};
 ghost use Rattle.mw_multidata.specs.Written.{slot_json, start_json};
 

@@ -1,6 +1,6 @@
 ghost use Rattle.std.specs.Prelude.{◌≡◌, ◌++◌, ◌∷◌, [], IfOk, Ok, OnOk, map};
 ghost use Rattle.mw_model.specs.Json.{IsWritable, MembersAreWritable};
-ghost use Rattle.mw_model.specs.Messages.{game_json};
+ghost use Rattle.mw_model.specs.Games.{game_json};
 ghost use Rattle.mw_json.specs.View.{view, member_view, members_view};
 ghost use Rattle.mw_multidata.specs.SeedOf.{SeedOf};
 ghost use Rattle.mw_multidata.specs.Written.{games_json, seed_json, seed_text};

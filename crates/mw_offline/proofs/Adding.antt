@@ -3,8 +3,8 @@ use Rattle.std.proofs.Common.{◌≡◌, ◌==◌, ◌||◌, ◌&&◌, not, true
 use Rattle.std.specs.Option.{is_some}
 use Rattle.std.proofs.lemmas.List.{map_push}
 use Rattle.mw_model.specs.Seed.{Seed}
-use Rattle.mw_model.specs.Packets.{Packet, connect, sync, location_checks}
-use Rattle.mw_model.specs.Room.{made_by}
+use Rattle.mw_protocol.specs.Packets.{Packet, connect, sync, location_checks}
+use Rattle.mw_protocol.specs.Room.{made_by}
 use Rattle.mw_offline.specs.declared.command.Command as code
 use Rattle.mw_offline.specs.Commands.{Command, command_view, sends}
 use Rattle.mw_offline.specs.Lines.{Line, nothing, open_line, text_line, take_line, lost_line, commit_line, crash_line}

@@ -4,7 +4,7 @@ use Rattle.std.specs.Prelude.{IfErr, IsErrAnd}
 use Rattle.std.specs.Io.KnownBytes.{Appends}
 use Rattle.mw_edges.specs.Causes.{PutsFront}
 use Rattle.mw_model.specs.Seed.{Seed}
-use Rattle.mw_model.specs.Room.{Room, empty_room}
+use Rattle.mw_protocol.specs.Room.{Room, empty_room}
 use Rattle.mw_offline.specs.Commands.{Command}
 use Rattle.mw_offline.specs.Drive.{drive_text}
 use Rattle.mw_offline.specs.Ends.{stop_with, HasLeft}

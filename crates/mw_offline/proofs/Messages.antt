@@ -2,7 +2,7 @@
 use Rattle.std.proofs.Common.{◌≡◌, ◌<◌, ◌≤◌, inl, inr, ℕ, List, Option, Some, None, true, false, cond, nat_le, ap, sym, ◌∙◌, arith}
 use Rattle.std.specs.Str.{IsUtf8}
 use Rattle.mw_model.specs.Json.{Json, depth}
-use Rattle.mw_model.specs.Packets.{Packet}
+use Rattle.mw_protocol.specs.Packets.{Packet}
 use Rattle.mw_json.specs.Reading.{max_depth}
 use Rattle.mw_packets_in.specs.OnlyPacket.{IsOnlyPacket, sole_packet}
 use Rattle.mw_offline.specs.Script.{message_packet, packet_read}

@@ -1,6 +1,6 @@
 -- Puts one after another, and the text that is left.
 use Rattle.std.proofs.Common.{◌≡◌, ℕ, List, ◌∷◌, ◌++◌, map, sym, ap, ap₂, ◌∙◌, append_assoc}
-use Rattle.mw_model.specs.Room.{Room}
+use Rattle.mw_protocol.specs.Room.{Room}
 use Rattle.mw_offline.specs.Commands.{command_view}
 use Rattle.mw_offline.specs.Drive.{piece, after, drive_text}
 use Rattle.mw_offline.specs.declared.command.Command as code

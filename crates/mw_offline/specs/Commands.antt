@@ -1,6 +1,6 @@
 -- What a line of a script asks for.
 use Rattle.std.specs.Prelude.{ℕ}
-use Rattle.mw_model.specs.Packets.{Packet}
+use Rattle.mw_protocol.specs.Packets.{Packet}
 use Rattle.mw_packets_in.specs.View.{packet_view}
 use Rattle.mw_offline.specs.declared.command.Command as code
 use Rattle.mw_offline.specs.declared.command.Command.TheVariants.{Open, Send, Take}

@@ -1,6 +1,6 @@
 -- What a script prints.
 use Rattle.std.specs.Prelude.{ℕ, List, [], ◌∷◌, ◌++◌, Option, Some, None, codes, decimal}
-use Rattle.mw_model.specs.Room.{Room, Session, session_of, next, taken, opened, sent}
+use Rattle.mw_protocol.specs.Room.{Room, Session, session_of, next, taken, opened, sent}
 use Rattle.mw_offline.specs.Commands.{Command, opens, sends, takes}
 
 -- a session's message on a line of its own, after the session's number

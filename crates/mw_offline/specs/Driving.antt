@@ -3,7 +3,7 @@ use Rattle.std.specs.Prelude.{◌≡◌, ◌<◌, ◌≤◌, ◌⊎◌, ◌++◌
 use Rattle.std.specs.Io.KnownBytes.{Consumes, IsAtEnd, Keeps, Appends}
 use Rattle.mw_edges.specs.Causes.{PutsFront}
 use Rattle.mw_model.specs.Seed.{Seed}
-use Rattle.mw_model.specs.Room.{empty_room}
+use Rattle.mw_protocol.specs.Room.{empty_room}
 use Rattle.mw_multidata.specs.SeedOf.{SeedOf}
 use Rattle.mw_offline.specs.Commands.{Command}
 use Rattle.mw_offline.specs.Drive.{drive_text}

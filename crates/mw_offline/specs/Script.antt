@@ -3,8 +3,8 @@ use Rattle.std.specs.Prelude.{◌≡◌, ℕ, pos, ◌+◌, ◌==◌, ◌&&◌, 
 use Rattle.std.specs.Ordering.{int_eq}
 use Rattle.mw_model.specs.Json.{Json, depth}
 use Rattle.mw_model.specs.Seed.{Seed}
-use Rattle.mw_model.specs.Packets.{Packet, Connect, connect, sync, location_checks, has_tag}
-use Rattle.mw_model.specs.Room.{made_by}
+use Rattle.mw_protocol.specs.Packets.{Packet, Connect, connect, sync, location_checks, has_tag}
+use Rattle.mw_protocol.specs.Room.{made_by}
 use Rattle.mw_json.specs.Reading.{reading, max_depth}
 use Rattle.mw_packets_in.specs.OnlyPacket.{sole_packet}
 use Rattle.mw_offline.specs.Commands.{Command, opens, sends, takes}

@@ -1,7 +1,7 @@
 ghost use Rattle.std.specs.Prelude.{◌≡◌, ◌&&◌, ◌++◌, ◌∷◌, [], IfOk, OnOk, None, map, is_some, option_map, pos, unwrap_or};
 ghost use Rattle.std.specs.Option.{option_to_list};
 ghost use Rattle.std.specs.Ordering.{int_eq};
-ghost use Rattle.mw_model.specs.Room.{made_by};
+ghost use Rattle.mw_protocol.specs.Room.{made_by};
 ghost use Rattle.mw_packets_in.specs.View.{packet_view};
 ghost use Rattle.mw_offline.specs.Commands.{command_view};
 ghost use Rattle.mw_offline.specs.Gives.{GivesBuilt, IsAdded};

@@ -1,7 +1,7 @@
 ghost use Rattle.std.specs.Prelude.{◌≡◌, ◌≤◌, ◌++◌, IfOk, OnOk, OnErr, map, string_bytes};
 ghost use Rattle.std.specs.Io.KnownBytes.{Appends};
 ghost use Rattle.mw_edges.specs.Causes.{Rose, PutsFront};
-ghost use Rattle.mw_model.specs.Room.{next};
+ghost use Rattle.mw_protocol.specs.Room.{next};
 ghost use Rattle.mw_room.specs.Events.{event_view};
 ghost use Rattle.mw_room.specs.Views.{room_view};
 ghost use Rattle.mw_offline.specs.Commands.{command_view};

@@ -2,7 +2,7 @@
 ghost use Rattle.std.specs.Prelude.{◌≡◌, ◌≤◌, ◌⊎◌, IfOk, IfErr, OnOk, ℕ, List, map};
 ghost use Rattle.std.specs.Io.KnownBytes.{Keeps};
 ghost use Rattle.mw_edges.specs.Causes.{Rose};
-ghost use Rattle.mw_model.specs.Room.{empty_room};
+ghost use Rattle.mw_protocol.specs.Room.{empty_room};
 ghost use Rattle.mw_model.specs.Seed.{Seed};
 ghost use Rattle.mw_room.specs.Views.{room_view};
 ghost use Rattle.mw_offline.specs.Commands.{command_view};

@@ -1,7 +1,7 @@
 -- A message of one packet.
 use Rattle.std.specs.Prelude.{◌≡◌, ◌⊎◌, ℕ, List, Option, Some, None, Result, Ok, Err}
 use Rattle.mw_model.specs.Json.{Json, Items, no_items, item}
-use Rattle.mw_model.specs.Packets.{Packet}
+use Rattle.mw_protocol.specs.Packets.{Packet}
 use Rattle.mw_json.specs.Files.{HasNoReading, IsTooDeep, IsJudged}
 use Rattle.mw_json.specs.Grammar.{Breach, ◌>>=◌, refused, list_at}
 use Rattle.mw_json.specs.declared.refusal.Kind.TheVariants.{WrongKind}

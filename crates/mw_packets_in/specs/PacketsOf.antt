@@ -1,7 +1,7 @@
 -- The packets of clients, after Archipelago's network protocol.
 use Rattle.std.specs.Prelude.{ℕ, ℤ, List, None, Result, Ok, bytes_eq, codes, if◌then◌else◌}
 use Rattle.mw_model.specs.Json.{Json, null, flag, whole, not_whole, words, many, members, Members}
-use Rattle.mw_model.specs.Packets.{Packet, Version, connect, sync, location_checks}
+use Rattle.mw_protocol.specs.Packets.{Packet, Version, connect, sync, location_checks}
 use Rattle.mw_json.specs.Grammar.{Breach, ◌>>=◌, refused, text_at, list_at, object_at, field_at}
 use Rattle.mw_json.specs.Parts.{null_or_at, field_if_at}
 use Rattle.mw_json.specs.Readers.{each_from, field_or_at}

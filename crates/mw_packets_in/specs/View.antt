@@ -1,5 +1,5 @@
 -- What a packet means.
-use Rattle.mw_model.specs.Packets as plain
+use Rattle.mw_protocol.specs.Packets as plain
 use Rattle.mw_packets_in.specs.declared.packet.Packet.{Packet}
 use Rattle.mw_packets_in.specs.declared.packet.Packet.TheVariants.{Connect, Sync, LocationChecks}
 

@@ -13,7 +13,7 @@ pub struct Version {
 }
 
 impl Model for Version {
-    ghost use Rattle.mw_model.specs.Packets as plain;
+    ghost use Rattle.mw_protocol.specs.Packets as plain;
 
     ghost Value = { plain.Version };
 

@@ -1,5 +1,6 @@
 ghost use Rattle.std.specs.Prelude.{◌≡◌};
-ghost use Rattle.mw_model.specs.Packets.{has_tag as has_tag_lem, has_text as has_text_lem};
+ghost use Rattle.mw_model.specs.Texts.{has_text as has_text_lem};
+ghost use Rattle.mw_protocol.specs.Packets.{has_tag as has_tag_lem};
 
 use mw_base::{List, Text};
 

@@ -2,7 +2,7 @@
 use Rattle.std.proofs.Common.{◌≡◌, ℕ, List, [], ◌∷◌, ap, arith}
 use Rattle.std.specs.List.{insert}
 use Rattle.mw_model.specs.Json.{Json, Members, no_members, member, IsWritable, MembersAreWritable}
-use Rattle.mw_model.specs.Messages.{put_member}
+use Rattle.mw_model.specs.Trees.{put_member}
 use Rattle.mw_json.specs.View.{members_of, member_view, members_view}
 use Rattle.mw_json.specs.declared.tree.Member.{Member}
 use Rattle.mw_packets_out.specs.Places.{place_in}

@@ -1,7 +1,8 @@
 -- Trees that can be written, one after another.
 use Rattle.std.proofs.Common.{◌≡◌, ℕ, List, [], ◌∷◌, map, refl, ap}
 use Rattle.mw_model.specs.Json.{Json, words, item, member, MembersAreWritable}
-use Rattle.mw_model.specs.Messages.{GameSum, checksum_members, items_of}
+use Rattle.mw_model.specs.Trees.{items_of}
+use Rattle.mw_protocol.specs.Messages.{GameSum, checksum_members}
 use Rattle.mw_json.specs.View as seen
 use Rattle.mw_json.specs.View.{view, items_view, members_of}
 

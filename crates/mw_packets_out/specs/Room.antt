@@ -1,7 +1,8 @@
 -- RoomInfo: the order of its games, and its members in two halves.
 use Rattle.std.specs.Prelude.{ℕ, pos, List, [], ◌∷◌, codes, map}
 use Rattle.mw_model.specs.Json.{Json, MembersAreOrdered, flag, many, members, no_items, whole, words}
-use Rattle.mw_model.specs.Messages.{GameSum, RoomInfo, checksum_members, game_name, items_of, permissions_json, text_json, version_json}
+use Rattle.mw_model.specs.Trees.{items_of, text_json}
+use Rattle.mw_protocol.specs.Messages.{GameSum, RoomInfo, checksum_members, game_name, permissions_json, version_json}
 
 -- the games ascend strictly in byte order of their names, as the members of an object do
 abbrev pub GamesAscend : List GameSum → Type 0

@@ -1,5 +1,5 @@
 -- What a packet means.
-use Rattle.mw_model.specs.Messages as plain
+use Rattle.mw_protocol.specs.Messages as plain
 use Rattle.mw_packets_out.specs.declared.packet.ServerPacket.{ServerPacket}
 use Rattle.mw_packets_out.specs.declared.packet.ServerPacket.TheVariants.{RoomInfo, Connected, ReceivedItems, RoomUpdate}
 

@@ -1,6 +1,7 @@
 ghost use Rattle.std.specs.Prelude.{◌≡◌, IfOk, map};
 ghost use Rattle.mw_model.specs.Json.{IsWritable, many};
-ghost use Rattle.mw_model.specs.Messages.{connected_json, items_of, player_json};
+ghost use Rattle.mw_model.specs.Trees.{items_of};
+ghost use Rattle.mw_protocol.specs.Messages.{connected_json, player_json};
 ghost use Rattle.mw_json.specs.View.{view};
 
 use crate::lists::ids_tree;

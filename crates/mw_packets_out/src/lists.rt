@@ -1,6 +1,7 @@
 ghost use Rattle.std.specs.Prelude.{◌≡◌, IfOk, map};
 ghost use Rattle.mw_model.specs.Json.{IsWritable, many};
-ghost use Rattle.mw_model.specs.Messages.{id_json, item_json, items_of};
+ghost use Rattle.mw_model.specs.Trees.{id_json, items_of};
+ghost use Rattle.mw_protocol.specs.Messages.{item_json};
 ghost use Rattle.mw_json.specs.View.{view};
 
 use mw_base::{List, Memory, NetItem};

@@ -13,7 +13,7 @@ pub struct NetworkPlayer {
 }
 
 impl Model for NetworkPlayer {
-    ghost use Rattle.mw_model.specs.Messages as plain;
+    ghost use Rattle.mw_protocol.specs.Messages as plain;
 
     ghost Value = { plain.NetworkPlayer };
 
@@ -32,7 +32,7 @@ pub struct NetworkSlot {
 }
 
 impl Model for NetworkSlot {
-    ghost use Rattle.mw_model.specs.Messages as plain;
+    ghost use Rattle.mw_protocol.specs.Messages as plain;
 
     ghost Value = { plain.NetworkSlot };
 
@@ -59,7 +59,7 @@ pub struct Connected {
 }
 
 impl Model for Connected {
-    ghost use Rattle.mw_model.specs.Messages as plain;
+    ghost use Rattle.mw_protocol.specs.Messages as plain;
 
     ghost Value = { plain.Connected };
 

@@ -11,7 +11,7 @@ pub struct GameSum {
 }
 
 impl Model for GameSum {
-    ghost use Rattle.mw_model.specs.Messages as plain;
+    ghost use Rattle.mw_protocol.specs.Messages as plain;
 
     ghost Value = { plain.GameSum };
 
@@ -43,7 +43,7 @@ pub struct RoomInfo {
 
 impl Model for RoomInfo {
     ghost use Rattle.mw_base.specs.Permissions.{permission_number};
-    ghost use Rattle.mw_model.specs.Messages as plain;
+    ghost use Rattle.mw_protocol.specs.Messages as plain;
     ghost use Rattle.mw_packets_out.specs.Room.{GamesAscend};
 
     ghost Value = { plain.RoomInfo };

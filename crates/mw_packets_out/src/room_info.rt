@@ -1,6 +1,7 @@
 ghost use Rattle.std.specs.Prelude.{◌≡◌, ◌++◌, IfOk, OnOk, map};
 ghost use Rattle.mw_model.specs.Json.{IsWritable, MembersAreWritable, many, members};
-ghost use Rattle.mw_model.specs.Messages.{checksum_members, game_name, items_of, permissions_json, room_info_json, text_json, version_json};
+ghost use Rattle.mw_model.specs.Trees.{items_of, text_json};
+ghost use Rattle.mw_protocol.specs.Messages.{checksum_members, game_name, permissions_json, room_info_json, version_json};
 ghost use Rattle.mw_json.specs.View.{view, member_view, members_of};
 ghost use Rattle.mw_packets_out.specs.Room.{room_front, room_rest};
 

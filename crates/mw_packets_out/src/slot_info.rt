@@ -1,6 +1,7 @@
 ghost use Rattle.std.specs.Prelude.{◌≡◌, ◌≤◌, IfOk, OnOk, decimal, length, map};
 ghost use Rattle.mw_model.specs.Json.{IsWritable, MembersAreWritable, members};
-ghost use Rattle.mw_model.specs.Messages.{put_member, slot_info_members, slot_json};
+ghost use Rattle.mw_model.specs.Trees.{put_member};
+ghost use Rattle.mw_protocol.specs.Messages.{slot_info_members, slot_json};
 ghost use Rattle.mw_json.specs.View.{view, members_view};
 ghost use Rattle.mw_packets_out.specs.Places.{place_in};
 

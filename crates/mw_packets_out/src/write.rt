@@ -1,7 +1,7 @@
 ghost use Rattle.std.specs.Prelude.{◌≡◌, IfOk, map};
 ghost use Rattle.mw_model.specs.Items.{NetItem as plain_item};
 ghost use Rattle.mw_model.specs.Json.{IsWritable};
-ghost use Rattle.mw_model.specs.Messages.{message_json, message_text, packet_json, received_items_json, room_update_json};
+ghost use Rattle.mw_protocol.specs.Messages.{message_json, message_text, packet_json, received_items_json, room_update_json};
 ghost use Rattle.mw_json.specs.View.{view};
 ghost use Rattle.mw_packets_out.specs.View.{packet_view};
 
@@ -71,7 +71,7 @@ fn message_tree(alloc: Global, packets: &[ServerPacket]) -> Result<Tree, Memory>
 }
 
 /// A message's text: the list of its packets as compact JSON. Memory is its only error.
-#[tactic(auto, unfolding(mw_model::specs::Messages::message_text))]
+#[tactic(auto, unfolding(mw_protocol::specs::Messages::message_text))]
 pub fn write_message(alloc: Global, packets: &List<ServerPacket>) -> Result<Text, Memory>
     ensures { IfOk result (λ t. t ≡ message_text (map packet_view packets.now)) }
 {

@@ -1,5 +1,5 @@
 -- A record as plain data.
-use Rattle.mw_model.specs.Records as plain
+use Rattle.mw_protocol.specs.Records as plain
 use Rattle.mw_records.specs.declared.record.Record.{Record}
 use Rattle.mw_records.specs.declared.record.Record.TheVariants.{Checks}
 

@@ -3,11 +3,11 @@ use Rattle.std.proofs.Common.{◌≡◌, ℕ, zero, suc, ◌+◌, ◌==◌, List
 use Rattle.std.specs.Prelude.{slice_get, is_some}
 use Rattle.std.proofs.lemmas.Bool.Decides.{Decides-eqb}
 use Rattle.mw_model.specs.Seed.{Seed}
-use Rattle.mw_model.specs.Records.{Record}
-use Rattle.mw_model.specs.Packets.{Packet, connect, sync, location_checks}
-use Rattle.mw_model.specs.Messages.{connected}
-use Rattle.mw_model.specs.Checks.{checked}
-use Rattle.mw_model.specs.Room.{Room, Session, Connection, records_of, made_by, connected_of, connected_answer, growth_owed, items_from, owed_to_sender, or_else, message_of, with_texts, sender_after, other_after, sessions_after, connection_in, nth_session}
+use Rattle.mw_protocol.specs.Records.{Record}
+use Rattle.mw_protocol.specs.Packets.{Packet, connect, sync, location_checks}
+use Rattle.mw_protocol.specs.Messages.{connected}
+use Rattle.mw_protocol.specs.Checks.{checked}
+use Rattle.mw_protocol.specs.Room.{Room, Session, Connection, records_of, made_by, connected_of, connected_answer, growth_owed, items_from, owed_to_sender, or_else, message_of, with_texts, sender_after, other_after, sessions_after, connection_in, nth_session}
 use Rattle.mw_room.specs.Log.{Logged, view_in}
 use Rattle.mw_room.specs.Stands.{Stands}
 use Rattle.mw_room.specs.Answering.{new_in, other_in, welcome_in, answer_in, after_in, all_after, records_in}

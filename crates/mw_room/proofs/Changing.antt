@@ -3,12 +3,12 @@ use Rattle.std.proofs.Common.{◌≡◌, ℕ, suc, ◌+◌, ◌==◌, ◌<◌, �
 use Rattle.std.specs.Option.{option_to_list}
 use Rattle.std.proofs.lemmas.List.{length-map, map-append, take_more, take_all, drop_all}
 use Rattle.mw_model.specs.Seed.{Seed}
-use Rattle.mw_model.specs.Packets.{Packet}
-use Rattle.mw_model.specs.Room as plain
+use Rattle.mw_protocol.specs.Packets.{Packet}
+use Rattle.mw_protocol.specs.Room as plain
 use Rattle.mw_room.specs.Log.{Logged}
 use Rattle.mw_room.specs.Answering.{after_in, all_after}
 use Rattle.mw_room.specs.Fits.{ChangesFit}
-use Rattle.mw_room.specs.Space.{HasSpace}
+use Rattle.mw_base.specs.Space.{HasSpace}
 use Rattle.mw_room.specs.Views.{session_view, changed, all_changed}
 use Rattle.mw_room.specs.declared.session.Session.{Session}
 use Rattle.mw_room.specs.declared.session.Change.{Change}

@@ -5,8 +5,9 @@ use Rattle.std.specs.Ordering.{nat_cmp}
 use Rattle.std.specs.Cmp.Lexicographic.{slice_cmp}
 use Rattle.mw_model.specs.Json.{ComeAfter, MembersAreOrdered}
 use Rattle.mw_model.specs.Seed.{Slot, Game}
-use Rattle.mw_model.specs.Messages.{GameSum, checksum_members, checksum_of}
-use Rattle.mw_model.specs.Room.{plays, games_played}
+use Rattle.mw_model.specs.Games.{checksum_of}
+use Rattle.mw_protocol.specs.Messages.{GameSum, checksum_members}
+use Rattle.mw_protocol.specs.Room.{plays, games_played}
 use Rattle.mw_multidata.specs.Ascending.{ComesBefore, NamesAscend}
 use Rattle.mw_multidata.specs.SeedKept.{game_name}
 use Rattle.mw_packets_out.specs.Room.{GamesAscend}

@@ -3,10 +3,10 @@ use Rattle.std.proofs.Common.{◌≡◌, ℕ, ℤ, ◌+◌, ◌*◌, List, [], �
 use Rattle.std.specs.List.{filter}
 use Rattle.std.proofs.lemmas.List.{map-append}
 use Rattle.mw_model.specs.Seed.{Seed, slot_of}
-use Rattle.mw_model.specs.Records.{Record}
-use Rattle.mw_model.specs.Packets.{location_checks}
-use Rattle.mw_model.specs.Checks.{Check, has_check, checks_at, asked, unseen, checked, view, keeps, start_items, items_found, found_item}
-use Rattle.mw_model.specs.Room.{Connection, checked_of, points, locations_in, location_of, known, new_locations, checks_record, records_of, update_with, update_owed, items_from, growth_owed}
+use Rattle.mw_protocol.specs.Records.{Record}
+use Rattle.mw_protocol.specs.Packets.{location_checks}
+use Rattle.mw_protocol.specs.Checks.{Check, has_check, checks_at, asked, unseen, checked, view, keeps, start_items, items_found, found_item}
+use Rattle.mw_protocol.specs.Room.{Connection, checked_of, points, locations_in, location_of, known, new_locations, checks_record, records_of, update_with, update_owed, items_from, growth_owed}
 use Rattle.mw_room.specs.Log.{Logged, logged_check, checks_in, AllHeld, items_in, kept_in, starts_kept, view_in, locations_logged, points_in, growth_in, fresh_entries}
 use Rattle.mw_room.specs.Stands.{Stands}
 use Rattle.mw_room.proofs.Journal.{fresh, checked-append, filter-append, locations_in-append, drop-grown}

@@ -1,9 +1,9 @@
 -- A journal that grows: what its checks come to.
 use Rattle.std.proofs.Common.{◌≡◌, ℕ, List, [], ◌∷◌, ◌++◌, ◌||◌, ◌&&◌, ◌==◌, Bool, true, false, length, drop, filter, refl, sym, ap, ◌∙◌, append_assoc, append-nil, cond}
 use Rattle.mw_model.specs.Seed.{Seed, slot_of, held_at}
-use Rattle.mw_model.specs.Records.{Record}
-use Rattle.mw_model.specs.Checks.{Check, same_check, has_check, asked_by, asked, unseen, distinct, checked, items_found, item_for, received, view, keeps, start_items}
-use Rattle.mw_model.specs.Room.{locations_in, checked_of}
+use Rattle.mw_protocol.specs.Records.{Record}
+use Rattle.mw_protocol.specs.Checks.{Check, same_check, has_check, asked_by, asked, unseen, distinct, checked, items_found, item_for, received, view, keeps, start_items}
+use Rattle.mw_protocol.specs.Room.{locations_in, checked_of}
 
 pub asked-append : (xs ys : List Record) → asked (xs ++ ys) ≡ asked xs ++ asked ys
 asked-append [] ys = refl

@@ -3,7 +3,7 @@ use Rattle.std.proofs.Common.{◌≡◌, ℕ, zero, suc, ◌-◌, ◌≤◌, ◌
 use Rattle.std.specs.Prelude.{slice_get, option_map, IsSome}
 use Rattle.std.specs.Option.{option_copied}
 use denote.Bor.{Bor}
-use Rattle.mw_model.specs.Room as plain
+use Rattle.mw_protocol.specs.Room as plain
 use Rattle.mw_room.specs.States.{untaken_in}
 use Rattle.mw_room.specs.Views.{session_view}
 use Rattle.mw_room.specs.declared.session.Session.{Session}

@@ -1,10 +1,10 @@
 -- What a packet records and answers, by the log.
 use Rattle.std.specs.Prelude.{ℕ, ◌==◌, ◌+◌, ◌++◌, ◌∷◌, [], List, Bool, true, false, Option, Some, None, map}
 use Rattle.mw_model.specs.Seed.{Seed}
-use Rattle.mw_model.specs.Records.{Record}
-use Rattle.mw_model.specs.Packets.{Packet, connect, sync, location_checks}
-use Rattle.mw_model.specs.Messages.{ServerPacket, connected}
-use Rattle.mw_model.specs.Room.{Connection, Session, location_of, checks_record, made_by, or_else, connected_of, items_from, message_of, with_texts}
+use Rattle.mw_protocol.specs.Records.{Record}
+use Rattle.mw_protocol.specs.Packets.{Packet, connect, sync, location_checks}
+use Rattle.mw_protocol.specs.Messages.{ServerPacket, connected}
+use Rattle.mw_protocol.specs.Room.{Connection, Session, location_of, checks_record, made_by, or_else, connected_of, items_from, message_of, with_texts}
 use Rattle.mw_room.specs.Log.{Logged, checks_in, fresh_entries, view_in, growth_in}
 
 -- the entries that a packet adds

@@ -1,5 +1,5 @@
 -- An event as plain data.
-use Rattle.mw_model.specs.Room as plain
+use Rattle.mw_protocol.specs.Room as plain
 use Rattle.mw_packets_in.specs.View.{packet_view}
 use Rattle.mw_room.specs.declared.event.Event.{Event}
 use Rattle.mw_room.specs.declared.event.Event.TheVariants.{Open, Packet}

@@ -1,6 +1,6 @@
 -- A plan that was made of a room.
 use Rattle.std.specs.Prelude.{◌<◌, ◌+◌, ◌^◌, ◌++◌, ◌∷◌, [], List, map, length, vec_len, option_to_list}
-use Rattle.mw_room.specs.Space.{HasSpace}
+use Rattle.mw_base.specs.Space.{HasSpace}
 use Rattle.mw_room.specs.Stands.{Stands}
 use Rattle.mw_room.specs.Views.{plan_records}
 use Rattle.mw_records.specs.Records.{record_view}

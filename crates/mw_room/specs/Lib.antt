@@ -4,7 +4,6 @@ pub mod Events
 pub mod Fits
 pub mod Log
 pub mod Playable
-pub mod Space
 pub mod Stands
 pub mod States
 pub mod Views

@@ -2,9 +2,9 @@
 use Rattle.std.specs.Prelude.{◌≡◌, ℕ, ℤ, ◌==◌, ◌&&◌, ◌++◌, ◌∷◌, [], List, Bool, true, false, Option, Some, None, map, filter, length, option_to_list, if◌then◌else◌}
 use Rattle.mw_model.specs.Seed.{Seed, Held, slot_of, held_among, held_at}
 use Rattle.mw_model.specs.Items.{NetItem}
-use Rattle.mw_model.specs.Checks.{Check, has_check, start_items, found_item, keeps}
-use Rattle.mw_model.specs.Messages.{ServerPacket}
-use Rattle.mw_model.specs.Room.{Connection, locations_in, points, update_with, items_from}
+use Rattle.mw_protocol.specs.Checks.{Check, has_check, start_items, found_item, keeps}
+use Rattle.mw_protocol.specs.Messages.{ServerPacket}
+use Rattle.mw_protocol.specs.Room.{Connection, locations_in, points, update_with, items_from}
 
 -- a check in a team, with what stands at its location
 pub record Logged : Type 0 where

@@ -2,8 +2,8 @@
 use Rattle.std.specs.Prelude.{◌≡◌, ℕ, ℤ, Some, List, [], ◌∷◌, refl}
 use Rattle.std.specs.Coded.{Coded, Coded-set, code_by, coded×, coded_ℕ, coded_ℤ, coded_list, coded_option, ×_prop, Unit-prop}
 use Rattle.mw_model.specs.Seed.{Seed, Held, held_at}
-use Rattle.mw_model.specs.Records.{Record}
-use Rattle.mw_model.specs.Checks.{Check, checked}
+use Rattle.mw_protocol.specs.Records.{Record}
+use Rattle.mw_protocol.specs.Checks.{Check, checked}
 use Rattle.mw_room.specs.Log.{Logged, checks_in, AllHeld}
 
 abbrev pub held_code : Coded Held

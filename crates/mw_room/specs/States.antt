@@ -1,6 +1,6 @@
 -- What a session waits for.
 use Rattle.std.specs.Prelude.{ℕ, List, [], Option, Some, None, IsSome}
-use Rattle.mw_model.specs.Room.{Room, Session, session_of}
+use Rattle.mw_protocol.specs.Room.{Room, Session, session_of}
 use Rattle.mw_room.specs.declared.state.SessionState.{SessionState}
 use Rattle.mw_room.specs.declared.state.SessionState.TheVariants.{Shut, Ready}
 

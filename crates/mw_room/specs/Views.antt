@@ -1,7 +1,7 @@
 -- The room as plain data.
 use Rattle.std.specs.Prelude.{◌++◌, ◌∷◌, [], ℕ, List, map, option_to_list}
-use Rattle.mw_model.specs.Room as plain
-use Rattle.mw_model.specs.Records as recorded
+use Rattle.mw_protocol.specs.Room as plain
+use Rattle.mw_protocol.specs.Records as recorded
 use Rattle.mw_records.specs.Records.{record_view}
 use Rattle.mw_room.specs.declared.session.Session.{Session}
 use Rattle.mw_room.specs.declared.session.Change.{Change}

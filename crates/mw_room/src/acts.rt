@@ -1,6 +1,6 @@
 ghost use Rattle.std.specs.Prelude.{◌≡◌, ◌+◌, ◌∷◌, [], IfOk, length, map, option_map, slice_get};
 ghost use Rattle.std.specs.Option.{option_copied};
-ghost use Rattle.mw_model.specs.Room.{empty_room, new_session as new_session_lem, next, records_by, taken, nth_session, connection_in, session_of, opened, sent};
+ghost use Rattle.mw_protocol.specs.Room.{empty_room, new_session as new_session_lem, next, records_by, taken, nth_session, connection_in, session_of, opened, sent};
 ghost use Rattle.mw_packets_in.specs.View.{packet_view};
 ghost use Rattle.mw_room.specs.Events.{event_view};
 ghost use Rattle.mw_room.specs.Fits.{Fits};
@@ -10,14 +10,13 @@ ghost use Rattle.mw_room.specs.Views.{room_view, session_view, plan_records, pla
 use crate::answers::room_info;
 use crate::changes::new_entries;
 use crate::event::Event;
-use crate::growth::Growth;
 use crate::plan::Plan;
 use crate::playable::playable;
 use crate::room::Room;
 use crate::session::{Connection, Session};
 use crate::state::SessionState;
 use crate::steps::{change_all, changes_for, records_for};
-use mw_base::{List, Memory, SessionId, Text};
+use mw_base::{Growth, List, Memory, SessionId, Text};
 use mw_multidata::RoomTables;
 use mw_packets_in::Packet;
 use mw_packets_out::{ServerPacket, write_message};

@@ -1,6 +1,6 @@
 ghost use Rattle.std.specs.Prelude.{◌≡◌, ◌≤◌, ◌<◌, ◌^◌, ◌++◌, IfOk, OnOk, length, map, filter, not};
-ghost use Rattle.mw_model.specs.Messages.{checksum_of};
-ghost use Rattle.mw_model.specs.Room.{plays as plays_lem, games_played as games_played_lem, room_info_of, name_in as name_in_lem, team_players, players_of as players_of_lem, slot_infos as slot_infos_lem, connected_of, locations_among, is_checked};
+ghost use Rattle.mw_model.specs.Games.{checksum_of};
+ghost use Rattle.mw_protocol.specs.Room.{plays as plays_lem, games_played as games_played_lem, room_info_of, name_in as name_in_lem, team_players, players_of as players_of_lem, slot_infos as slot_infos_lem, connected_of, locations_among, is_checked};
 ghost use Rattle.mw_room.specs.Log.{checks_in};
 ghost use Rattle.mw_room.specs.Playable.{IsPlayable};
 

@@ -1,21 +1,20 @@
 ghost use Rattle.std.specs.Prelude.{◌≡◌, ◌+◌, ◌<◌, ◌^◌, ℕ, IfOk, map, length, option_to_list};
-ghost use Rattle.mw_model.specs.Room.{made_by, message_of, items_from};
+ghost use Rattle.mw_protocol.specs.Room.{made_by, message_of, items_from};
 ghost use Rattle.mw_packets_in.specs.View.{packet_view as asked};
 ghost use Rattle.mw_packets_out.specs.View.{packet_view as told};
 ghost use Rattle.mw_room.specs.Answering.{other_in, welcome_in, answer_in, after_in, new_in};
 ghost use Rattle.mw_room.specs.Log.{view_in};
 ghost use Rattle.mw_room.specs.Playable.{IsPlayable};
-ghost use Rattle.mw_room.specs.Space.{HasSpace};
+ghost use Rattle.mw_base.specs.Space.{HasSpace};
 ghost use Rattle.mw_room.specs.Views.{session_view, changed};
 
 use crate::answers::connected;
 use crate::connect::connection_made;
-use crate::growth::Growth;
 use crate::log::new_checks;
 use crate::logged::Logged;
 use crate::owed::{add_received, growth_of, view_of};
 use crate::session::{Change, Connection, Session};
-use mw_base::{List, Memory, Text};
+use mw_base::{Growth, List, Memory, Text};
 use mw_multidata::Multidata;
 use mw_packets_in::Packet;
 use mw_packets_out::{ServerPacket, write_message};

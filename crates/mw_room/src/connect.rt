@@ -1,7 +1,7 @@
 ghost use Rattle.std.specs.Prelude.{◌≡◌, ◌≤◌, pos, length, unwrap_or, Some, None, if◌then◌else◌};
 ghost use Rattle.std.specs.Option.{option_copied};
-ghost use Rattle.mw_model.specs.Packets.{team_named as team_named_lem, player_named as player_named_lem, text_or_empty, looks_on as looks_on_lem, is_game_of as is_game_of_lem, is_old as is_old_lem, is_mask, is_wrong_password as is_wrong_password_lem, slot_played as slot_played_lem};
-ghost use Rattle.mw_model.specs.Room.{made_by, mask_of};
+ghost use Rattle.mw_protocol.specs.Packets.{team_named as team_named_lem, player_named as player_named_lem, text_or_empty, looks_on as looks_on_lem, is_game_of as is_game_of_lem, is_old as is_old_lem, is_mask, is_wrong_password as is_wrong_password_lem, slot_played as slot_played_lem};
+ghost use Rattle.mw_protocol.specs.Room.{made_by, mask_of};
 ghost use Rattle.mw_packets_in.specs.View.{packet_view};
 ghost use Rattle.mw_room.specs.Accepting.{accept as accept_lem, connection_unless as connection_unless_lem};
 ghost use Rattle.mw_room.specs.Playable.{IsPlayable};
@@ -22,7 +22,7 @@ pub struct Player {
 }
 
 impl Model for Player {
-    ghost use Rattle.mw_model.specs.Packets as plain;
+    ghost use Rattle.mw_protocol.specs.Packets as plain;
 
     ghost Value = { plain.Player };
 

@@ -6,7 +6,6 @@ mod answers;
 mod changes;
 mod connect;
 mod event;
-mod growth;
 mod log;
 mod logged;
 mod owed;

@@ -1,10 +1,9 @@
 ghost use Rattle.std.specs.Prelude.{◌≡◌, map};
 ghost use Rattle.mw_records.specs.Records.{record_view};
 
-use crate::growth::Growth;
 use crate::logged::Logged;
 use crate::session::{Change, Session};
-use mw_base::{List, Text};
+use mw_base::{Growth, List, Text};
 use mw_records::Record;
 
 /// What an event does to a room, with the memory that it takes.

@@ -1,5 +1,4 @@
-use crate::growth::Growth;
-use mw_base::{SlotId, TeamId, Text};
+use mw_base::{Growth, SlotId, TeamId, Text};
 use std::marker::Model;
 
 /// The team and slot that a session plays, and the mask of the items that it wants.
@@ -14,7 +13,7 @@ pub struct Connection {
 }
 
 impl Model for Connection {
-    ghost use Rattle.mw_model.specs.Room as plain;
+    ghost use Rattle.mw_protocol.specs.Room as plain;
 
     ghost Value = { plain.Connection };
 
@@ -41,7 +40,7 @@ pub struct Session {
 
 impl Session {
     ghost use Rattle.std.specs.Prelude.{◌≡◌, length, option_to_list};
-    ghost use Rattle.mw_room.specs.Space.{HasSpace};
+    ghost use Rattle.mw_base.specs.Space.{HasSpace};
     ghost use Rattle.mw_room.specs.Views.{session_view, changed};
 
     /// Makes a change, at a length of the journal.

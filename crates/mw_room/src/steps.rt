@@ -3,7 +3,7 @@ ghost use Rattle.mw_packets_in.specs.View.{packet_view};
 ghost use Rattle.mw_records.specs.Records.{record_view};
 ghost use Rattle.mw_room.specs.Answering.{all_after, records_in};
 ghost use Rattle.mw_room.specs.Fits.{ChangesFit};
-ghost use Rattle.mw_model.specs.Room.{location_of};
+ghost use Rattle.mw_protocol.specs.Room.{location_of};
 ghost use Rattle.mw_room.specs.Log.{checks_in};
 ghost use Rattle.mw_room.specs.Playable.{IsPlayable};
 ghost use Rattle.mw_room.specs.Views.{session_view, all_changed};

@@ -1,6 +1,6 @@
 use Rattle.std.proofs.Common.{◌≡◌, map, take}
 use Rattle.mw_model.specs.Json.{ItemsAreWritable}
-use Rattle.mw_model.specs.Messages.{text_json}
+use Rattle.mw_model.specs.Trees.{text_json}
 use Rattle.mw_json.specs.View.{view, items_view}
 use Rattle.mw_multidata.proofs.slot_trees.texts_tree.Given as goal
 

@@ -1,5 +1,5 @@
 use Rattle.std.proofs.Common.{◌≡◌, drop}
-use Rattle.mw_model.specs.Packets.{has_text}
+use Rattle.mw_model.specs.Texts.{has_text}
 use Rattle.mw_packets_in.proofs.tags.has_text.Given as goal
 
 abbrev pub invariant-loop-first : goal.invariant-loop-first

@@ -1,6 +1,6 @@
 use Rattle.std.proofs.Common.{◌≡◌, map, take}
 use Rattle.mw_model.specs.Json.{ItemsAreWritable}
-use Rattle.mw_model.specs.Messages.{id_json}
+use Rattle.mw_model.specs.Trees.{id_json}
 use Rattle.mw_json.specs.View.{view, items_view}
 use Rattle.mw_packets_out.proofs.lists.ids_tree.Given as goal
 

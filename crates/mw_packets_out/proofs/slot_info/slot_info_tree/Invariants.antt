@@ -1,6 +1,6 @@
 use Rattle.std.proofs.Common.{◌≡◌, ◌≤◌, drop, length}
 use Rattle.mw_model.specs.Json.{MembersAreWritable}
-use Rattle.mw_model.specs.Messages.{slot_info_members}
+use Rattle.mw_protocol.specs.Messages.{slot_info_members}
 use Rattle.mw_json.specs.View.{members_view}
 use Rattle.mw_packets_out.proofs.slot_info.slot_info_tree.Given as goal
 

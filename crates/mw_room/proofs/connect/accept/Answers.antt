@@ -1,5 +1,5 @@
 use Rattle.std.proofs.Common.{◌≡◌, ap, ◌∙◌}
-use Rattle.mw_model.specs.Packets.{Connect, player_named, is_game_of, slot_played}
+use Rattle.mw_protocol.specs.Packets.{Connect, player_named, is_game_of, slot_played}
 use Rattle.mw_room.proofs.Accepted.{accepted_is}
 use Rattle.mw_room.proofs.connect.accept.Goals as goal
 

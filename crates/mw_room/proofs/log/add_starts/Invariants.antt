@@ -1,6 +1,6 @@
 use Rattle.std.proofs.Common.{◌≡◌, ◌++◌, drop, map}
 use Rattle.std.specs.List.{filter}
-use Rattle.mw_model.specs.Checks.{keeps, start_item}
+use Rattle.mw_protocol.specs.Checks.{keeps, start_item}
 use Rattle.mw_room.proofs.log.add_starts.Given as goal
 
 abbrev pub invariant-loop-start : goal.invariant-loop-start

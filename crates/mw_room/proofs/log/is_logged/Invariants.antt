@@ -1,5 +1,5 @@
 use Rattle.std.proofs.Common.{◌≡◌, drop}
-use Rattle.mw_model.specs.Checks.{has_check}
+use Rattle.mw_protocol.specs.Checks.{has_check}
 use Rattle.mw_room.specs.Log.{checks_in}
 use Rattle.mw_room.proofs.log.is_logged.Given as goal
 

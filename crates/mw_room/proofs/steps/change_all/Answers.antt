@@ -2,7 +2,7 @@ use Rattle.std.proofs.Common.{◌≡◌, [], ◌∷◌, ◌++◌, length, map, g
 use Rattle.std.specs.Option.{option_to_list}
 use Rattle.std.proofs.lemmas.List.{length-map}
 use Rattle.mw_room.specs.Fits.{ChangesFit}
-use Rattle.mw_room.specs.Space.{HasSpace}
+use Rattle.mw_base.specs.Space.{HasSpace}
 use Rattle.mw_room.specs.Views.{session_view, changed, all_changed}
 use Rattle.mw_room.proofs.Changing.{all_changed-none, all_changed-last, all_changed-past, fits_last, fits_front, fits_past, nothing_left}
 use Rattle.mw_room.proofs.steps.change_all.Goals as goal

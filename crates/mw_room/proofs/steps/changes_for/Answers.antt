@@ -3,7 +3,7 @@ use Rattle.std.specs.Option.{option_to_list}
 use Rattle.mw_packets_in.specs.View.{packet_view}
 use Rattle.mw_room.specs.Answering.{after_in, all_after}
 use Rattle.mw_room.specs.Fits.{ChangesFit}
-use Rattle.mw_room.specs.Space.{HasSpace}
+use Rattle.mw_base.specs.Space.{HasSpace}
 use Rattle.mw_room.specs.Views.{session_view, changed, all_changed}
 use Rattle.mw_room.specs.declared.session.Session.{Session}
 use Rattle.mw_room.specs.declared.session.Change.{Change}

@@ -1,7 +1,7 @@
 use Rattle.std.proofs.Common.{◌≡◌, ◌++◌, List, length, map, ap, ap₂, ◌∙◌, arith}
 use Rattle.std.proofs.lemmas.List.{map-append}
-use Rattle.mw_model.specs.Records as recorded
-use Rattle.mw_model.specs.Room as plain
+use Rattle.mw_protocol.specs.Records as recorded
+use Rattle.mw_protocol.specs.Room as plain
 use Rattle.mw_records.specs.Records.{record_view}
 use Rattle.mw_records.specs.declared.record.Record.{Record}
 use Rattle.mw_room.specs.Views.{session_view, all_changed}

@@ -1,5 +1,5 @@
 use Rattle.std.proofs.Common.{◌≡◌, [], map, sym, ap, subst, ◌∙◌, arith}
-use Rattle.mw_model.specs.Checks.{checked}
+use Rattle.mw_protocol.specs.Checks.{checked}
 use Rattle.mw_records.specs.Records.{record_view}
 use Rattle.mw_room.specs.Playable.{IsPlayable}
 use Rattle.mw_room.specs.Log.{checks_in, AllHeld}

@@ -1,11 +1,11 @@
 use Rattle.std.proofs.Common.{◌≡◌, ◌∷◌, ◌++◌, ◌+◌, ◌<◌, ◌^◌, [], List, length, map, sym, ap, ap₂, ◌∙◌, subst, arith, append-nil}
-use Rattle.mw_model.specs.Records as recorded
-use Rattle.mw_model.specs.Room as plain
+use Rattle.mw_protocol.specs.Records as recorded
+use Rattle.mw_protocol.specs.Room as plain
 use Rattle.mw_records.specs.Records.{record_view}
 use Rattle.mw_records.specs.declared.record.Record.{Record}
 use Rattle.mw_room.specs.Fits.{ChangesFit}
 use Rattle.mw_room.specs.Log.{Logged}
-use Rattle.mw_room.specs.Space.{HasSpace}
+use Rattle.mw_base.specs.Space.{HasSpace}
 use Rattle.mw_room.specs.Stands.{Stands}
 use Rattle.mw_room.specs.Views.{room_view, session_view, all_changed}
 use Rattle.mw_room.specs.declared.session.Change.{Change}

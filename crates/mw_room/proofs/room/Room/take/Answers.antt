@@ -1,6 +1,6 @@
 use Rattle.std.proofs.Common.{◌≡◌, ◌<◌, ◌-◌, [], ℕ, List, Vec, Global, Option, length, map, get_or, set, ap, ap₂, ◌∙◌, subst}
 use Rattle.std.proofs.lemmas.List.{length-map}
-use Rattle.mw_model.specs.Room as plain
+use Rattle.mw_protocol.specs.Room as plain
 use Rattle.mw_records.specs.Records.{record_view}
 use Rattle.mw_room.specs.Views.{session_view}
 use Rattle.mw_room.specs.declared.session.Session.{Session}

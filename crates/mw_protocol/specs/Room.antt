@@ -2,10 +2,11 @@
 use Rattle.std.specs.Prelude.{ℕ, ℤ, zero, suc, pos, ◌+◌, ◌*◌, ◌==◌, ◌&&◌, ◌||◌, ◌++◌, ◌∷◌, [], List, Bool, Option, Some, None, true, false, not, length, drop, map, filter, slice_get, is_some, unwrap_or, bytes_eq, if◌then◌else◌}
 use Rattle.mw_model.specs.Seed.{Seed, Slot, Game, Held, held_at}
 use Rattle.mw_model.specs.Items.{NetItem}
-use Rattle.mw_model.specs.Records.{Record, checks}
-use Rattle.mw_model.specs.Checks.{Check, has_check, checks_at, unseen, checked, view}
-use Rattle.mw_model.specs.Packets.{Packet, Connect, connect, sync, location_checks, Player, player_named, connect_errors}
-use Rattle.mw_model.specs.Messages.{ServerPacket, RoomInfo, GameSum, Connected, NetworkPlayer, NetworkSlot, room_info, connected, received_items, room_update, checksum_of, message_text}
+use Rattle.mw_protocol.specs.Records.{Record, checks}
+use Rattle.mw_protocol.specs.Checks.{Check, has_check, checks_at, unseen, checked, view}
+use Rattle.mw_protocol.specs.Packets.{Packet, Connect, connect, sync, location_checks, Player, player_named, connect_errors}
+use Rattle.mw_model.specs.Games.{checksum_of}
+use Rattle.mw_protocol.specs.Messages.{ServerPacket, RoomInfo, GameSum, Connected, NetworkPlayer, NetworkSlot, room_info, connected, received_items, room_update, message_text}
 
 -- the team and slot that a session plays, and what it wants to hear of
 pub record Connection : Type 0 where

@@ -1,13 +1,9 @@
 -- What a room tells a session, and its JSON, after Archipelago's network protocol.
-use Rattle.std.specs.Prelude.{ℕ, ℤ, pos, ◌∷◌, [], List, Bool, codes, decimal, map, if◌then◌else◌}
-use Rattle.std.specs.Ordering.{nat_cmp, is_lt}
-use Rattle.std.specs.Cmp.Lexicographic.{slice_cmp}
-use Rattle.sha1.specs.Sha1.{sha1}
-use Rattle.hex.specs.Hex.{encode_lower}
+use Rattle.std.specs.Prelude.{ℕ, ℤ, pos, ◌∷◌, [], List, Bool, codes, decimal, map}
 use Rattle.mw_model.specs.Items.{NetItem}
 use Rattle.mw_model.specs.Json.{Json, flag, whole, words, many, members, Items, no_items, item, Members, no_members, member}
-use Rattle.mw_model.specs.Seed.{Game, NamedId}
 use Rattle.mw_model.specs.Spelling.{spelling}
+use Rattle.mw_model.specs.Trees.{items_of, put_member, text_json, id_json}
 
 -- a game, and the checksum of its names
 pub record GameSum : Type 0 where
@@ -54,15 +50,6 @@ pub data ServerPacket : Type 0 where
 
 -- ---- JSON
 
-abbrev pub items_of : List Json → Items
-items_of [] = no_items
-items_of (j ∷ js) = item j (items_of js)
-
--- a member more, at its place in byte order
-abbrev pub put_member : List ℕ → Json → Members → Members
-put_member name j no_members = member name j no_members
-put_member name j (member other k ms) = if is_lt (slice_cmp nat_cmp name other) then member name j (member other k ms) else member other k (put_member name j ms)
-
 abbrev pub version_json : Json
 version_json =
     members (member (codes "build") (whole (pos 0))
@@ -103,12 +90,6 @@ slot_info_members (s ∷ ss) = put_member (decimal s.slot) (slot_json s) (slot_i
 abbrev pub checksum_members : List GameSum → Members
 checksum_members [] = no_members
 checksum_members (g ∷ gs) = member g.game (words g.checksum) (checksum_members gs)
-
-abbrev pub text_json : List ℕ → Json
-text_json s = words s
-
-abbrev pub id_json : ℤ → Json
-id_json id = whole id
 
 abbrev pub game_name : GameSum → List ℕ
 game_name g = g.game
@@ -170,18 +151,3 @@ message_json packets = many (items_of (map packet_json packets))
 
 unfoldable pub message_text : List ServerPacket → List ℕ
 message_text packets = spelling (message_json packets)
-
--- ---- a game's names
-
-abbrev pub ids_members : List NamedId → Members
-ids_members [] = no_members
-ids_members (n ∷ ns) = member n.name (whole n.id) (ids_members ns)
-
-abbrev pub game_json : Game → Json
-game_json g =
-    members (member (codes "item_name_to_id") (members (ids_members g.item_name_to_id))
-    (member (codes "location_name_to_id") (members (ids_members g.location_name_to_id)) no_members))
-
--- SHA-1, in lower-case hexadecimal, of the compact text of the game's names
-unfoldable pub checksum_of : Game → List ℕ
-checksum_of g = encode_lower (sha1 (spelling (game_json g)))

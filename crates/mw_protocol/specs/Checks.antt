@@ -3,7 +3,7 @@ use Rattle.std.specs.Prelude.{ℕ, ℤ, negsuc, ◌/◌, ◌%◌, ◌==◌, ◌&
 use Rattle.std.specs.Ordering.{int_eq}
 use Rattle.mw_model.specs.Seed.{Seed, Slot, StartItem, Held, slot_of, held_at}
 use Rattle.mw_model.specs.Items.{NetItem}
-use Rattle.mw_model.specs.Records.{Record, checks}
+use Rattle.mw_protocol.specs.Records.{Record, checks}
 
 -- a location of a slot, checked in a team
 pub record Check : Type 0 where

@@ -2,10 +2,10 @@
 use Rattle.std.specs.Prelude.{ℕ, ℤ, pos, negsuc, ◌≡◌, ◌∷◌, [], Some, false, refl, codes}
 use Rattle.mw_model.specs.Items.{NetItem}
 use Rattle.mw_model.specs.Seed.{Seed, Held, RoomOptions}
-use Rattle.mw_model.specs.Records.{checks}
-use Rattle.mw_model.specs.Checks.{received, view}
-use Rattle.mw_model.specs.Messages.{received_items, room_update}
-use Rattle.mw_model.specs.Room.{Connection, new_locations, growth_owed}
+use Rattle.mw_protocol.specs.Records.{checks}
+use Rattle.mw_protocol.specs.Checks.{received, view}
+use Rattle.mw_protocol.specs.Messages.{received_items, room_update}
+use Rattle.mw_protocol.specs.Room.{Connection, new_locations, growth_owed}
 
 abbrev pub held : ℕ → ℤ → ℤ → ℕ → ℕ → Held
 held slot location item receiver flags = record { slot = slot; location = location; item = item; receiver = receiver; flags = flags }

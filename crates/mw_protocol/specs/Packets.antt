@@ -2,6 +2,7 @@
 use Rattle.std.specs.Prelude.{ℕ, ℤ, pos, ◌+◌, ◌==◌, ◌&&◌, ◌||◌, ◌++◌, ◌∷◌, [], List, Bool, Option, Some, None, true, false, not, codes, bytes_eq, int_lt, is_some, length, unwrap_or, if◌then◌else◌}
 use Rattle.std.specs.Ordering.{int_eq}
 use Rattle.mw_model.specs.Seed.{Seed, Slot, slot_of}
+use Rattle.mw_model.specs.Texts.{has_text}
 
 pub record Version : Type 0 where
   pub major : ℤ
@@ -48,10 +49,6 @@ abbrev pub player_named : Seed → List ℕ → Option Player
 player_named seed name = player_among name 1 seed.slots
 
 -- ---- refusals of a Connect, in their order
-
-abbrev pub has_text : List (List ℕ) → List ℕ → Bool
-has_text [] text = false
-has_text (first ∷ others) text = bytes_eq first text || has_text others text
 
 abbrev pub text_or_empty : Option (List ℕ) → List ℕ
 text_or_empty t = unwrap_or t []

@@ -1,4 +1,4 @@
-use mw_base::Memory;
+use crate::memory::Memory;
 use std::alloc::Global;
 
 /// Room for more elements, taken ahead: a larger buffer where the list's own is too small.
@@ -9,7 +9,7 @@ pub struct Growth<T> {
 
 impl<T> Growth<T> {
     ghost use Rattle.std.specs.Prelude.{◌≡◌, ◌++◌, IfOk, vec_len};
-    ghost use Rattle.mw_room.specs.Space.{HasSpace};
+    ghost use Rattle.mw_base.specs.Space.{HasSpace};
 
     /// Room for this many more elements of a list.
     pub fn of(alloc: Global, items: &Vec<T>, more: usize) -> Result<Growth<T>, Memory>
@@ -43,7 +43,7 @@ impl<T> Growth<T> {
 
 impl<T: Drop> Growth<T> {
     ghost use Rattle.std.specs.Prelude.{◌≡◌, ◌++◌, ◌∷◌, []};
-    ghost use Rattle.mw_room.specs.Space.{HasSpace};
+    ghost use Rattle.mw_base.specs.Space.{HasSpace};
 
     /// Puts an element at the end of the list.
     pub fn push(self, items: &mut Vec<T>, item: T)
