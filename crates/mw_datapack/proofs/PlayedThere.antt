@@ -3,7 +3,7 @@ use Rattle.std.proofs.Common.{◌≡◌, ℕ, List, [], ◌∷◌, Option, Some,
 use Rattle.std.specs.Prelude.{All, IsSome, bytes_eq, option_map}
 use Rattle.std.proofs.lemmas.List.Elements.{All-head, All-tail}
 use Rattle.std.proofs.lemmas.Slice.Eq.{bytes_eq-Decides}
-use Rattle.mw_protocol.specs.Room.{plays}
+use Rattle.mw_protocol.specs.Players.{plays}
 use Rattle.mw_model.specs.Seed.{Seed, Slot, Game}
 use Rattle.mw_multidata.specs.Names.{find_game}
 use Rattle.mw_multidata.specs.SeedKept.{IsSeed}

@@ -1,9 +1,10 @@
 ghost use Rattle.std.specs.Prelude.{◌≡◌, ◌↔◌, IfOk, IfSome, IsSome, IsTrue, option_map};
 ghost use Rattle.mw_model.specs.Json.{IsWritable};
 ghost use Rattle.mw_model.specs.Games.{checksum_of};
-ghost use Rattle.mw_protocol.specs.Room.{plays};
+ghost use Rattle.mw_protocol.specs.Players.{plays};
 ghost use Rattle.mw_json.specs.View.{view};
-ghost use Rattle.mw_datapack.specs.Played.{data_json, game_played};
+ghost use Rattle.mw_protocol.specs.Packages.{data_json};
+ghost use Rattle.mw_datapack.specs.Played.{game_played};
 
 use crate::names::checksum_of_game;
 use crate::played::played;
@@ -13,7 +14,7 @@ use mw_multidata::{Game, RoomTables, ids_tree};
 use std::alloc::Global;
 
 /// A game's entry in the data package, as an object.
-fn data_tree(alloc: Global, game: &Game) -> Result<Tree, Memory>
+pub(crate) fn data_tree(alloc: Global, game: &Game) -> Result<Tree, Memory>
     ensures value { IfOk result (λ t. view t ≡ data_json game.now) }
     ensures writable { IfOk result (λ t. IsWritable (view t)) }
 {

@@ -1,12 +1,12 @@
 ghost use Rattle.std.specs.Prelude.{◌≡◌, ◌↔◌, IsSome, IsTrue, option_map};
-ghost use Rattle.mw_protocol.specs.Room.{plays};
+ghost use Rattle.mw_protocol.specs.Players.{plays};
 ghost use Rattle.mw_multidata.specs.Names.{find_game};
 ghost use Rattle.mw_datapack.specs.Played.{game_played};
 
 use mw_multidata::{Game, RoomTables, Slot};
 
 /// Whether some slot plays a game.
-fn is_played(slots: &[Slot], game: &str) -> bool
+pub fn is_played(slots: &[Slot], game: &str) -> bool
     ensures { result ≡ plays slots.now game.now }
 {
     for slot in slots {

@@ -3,7 +3,7 @@ use Rattle.std.proofs.Common.{◌≡◌, ◌==◌, ◌||◌, ◌&&◌, not, true
 use Rattle.std.specs.Option.{is_some}
 use Rattle.std.proofs.lemmas.List.{map_push}
 use Rattle.mw_model.specs.Seed.{Seed}
-use Rattle.mw_protocol.specs.Packets.{Packet, connect, sync, location_checks}
+use Rattle.mw_protocol.specs.Packets.{Packet, connect, connect_update, sync, location_checks, location_scouts, update_hint, status_update, say, get_data_package, bounce, get, change, set_notify}
 use Rattle.mw_protocol.specs.Room.{made_by}
 use Rattle.mw_offline.specs.declared.command.Command as code
 use Rattle.mw_offline.specs.Commands.{Command, command_view, sends}
@@ -36,6 +36,16 @@ packet_same seed xs ys session None same = refl
 packet_same seed xs ys session (Some (connect fields)) same =
     ap (λ b. cond (is_plain fields && is_some (made_by seed (connect fields) None) && not b) (Some (sends session (connect fields) ∷ [])) None) (same session)
 packet_same seed xs ys session (Some sync) same = refl
+packet_same seed xs ys session (Some (connect_update u)) same = refl
+packet_same seed xs ys session (Some (location_scouts numbers as_hint)) same = refl
+packet_same seed xs ys session (Some (update_hint u)) same = refl
+packet_same seed xs ys session (Some (status_update s)) same = refl
+packet_same seed xs ys session (Some (say text)) same = refl
+packet_same seed xs ys session (Some (get_data_package games)) same = refl
+packet_same seed xs ys session (Some (bounce b)) same = refl
+packet_same seed xs ys session (Some (get keys further)) same = refl
+packet_same seed xs ys session (Some (change set)) same = refl
+packet_same seed xs ys session (Some (set_notify keys)) same = refl
 packet_same seed xs ys session (Some (location_checks locations)) same = refl
 
 pub built_same : (seed : Seed) (xs ys : List ℕ) (line : Option Line) → HaveSame xs ys → built_line seed xs line ≡ built_line seed ys line

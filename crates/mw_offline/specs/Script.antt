@@ -3,7 +3,8 @@ use Rattle.std.specs.Prelude.{◌≡◌, ℕ, pos, ◌+◌, ◌==◌, ◌&&◌, 
 use Rattle.std.specs.Ordering.{int_eq}
 use Rattle.mw_model.specs.Json.{Json, depth}
 use Rattle.mw_model.specs.Seed.{Seed}
-use Rattle.mw_protocol.specs.Packets.{Packet, Connect, connect, sync, location_checks, has_tag}
+use Rattle.mw_protocol.specs.Connecting.{has_tag}
+use Rattle.mw_protocol.specs.Packets.{Packet, Connect, connect, connect_update, sync, location_checks, location_scouts, update_hint, status_update, say, get_data_package, bounce, get, change, set_notify}
 use Rattle.mw_protocol.specs.Room.{made_by}
 use Rattle.mw_json.specs.Reading.{reading, max_depth}
 use Rattle.mw_packets_in.specs.OnlyPacket.{sole_packet}
@@ -27,6 +28,16 @@ abbrev pub connected_by : Command → List ℕ
 connected_by (opens time) = []
 connected_by (sends session (connect fields)) = session ∷ []
 connected_by (sends session sync) = []
+connected_by (sends session (connect_update u)) = []
+connected_by (sends session (location_scouts numbers as_hint)) = []
+connected_by (sends session (update_hint u)) = []
+connected_by (sends session (status_update s)) = []
+connected_by (sends session (say text)) = []
+connected_by (sends session (get_data_package games)) = []
+connected_by (sends session (bounce b)) = []
+connected_by (sends session (get keys further)) = []
+connected_by (sends session (change set)) = []
+connected_by (sends session (set_notify keys)) = []
 connected_by (sends session (location_checks locations)) = []
 connected_by (takes session) = []
 
@@ -51,6 +62,16 @@ is_plain fields = int_eq (unwrap_or fields.items_handling (pos 0)) (pos 7) && ha
 abbrev pub is_built : Seed → List ℕ → ℕ → Packet → Bool
 is_built seed before session (connect fields) = is_plain fields && is_some (made_by seed (connect fields) None) && not (is_among session before)
 is_built seed before session sync = true
+is_built seed before session (connect_update u) = false
+is_built seed before session (location_scouts numbers as_hint) = false
+is_built seed before session (update_hint u) = false
+is_built seed before session (status_update s) = false
+is_built seed before session (say text) = false
+is_built seed before session (get_data_package games) = false
+is_built seed before session (bounce b) = false
+is_built seed before session (get keys further) = false
+is_built seed before session (change set) = false
+is_built seed before session (set_notify keys) = false
 is_built seed before session (location_checks locations) = true
 
 abbrev pub built_packet : Seed → List ℕ → ℕ → Option Packet → Option (List Command)

@@ -58,17 +58,14 @@ fn is_built(seed: &Multidata, before: &BTreeSet<u64>, session: u64, packet: &Pac
     ensures { result ≡ is_built_lem seed.now before.now.keys session (packet_view packet.now) }
 {
     match packet {
-        Packet::Connect {
-            items_handling,
-            tags,
-            ..
-        } => {
-            *items_handling == Some(7)
-                && has_tag(tags, "NoText")
+        Packet::Connect(fields) => {
+            fields.items_handling == Some(7)
+                && has_tag(&fields.tags, "NoText")
                 && is_accepted(seed, packet)
                 && !has_session(before, session)
         }
         Packet::Sync | Packet::LocationChecks { .. } => true,
+        _ => false,
     }
 }
 
@@ -116,7 +113,7 @@ fn connected_session(command: &Command) -> Option<u64>
     match command {
         Command::Send {
             session,
-            packet: Packet::Connect { .. },
+            packet: Packet::Connect(_),
         } => Some(*session),
         _ => None,
     }

@@ -2,15 +2,91 @@ ghost use Rattle.std.specs.Prelude.{◌≡◌};
 ghost use Rattle.mw_json.specs.View.{view, members_view};
 ghost use Rattle.mw_json.specs.Grammar.{Gives, GivesBy};
 ghost use Rattle.mw_packets_in.specs.PacketsOf.{connect_at, version_at};
+ghost use Rattle.mw_protocol.specs.Packets.{connect};
 ghost use Rattle.mw_packets_in.specs.View.{packet_view};
 
-use crate::packet::{Packet, Version};
+use crate::packet::Packet;
 use crate::parts::{text_in, texts_in, whole_in};
 use crate::whole::holds_not_whole;
+use mw_base::{List, Text};
 use mw_json::{
     Kind, Member, Refusal, Tree, field_if, field_in, field_or, null_or, object_of, refuse,
 };
 use std::alloc::Global;
+use std::marker::Model;
+
+/// The version that a client speaks, each number from -2^63 to 2^64 - 1.
+#[derive(Clone, Copy, Debug, PartialEq, Eq)]
+pub struct Version {
+    /// The first number.
+    pub major: i128,
+    /// The second number.
+    pub minor: i128,
+    /// The third number.
+    pub build: i128,
+}
+
+impl Model for Version {
+    ghost use Rattle.mw_protocol.specs.Packets as plain;
+
+    ghost Value = { plain.Version };
+
+    ghost view = { λ v. record { major = v.major; minor = v.minor; build = v.build } };
+
+    ghost inverse = { λ v. record { major = v.major; minor = v.minor; build = v.build } };
+}
+
+/// What a session that wants to play a slot says of itself.
+#[derive(Debug, Drop)]
+pub struct Connect {
+    /// The slot's name in its team.
+    pub name: Text,
+    /// The room's password; none where it is null or absent.
+    pub password: Option<Text>,
+    /// The game that is played; none where it is null or absent.
+    pub game: Option<Text>,
+    /// The client's version.
+    pub version: Version,
+    /// Which items the session wants to hear of; none where it is null or absent.
+    pub items_handling: Option<i128>,
+    /// What kind of client it is; none where it is absent.
+    pub tags: Option<List<Text>>,
+}
+
+impl Model for Connect {
+    ghost use Rattle.mw_protocol.specs.Packets as plain;
+
+    ghost Value = { plain.Connect };
+
+    ghost view = { λ c. record {
+      name = c.name;
+      password = c.password;
+      game = c.game;
+      version = c.version;
+      items_handling = c.items_handling;
+      tags = c.tags;
+    } };
+}
+
+/// What a session changes about itself.
+#[derive(Debug, Drop)]
+pub struct ConnectUpdate {
+    /// Which items the session wants to hear of: 0, 1, 3, 5 or 7; as before where it is absent.
+    pub items_handling: Option<u8>,
+    /// What kind of client it is; as before where it is absent.
+    pub tags: Option<List<Text>>,
+}
+
+impl Model for ConnectUpdate {
+    ghost use Rattle.mw_protocol.specs.Packets as plain;
+    ghost use Rattle.mw_packets_in.specs.Kept.{HasMask};
+
+    ghost Value = { plain.ConnectUpdate };
+
+    ghost view = { λ u. record { items_handling = u.items_handling; tags = u.tags } };
+
+    ghost invariant = { λ u. HasMask u.items_handling };
+}
 
 /// A version: an object with three whole numbers, in which all numbers are whole.
 #[tactic(auto, unfolding(crate::specs::PacketsOf::version_at))]
@@ -33,8 +109,8 @@ fn version_of(alloc: Global, tree: &Tree) -> Result<Version, Refusal>
 
 /// A Connect's members.
 #[tactic(auto, unfolding(crate::specs::PacketsOf::connect_at))]
-pub(crate) fn connect_of(alloc: Global, members: &[Member]) -> Result<Packet, Refusal>
-    ensures { GivesBy packet_view result (connect_at (members_view members.now)) }
+fn fields_of(alloc: Global, members: &[Member]) -> Result<Connect, Refusal>
+    ensures { GivesBy connect result (connect_at (members_view members.now)) }
 {
     let name = field_in(alloc, members, "name", text_in)?;
     let password = field_or(alloc, members, "password", None, |a, t| {
@@ -46,7 +122,7 @@ pub(crate) fn connect_of(alloc: Global, members: &[Member]) -> Result<Packet, Re
         null_or(a, t, whole_in)
     })?;
     let tags = field_if(alloc, members, "tags", texts_in)?;
-    Ok(Packet::Connect {
+    Ok(Connect {
         name,
         password,
         game,
@@ -54,4 +130,12 @@ pub(crate) fn connect_of(alloc: Global, members: &[Member]) -> Result<Packet, Re
         items_handling,
         tags,
     })
+}
+
+/// A Connect.
+pub(crate) fn connect_of(alloc: Global, members: &[Member]) -> Result<Packet, Refusal>
+    ensures { GivesBy packet_view result (connect_at (members_view members.now)) }
+{
+    let fields = fields_of(alloc, members)?;
+    Ok(Packet::Connect(fields))
 }

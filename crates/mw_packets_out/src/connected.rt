@@ -20,8 +20,8 @@ fn player_tree(alloc: Global, player: &NetworkPlayer) -> Result<Tree, Memory>
     put_words(alloc, &mut parts, "alias", player.name.as_str())?;
     put_words(alloc, &mut parts, "class", "NetworkPlayer")?;
     put_words(alloc, &mut parts, "name", player.name.as_str())?;
-    put_number(alloc, &mut parts, "slot", u64::from(player.slot))?;
-    put_number(alloc, &mut parts, "team", u64::from(player.team))?;
+    put_number(alloc, &mut parts, "slot", u64::from(player.slot.get()))?;
+    put_number(alloc, &mut parts, "team", u64::from(player.team.get()))?;
     Ok(Tree::Members(parts))
 }
 
@@ -54,9 +54,9 @@ pub(crate) fn connected_tree(alloc: Global, it: &Connected) -> Result<Tree, Memo
     put_number(alloc, &mut parts, "hint_points", it.hint_points)?;
     put(alloc, &mut parts, "missing_locations", missing)?;
     put(alloc, &mut parts, "players", players)?;
-    put_number(alloc, &mut parts, "slot", u64::from(it.slot))?;
+    put_number(alloc, &mut parts, "slot", u64::from(it.slot.get()))?;
     put(alloc, &mut parts, "slot_data", slot_data)?;
     put(alloc, &mut parts, "slot_info", slot_info)?;
-    put_number(alloc, &mut parts, "team", u64::from(it.team))?;
+    put_number(alloc, &mut parts, "team", u64::from(it.team.get()))?;
     Ok(Tree::Members(parts))
 }

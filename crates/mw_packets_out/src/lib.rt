@@ -2,15 +2,18 @@
 #![tactic(auto)]
 
 mod connected;
+mod data_package;
 mod lists;
 mod packet;
 mod people;
+mod refusals;
 mod room;
 mod room_info;
 mod slot_info;
 mod write;
 
-pub use packet::ServerPacket;
+pub use data_package::DataPackage;
+pub use packet::{InvalidKind, ServerPacket};
 pub use people::{Connected, NetworkPlayer, NetworkSlot};
 pub use room::{GameSum, RoomInfo};
-pub use write::write_message;
+pub use write::{write_both, write_message};

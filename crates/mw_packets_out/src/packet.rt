@@ -1,6 +1,16 @@
+use crate::data_package::DataPackage;
 use crate::people::Connected;
 use crate::room::RoomInfo;
-use mw_base::{List, NetItem};
+use mw_base::{List, NetItem, Text};
+
+/// What is wrong with what a client sent.
+#[derive(Clone, Copy, Debug, PartialEq, Eq)]
+pub enum InvalidKind {
+    /// It is no list of packets, or the packet has no command that there is.
+    Cmd,
+    /// A member is missing or of another kind, or the packet can't be done.
+    Arguments,
+}
 
 /// What a room tells a session, after Archipelago's network protocol.
 #[derive(Debug, Drop)]
@@ -22,5 +32,26 @@ pub enum ServerPacket {
         checked_locations: List<i64>,
         /// What the slot's checked locations are worth.
         hint_points: u64,
+    },
+    /// The answer to a Connect that is refused.
+    ConnectionRefused {
+        /// Why, a word for each cause.
+        errors: List<Text>,
+    },
+    /// What stands at locations.
+    LocationInfo {
+        /// Each item with its receiver as player.
+        locations: List<NetItem>,
+    },
+    /// The names of games.
+    DataPackage(DataPackage),
+    /// The answer to what is no packet, or can't be done.
+    InvalidPacket {
+        /// What is wrong with it.
+        kind: InvalidKind,
+        /// The packet's command, where it has one.
+        original_cmd: Option<Text>,
+        /// Why.
+        text: Text,
     },
 }

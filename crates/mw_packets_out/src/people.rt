@@ -1,13 +1,13 @@
-use mw_base::{List, Text};
+use mw_base::{List, SlotId, TeamId, Text};
 use std::marker::Model;
 
 /// A player of a team.
 #[derive(Debug, Drop)]
 pub struct NetworkPlayer {
-    /// The team, 0 to 7.
-    pub team: u8,
-    /// The slot, 1 to 1,024.
-    pub slot: u16,
+    /// The team.
+    pub team: TeamId,
+    /// The slot.
+    pub slot: SlotId,
     /// The slot's name in the team.
     pub name: Text,
 }
@@ -23,8 +23,8 @@ impl Model for NetworkPlayer {
 /// What is played in a slot.
 #[derive(Debug, Drop)]
 pub struct NetworkSlot {
-    /// The slot, 1 to 1,024.
-    pub slot: u16,
+    /// The slot.
+    pub slot: SlotId,
     /// Its name in the session's team.
     pub name: Text,
     /// Its game.
@@ -42,10 +42,10 @@ impl Model for NetworkSlot {
 /// What a session is told once it is connected.
 #[derive(Debug, Drop)]
 pub struct Connected {
-    /// The session's team, 0 to 7.
-    pub team: u8,
-    /// The session's slot, 1 to 1,024.
-    pub slot: u16,
+    /// The session's team.
+    pub team: TeamId,
+    /// The session's slot.
+    pub slot: SlotId,
     /// The players of all teams, by team, then slot.
     pub players: List<NetworkPlayer>,
     /// The slot's locations that aren't checked, by id.

@@ -6,7 +6,7 @@ ghost use Rattle.mw_json.specs.View.{view, members_view};
 ghost use Rattle.mw_packets_out.specs.Places.{place_in};
 
 use crate::people::NetworkSlot;
-use mw_base::{List, Memory, Text};
+use mw_base::{List, Memory, SlotId, Text};
 use mw_json::{Member, Tree, named, put, put_number, put_words};
 use std::alloc::Global;
 
@@ -26,10 +26,11 @@ fn slot_tree(alloc: Global, slot: &NetworkSlot) -> Result<Tree, Memory>
 }
 
 /// A slot's number in decimal.
-fn slot_name(alloc: Global, slot: u16) -> Result<Text, Memory>
+fn slot_name(alloc: Global, slot: SlotId) -> Result<Text, Memory>
     ensures { IfOk result (λ t. t ≡ decimal slot) }
 {
-    Ok(Text::from_string(format!(in alloc; "{slot}")?))
+    let number = slot.get();
+    Ok(Text::from_string(format!(in alloc; "{number}")?))
 }
 
 /// Where a member of this name is put: before the first whose name is greater.

@@ -1,13 +1,15 @@
-ghost use Rattle.std.specs.Prelude.{◌≡◌, IfOk, map};
+ghost use Rattle.std.specs.Prelude.{◌≡◌, ◌++◌, IfOk, OnOk, map};
 ghost use Rattle.mw_model.specs.Items.{NetItem as plain_item};
-ghost use Rattle.mw_model.specs.Json.{IsWritable};
-ghost use Rattle.mw_protocol.specs.Messages.{message_json, message_text, packet_json, received_items_json, room_update_json};
-ghost use Rattle.mw_json.specs.View.{view};
+ghost use Rattle.mw_model.specs.Json.{IsWritable, ItemsAreWritable};
+ghost use Rattle.mw_protocol.specs.Messages.{location_info_json, message_json, message_text, packet_json, received_items_json, room_update_json};
+ghost use Rattle.mw_json.specs.View.{view, items_view};
 ghost use Rattle.mw_packets_out.specs.View.{packet_view};
 
 use crate::connected::connected_tree;
+use crate::data_package::data_package_tree;
 use crate::lists::{ids_tree, items_tree};
 use crate::packet::ServerPacket;
+use crate::refusals::{connection_refused_tree, invalid_packet_tree};
 use crate::room_info::room_info_tree;
 use mw_base::{List, Memory, NetItem, Text};
 use mw_json::{Tree, compact_text, push_tree, put, put_number, put_words};
@@ -39,6 +41,18 @@ fn room_update_tree(alloc: Global, locations: &[i64], points: u64) -> Result<Tre
     Ok(Tree::Members(parts))
 }
 
+/// What stands at locations, as an object.
+fn location_info_tree(alloc: Global, items: &[NetItem]) -> Result<Tree, Memory>
+    ensures value { IfOk result (λ t. view t ≡ location_info_json items.now) }
+    ensures writable { IfOk result (λ t. IsWritable (view t)) }
+{
+    let locations = items_tree(alloc, items)?;
+    let mut parts = List::new(alloc);
+    put_words(alloc, &mut parts, "cmd", "LocationInfo")?;
+    put(alloc, &mut parts, "locations", locations)?;
+    Ok(Tree::Members(parts))
+}
+
 /// A packet as an object.
 fn packet_tree(alloc: Global, packet: &ServerPacket) -> Result<Tree, Memory>
     ensures value { IfOk result (λ t. view t ≡ packet_json (packet_view packet.now)) }
@@ -54,27 +68,71 @@ fn packet_tree(alloc: Global, packet: &ServerPacket) -> Result<Tree, Memory>
             checked_locations,
             hint_points,
         } => room_update_tree(alloc, checked_locations.as_slice(), *hint_points),
+        ServerPacket::ConnectionRefused { errors } => {
+            connection_refused_tree(alloc, errors.as_slice())
+        }
+        ServerPacket::LocationInfo { locations } => {
+            location_info_tree(alloc, locations.as_slice())
+        }
+        ServerPacket::DataPackage(names) => data_package_tree(alloc, names),
+        ServerPacket::InvalidPacket {
+            kind,
+            original_cmd,
+            text,
+        } => invalid_packet_tree(alloc, *kind, original_cmd, text),
     }
+}
+
+/// Adds packets to those of a message.
+fn push_packets(
+    alloc: Global,
+    trees: &mut List<Tree>,
+    packets: &[ServerPacket],
+) -> Result<(), Memory>
+    requires { ItemsAreWritable (items_view trees.old) }
+    ensures value { OnOk result (map view trees.new ≡ map view trees.old ++ map packet_json (map packet_view packets.now)) }
+    ensures writable { OnOk result (ItemsAreWritable (items_view trees.new)) }
+{
+    for packet in packets {
+        push_tree(trees, packet_tree(alloc, packet)?)?;
+    }
+    Ok(())
 }
 
 /// The packets of a message as a list.
-#[tactic(auto, using(crate::proofs::Writable::same_items))]
-fn message_tree(alloc: Global, packets: &[ServerPacket]) -> Result<Tree, Memory>
-    ensures value { IfOk result (λ t. view t ≡ message_json (map packet_view packets.now)) }
+#[tactic(auto, using(crate::proofs::Writable::both_parts))]
+fn message_tree(
+    alloc: Global,
+    answers: &[ServerPacket],
+    others: &[ServerPacket],
+) -> Result<Tree, Memory>
+    ensures value { IfOk result (λ t. view t ≡ message_json (map packet_view answers.now ++ map packet_view others.now)) }
     ensures writable { IfOk result (λ t. IsWritable (view t)) }
 {
     let mut trees = List::new(alloc);
-    for packet in packets {
-        push_tree(&mut trees, packet_tree(alloc, packet)?)?;
-    }
+    push_packets(alloc, &mut trees, answers)?;
+    push_packets(alloc, &mut trees, others)?;
     Ok(Tree::Many(trees))
 }
 
-/// A message's text: the list of its packets as compact JSON. Memory is its only error.
+/// The text of a message of some packets and then others: the list of them as compact JSON. Memory
+/// is its only error.
 #[tactic(auto, unfolding(mw_protocol::specs::Messages::message_text))]
+pub fn write_both(
+    alloc: Global,
+    answers: &[ServerPacket],
+    others: &[ServerPacket],
+) -> Result<Text, Memory>
+    ensures { IfOk result (λ t. t ≡ message_text (map packet_view answers.now ++ map packet_view others.now)) }
+{
+    let tree = message_tree(alloc, answers, others)?;
+    compact_text(alloc, &tree)
+}
+
+/// A message's text: the list of its packets as compact JSON. Memory is its only error.
+#[tactic(auto, using(crate::proofs::Writable::nothing_more))]
 pub fn write_message(alloc: Global, packets: &List<ServerPacket>) -> Result<Text, Memory>
     ensures { IfOk result (λ t. t ≡ message_text (map packet_view packets.now)) }
 {
-    let tree = message_tree(alloc, packets.as_slice())?;
-    compact_text(alloc, &tree)
+    write_both(alloc, packets.as_slice(), &[])
 }

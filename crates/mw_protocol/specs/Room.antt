@@ -1,12 +1,16 @@
--- The room: what an event records, and what it owes to each session.
-use Rattle.std.specs.Prelude.{ℕ, ℤ, zero, suc, pos, ◌+◌, ◌*◌, ◌==◌, ◌&&◌, ◌||◌, ◌++◌, ◌∷◌, [], List, Bool, Option, Some, None, true, false, not, length, drop, map, filter, slice_get, is_some, unwrap_or, bytes_eq, if◌then◌else◌}
-use Rattle.mw_model.specs.Seed.{Seed, Slot, Game, Held, held_at}
+-- The room that runs: sessions that connect once and send checks and Syncs.
+use Rattle.std.specs.Prelude.{ℕ, ℤ, zero, suc, ◌+◌, ◌*◌, ◌==◌, ◌++◌, ◌∷◌, [], List, Bool, Option, Some, None, true, false, not, length, drop, map, filter, slice_get, is_some, unwrap_or, pos, if◌then◌else◌}
+use Rattle.mw_model.specs.Seed.{Seed, Held, held_at}
 use Rattle.mw_model.specs.Items.{NetItem}
-use Rattle.mw_protocol.specs.Records.{Record, checks}
-use Rattle.mw_protocol.specs.Checks.{Check, has_check, checks_at, unseen, checked, view}
-use Rattle.mw_protocol.specs.Packets.{Packet, Connect, connect, sync, location_checks, Player, player_named, connect_errors}
-use Rattle.mw_model.specs.Games.{checksum_of}
-use Rattle.mw_protocol.specs.Messages.{ServerPacket, RoomInfo, GameSum, Connected, NetworkPlayer, NetworkSlot, room_info, connected, received_items, room_update, message_text}
+use Rattle.mw_protocol.specs.Asked.{locations_of, checked, view}
+use Rattle.mw_protocol.specs.Checks.{Check, has_check, checks_at, unseen, locations_in}
+use Rattle.mw_protocol.specs.Connecting.{Player, player_named, connect_errors, mask_of}
+use Rattle.mw_protocol.specs.Effects.{location_of, known, checks_record}
+use Rattle.mw_protocol.specs.Messages.{ServerPacket, Connected, room_info, connected, message_text}
+use Rattle.mw_protocol.specs.Owed.{update_with, items_from}
+use Rattle.mw_protocol.specs.Packets.{Packet, Connect, connect, connect_update, sync, location_checks, location_scouts, update_hint, status_update, say, get_data_package, bounce, get, change, set_notify}
+use Rattle.mw_protocol.specs.Players.{room_info_of, players_of, slot_infos}
+use Rattle.mw_protocol.specs.Records.{Record}
 
 -- the team and slot that a session plays, and what it wants to hear of
 pub record Connection : Type 0 where
@@ -45,25 +49,12 @@ connection_in (Some s) = s.connection
 
 -- ---- locations and points of a slot
 
--- the locations of a slot, by id
-abbrev pub locations_among : ℕ → List Held → List ℤ
-locations_among slot [] = []
-locations_among slot (h ∷ hs) = if h.slot == slot then h.location ∷ locations_among slot hs else locations_among slot hs
-
-abbrev pub locations_of : Seed → ℕ → List ℤ
-locations_of seed slot = locations_among slot seed.locations
-
 abbrev pub is_checked : List Check → ℕ → ℕ → ℤ → Bool
 is_checked done team slot location = has_check done record { team = team; slot = slot; location = location }
 
--- those of the checks that are of a team and slot
-abbrev pub locations_in : ℕ → ℕ → List Check → List ℤ
-locations_in team slot [] = []
-locations_in team slot (c ∷ cs) = if (c.team == team) && (c.slot == slot) then c.location ∷ locations_in team slot cs else locations_in team slot cs
-
 -- the checked locations of a slot, in journal order
-abbrev pub checked_of : List Record → ℕ → ℕ → List ℤ
-checked_of journal team slot = locations_in team slot (checked journal)
+abbrev pub checked_of : Seed → List Record → ℕ → ℕ → List ℤ
+checked_of seed journal team slot = locations_in team slot (checked seed journal)
 
 -- Points: what a slot's checked locations are worth
 abbrev pub points : Seed → List Check → ℕ → ℕ → ℕ
@@ -71,27 +62,25 @@ points seed done team slot = seed.server.location_check_points * length (locatio
 
 -- ---- records
 
--- those of the numbers that are locations of the slot
-abbrev pub known : Seed → ℕ → List ℤ → List ℤ
-known seed slot locations = filter (λ l. is_some (held_at seed slot l)) locations
-
-abbrev pub location_of : Check → ℤ
-location_of c = c.location
-
 -- the known locations that aren't checked, each once, in order
 abbrev pub new_locations : Seed → List Record → ℕ → ℕ → List ℤ → List ℤ
-new_locations seed journal team slot locations = map location_of (unseen (checked journal) (checks_at team slot (known seed slot locations)))
-
--- none make no record
-abbrev pub checks_record : ℕ → ℕ → List ℤ → List Record
-checks_record team slot [] = []
-checks_record team slot (l ∷ ls) = checks team slot (l ∷ ls) ∷ []
+new_locations seed journal team slot locations = map location_of (unseen (checked seed journal) (checks_at team slot (known seed slot locations)))
 
 -- RecordsOf: what a session's packet records
 abbrev pub records_of : Seed → List Record → Option Connection → Packet → List Record
 records_of seed journal None packet = []
 records_of seed journal (Some c) (connect fields) = []
 records_of seed journal (Some c) sync = []
+records_of seed journal (Some c) (connect_update u) = []
+records_of seed journal (Some c) (location_scouts numbers as_hint) = []
+records_of seed journal (Some c) (update_hint u) = []
+records_of seed journal (Some c) (status_update s) = []
+records_of seed journal (Some c) (say text) = []
+records_of seed journal (Some c) (get_data_package games) = []
+records_of seed journal (Some c) (bounce b) = []
+records_of seed journal (Some c) (get keys further) = []
+records_of seed journal (Some c) (change set) = []
+records_of seed journal (Some c) (set_notify keys) = []
 records_of seed journal (Some c) (location_checks locations) = checks_record c.team c.slot (new_locations seed journal c.team c.slot locations)
 
 abbrev pub records_by : Room → Event → List Record
@@ -99,10 +88,6 @@ records_by room (opened time) = []
 records_by room (sent number packet) = records_of room.seed room.journal (connection_in (session_of room number)) packet
 
 -- ---- connections
-
-abbrev pub mask_of : ℤ → ℕ
-mask_of (pos m) = m
-mask_of _ = 0
 
 abbrev pub connection_to : Connect → Option Player → Option Connection
 connection_to fields None = None
@@ -117,6 +102,16 @@ abbrev pub made_by : Seed → Packet → Option Connection → Option Connection
 made_by seed (connect fields) None = accepted seed fields (connect_errors seed fields)
 made_by seed (connect fields) (Some c) = None
 made_by seed sync c = None
+made_by seed (connect_update u) c = None
+made_by seed (location_scouts numbers as_hint) c = None
+made_by seed (update_hint u) c = None
+made_by seed (status_update s) c = None
+made_by seed (say text) c = None
+made_by seed (get_data_package games) c = None
+made_by seed (bounce b) c = None
+made_by seed (get keys further) c = None
+made_by seed (change set) c = None
+made_by seed (set_notify keys) c = None
 made_by seed (location_checks locations) c = None
 
 abbrev pub or_else : Option Connection → Option Connection → Option Connection
@@ -124,45 +119,6 @@ or_else None c = c
 or_else (Some new) c = Some new
 
 -- ---- what is owed
-
-abbrev pub plays : List Slot → List ℕ → Bool
-plays [] game = false
-plays (s ∷ ss) game = bytes_eq s.game game || plays ss game
-
--- the games that a slot plays, each with its checksum
-abbrev pub games_played : List Slot → List Game → List GameSum
-games_played slots [] = []
-games_played slots (g ∷ gs) = if plays slots g.name then record { game = g.name; checksum = checksum_of g } ∷ games_played slots gs else games_played slots gs
-
-abbrev pub room_info_of : Seed → ℕ → RoomInfo
-room_info_of seed time = record {
-  password = not (length seed.server.password == 0);
-  release = seed.server.release;
-  collect = seed.server.collect;
-  remaining = seed.server.remaining;
-  hint_cost = seed.server.hint_cost;
-  location_check_points = seed.server.location_check_points;
-  games = games_played seed.slots seed.games;
-  seed_name = seed.seed_name;
-  time = time;
-}
-
-abbrev pub name_in : ℕ → Slot → List ℕ
-name_in team slot = unwrap_or (slice_get slot.names team) []
-
--- the players of a team, from a slot on
-abbrev pub team_players : ℕ → ℕ → List Slot → List NetworkPlayer
-team_players team number [] = []
-team_players team number (s ∷ ss) = record { team = team; slot = number; name = name_in team s } ∷ team_players team (number + 1) ss
-
--- the players of this many teams, by team, then slot
-abbrev pub players_of : ℕ → List Slot → List NetworkPlayer
-players_of zero slots = []
-players_of (suc team) slots = players_of team slots ++ team_players team 1 slots
-
-abbrev pub slot_infos : ℕ → ℕ → List Slot → List NetworkSlot
-slot_infos team number [] = []
-slot_infos team number (s ∷ ss) = record { slot = number; name = name_in team s; game = s.game } ∷ slot_infos team (number + 1) ss
 
 abbrev pub connected_of : Seed → List Check → Connection → Connected
 connected_of seed done c = record {
@@ -178,21 +134,12 @@ connected_of seed done c = record {
 -- what a new connection is answered
 abbrev pub connected_answer : Seed → List Record → Option Connection → List ServerPacket
 connected_answer seed journal None = []
-connected_answer seed journal (Some c) = connected (connected_of seed (checked journal) c) ∷ []
-
--- the new locations, where there are some
-abbrev pub update_with : ℕ → List ℤ → List ServerPacket
-update_with points [] = []
-update_with points (l ∷ ls) = room_update (l ∷ ls) points ∷ []
+connected_answer seed journal (Some c) = connected (connected_of seed (checked seed journal) c) ∷ []
 
 -- where the slot's checked locations grew
 abbrev pub update_owed : Seed → List Record → List Record → Connection → List ServerPacket
 update_owed seed before after c =
-    update_with (points seed (checked after) c.team c.slot) (drop (length (checked_of before c.team c.slot)) (checked_of after c.team c.slot))
-
-abbrev pub items_from : ℕ → List NetItem → List ServerPacket
-items_from index [] = []
-items_from index (i ∷ is) = received_items index (i ∷ is) ∷ []
+    update_with (points seed (checked seed after) c.team c.slot) (drop (length (checked_of seed before c.team c.slot)) (checked_of seed after c.team c.slot))
 
 -- the whole view from 0, or where the view grew its tail from its length before
 abbrev pub items_owed : Bool → Seed → List Record → List Record → Connection → List ServerPacket
@@ -204,6 +151,16 @@ items_owed false seed before after c =
 abbrev pub asks_whole : Packet → Option Connection → Bool
 asks_whole (connect fields) made = is_some made
 asks_whole sync made = true
+asks_whole (connect_update u) made = false
+asks_whole (location_scouts numbers as_hint) made = false
+asks_whole (update_hint u) made = false
+asks_whole (status_update s) made = false
+asks_whole (say text) made = false
+asks_whole (get_data_package games) made = false
+asks_whole (bounce b) made = false
+asks_whole (get keys further) made = false
+asks_whole (change set) made = false
+asks_whole (set_notify keys) made = false
 asks_whole (location_checks locations) made = false
 
 -- what a connected session is owed beside its own answer

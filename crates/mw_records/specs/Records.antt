@@ -4,4 +4,4 @@ use Rattle.mw_records.specs.declared.record.Record.{Record}
 use Rattle.mw_records.specs.declared.record.Record.TheVariants.{Checks}
 
 abbrev pub record_view : Record → plain.Record
-record_view (Checks team slot locations) = plain.checks team slot locations
+record_view (Checks c) = plain.checks c.team c.slot c.locations

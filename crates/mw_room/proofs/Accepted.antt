@@ -2,8 +2,10 @@
 use Rattle.std.proofs.Common.{◌≡◌, ℕ, pos, ◌∙◌, ◌++◌, ◌||◌, Bool, true, false, not, Option, Some, None, refl, ap, codes, cond}
 use Rattle.std.specs.Option.{is_some, unwrap_or}
 use Rattle.mw_model.specs.Seed.{Seed}
-use Rattle.mw_protocol.specs.Packets.{Connect, Player, player_named, is_wrong_password, is_game_of, slot_played, is_old, is_mask, error_where}
-use Rattle.mw_protocol.specs.Room.{Connection, accepted, connection_to, mask_of}
+use Rattle.mw_protocol.specs.Packets.{Connect}
+use Rattle.mw_protocol.specs.Connecting.{Player, player_named, is_wrong_password, is_game_of, slot_played, is_old, is_mask, error_where}
+use Rattle.mw_protocol.specs.Room.{Connection, accepted, connection_to}
+use Rattle.mw_protocol.specs.Connecting.{mask_of}
 use Rattle.mw_room.specs.Accepting.{accept, connection_unless}
 
 -- a player's connection

@@ -4,10 +4,11 @@ use Rattle.std.specs.Prelude.{slice_get, is_some}
 use Rattle.std.proofs.lemmas.Bool.Decides.{Decides-eqb}
 use Rattle.mw_model.specs.Seed.{Seed}
 use Rattle.mw_protocol.specs.Records.{Record}
-use Rattle.mw_protocol.specs.Packets.{Packet, connect, sync, location_checks}
+use Rattle.mw_protocol.specs.Packets.{Packet, connect, connect_update, sync, location_checks, location_scouts, update_hint, status_update, say, get_data_package, bounce, get, change, set_notify}
 use Rattle.mw_protocol.specs.Messages.{connected}
-use Rattle.mw_protocol.specs.Checks.{checked}
-use Rattle.mw_protocol.specs.Room.{Room, Session, Connection, records_of, made_by, connected_of, connected_answer, growth_owed, items_from, owed_to_sender, or_else, message_of, with_texts, sender_after, other_after, sessions_after, connection_in, nth_session}
+use Rattle.mw_protocol.specs.Asked.{checked}
+use Rattle.mw_protocol.specs.Room.{Room, Session, Connection, records_of, made_by, connected_of, connected_answer, growth_owed, owed_to_sender, or_else, message_of, with_texts, sender_after, other_after, sessions_after, connection_in, nth_session}
+use Rattle.mw_protocol.specs.Owed.{items_from}
 use Rattle.mw_room.specs.Log.{Logged, view_in}
 use Rattle.mw_room.specs.Stands.{Stands}
 use Rattle.mw_room.specs.Answering.{new_in, other_in, welcome_in, answer_in, after_in, all_after, records_in}
@@ -19,6 +20,16 @@ pub grows : (seed : Seed) (journal : List Record) (log : List Logged) (c : Optio
 grows seed journal log None packet h = grows_nothing seed journal log h
 grows seed journal log (Some c) (connect fields) h = grows_nothing seed journal log h
 grows seed journal log (Some c) sync h = grows_nothing seed journal log h
+grows seed journal log (Some c) (connect_update u) h = grows_nothing seed journal log h
+grows seed journal log (Some c) (location_scouts numbers as_hint) h = grows_nothing seed journal log h
+grows seed journal log (Some c) (update_hint u) h = grows_nothing seed journal log h
+grows seed journal log (Some c) (status_update s) h = grows_nothing seed journal log h
+grows seed journal log (Some c) (say text) h = grows_nothing seed journal log h
+grows seed journal log (Some c) (get_data_package games) h = grows_nothing seed journal log h
+grows seed journal log (Some c) (bounce b) h = grows_nothing seed journal log h
+grows seed journal log (Some c) (get keys further) h = grows_nothing seed journal log h
+grows seed journal log (Some c) (change set) h = grows_nothing seed journal log h
+grows seed journal log (Some c) (set_notify keys) h = grows_nothing seed journal log h
 grows seed journal log (Some c) (location_checks ns) h = grows_checks seed journal log c ns h
 
 other_is : (seed : Seed) (journal more : List Record) (log new : List Logged) (c : Option Connection) → Grows seed journal more log new
@@ -38,7 +49,7 @@ welcome_is : (seed : Seed) (journal : List Record) (log : List Logged) (made : O
     → connected_answer seed (journal ++ []) made ++ growth_owed (is_some made) seed journal (journal ++ []) (or_else made None) ≡ welcome_in seed log made
 welcome_is seed journal log None h = refl
 welcome_is seed journal log (Some k) h =
-    ap₂ (λ cs is. connected (connected_of seed cs k) ∷ [] ++ is) (ap checked (append-nil journal) ∙ sym h.0) (whole_is seed journal log k h)
+    ap₂ (λ cs is. connected (connected_of seed cs k) ∷ [] ++ is) (ap (checked seed) (append-nil journal) ∙ sym h.0) (whole_is seed journal log k h)
 
 answer_is : (seed : Seed) (journal : List Record) (sessions : List Session) (log : List Logged) (packet : Packet) (c : Option Connection) → Stands seed journal log
     → owed_to_sender record { seed = seed; journal = journal; sessions = sessions } (journal ++ records_of seed journal c packet) packet c
@@ -46,7 +57,27 @@ answer_is : (seed : Seed) (journal : List Record) (sessions : List Session) (log
 answer_is seed journal sessions log (connect fields) None h = welcome_is seed journal log (made_by seed (connect fields) None) h
 answer_is seed journal sessions log (connect fields) (Some c) h = growth_is seed journal [] log [] c (grows_nothing seed journal log h)
 answer_is seed journal sessions log sync None h = refl
+answer_is seed journal sessions log (connect_update u) None h = refl
+answer_is seed journal sessions log (location_scouts numbers as_hint) None h = refl
+answer_is seed journal sessions log (update_hint u) None h = refl
+answer_is seed journal sessions log (status_update s) None h = refl
+answer_is seed journal sessions log (say text) None h = refl
+answer_is seed journal sessions log (get_data_package games) None h = refl
+answer_is seed journal sessions log (bounce b) None h = refl
+answer_is seed journal sessions log (get keys further) None h = refl
+answer_is seed journal sessions log (change set) None h = refl
+answer_is seed journal sessions log (set_notify keys) None h = refl
 answer_is seed journal sessions log sync (Some c) h = whole_is seed journal log c h
+answer_is seed journal sessions log (connect_update u) (Some c) h = growth_is seed journal [] log [] c (grows_nothing seed journal log h)
+answer_is seed journal sessions log (location_scouts numbers as_hint) (Some c) h = growth_is seed journal [] log [] c (grows_nothing seed journal log h)
+answer_is seed journal sessions log (update_hint u) (Some c) h = growth_is seed journal [] log [] c (grows_nothing seed journal log h)
+answer_is seed journal sessions log (status_update s) (Some c) h = growth_is seed journal [] log [] c (grows_nothing seed journal log h)
+answer_is seed journal sessions log (say text) (Some c) h = growth_is seed journal [] log [] c (grows_nothing seed journal log h)
+answer_is seed journal sessions log (get_data_package games) (Some c) h = growth_is seed journal [] log [] c (grows_nothing seed journal log h)
+answer_is seed journal sessions log (bounce b) (Some c) h = growth_is seed journal [] log [] c (grows_nothing seed journal log h)
+answer_is seed journal sessions log (get keys further) (Some c) h = growth_is seed journal [] log [] c (grows_nothing seed journal log h)
+answer_is seed journal sessions log (change set) (Some c) h = growth_is seed journal [] log [] c (grows_nothing seed journal log h)
+answer_is seed journal sessions log (set_notify keys) (Some c) h = growth_is seed journal [] log [] c (grows_nothing seed journal log h)
 answer_is seed journal sessions log (location_checks ns) None h = refl
 answer_is seed journal sessions log (location_checks ns) (Some c) h =
     growth_is seed journal (records_of seed journal (Some c) (location_checks ns)) log (new_in seed log (Some c) (location_checks ns)) c (grows_checks seed journal log c ns h)
@@ -84,4 +115,14 @@ pub records_are : (seed : Seed) (journal : List Record) (log : List Logged) (c :
 records_are seed journal log None packet h = refl
 records_are seed journal log (Some c) (connect fields) h = refl
 records_are seed journal log (Some c) sync h = refl
+records_are seed journal log (Some c) (connect_update u) h = refl
+records_are seed journal log (Some c) (location_scouts numbers as_hint) h = refl
+records_are seed journal log (Some c) (update_hint u) h = refl
+records_are seed journal log (Some c) (status_update s) h = refl
+records_are seed journal log (Some c) (say text) h = refl
+records_are seed journal log (Some c) (get_data_package games) h = refl
+records_are seed journal log (Some c) (bounce b) h = refl
+records_are seed journal log (Some c) (get keys further) h = refl
+records_are seed journal log (Some c) (change set) h = refl
+records_are seed journal log (Some c) (set_notify keys) h = refl
 records_are seed journal log (Some c) (location_checks ns) h = record_is seed journal log c ns h

@@ -6,7 +6,7 @@ use Rattle.std.proofs.lemmas.Bool.Decides.{Decides-and, Decides-eqb, Decides-int
 use Rattle.std.proofs.lemmas.List.{map-append, drop_more}
 use Rattle.mw_model.specs.Seed.{Seed, Held, held_among}
 use Rattle.mw_protocol.specs.Checks.{Check, has_check, checks_at, unseen, items_found, item_for, found_item}
-use Rattle.mw_protocol.specs.Room.{known}
+use Rattle.mw_protocol.specs.Effects.{known}
 use Rattle.mw_room.specs.Log.{Logged, logged_check, checks_in, AllHeld, items_in, entry_unless, fresh_entry, fresh_entries}
 
 -- one number more

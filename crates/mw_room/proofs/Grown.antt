@@ -5,8 +5,12 @@ use Rattle.std.proofs.lemmas.List.{map-append}
 use Rattle.mw_model.specs.Seed.{Seed, slot_of}
 use Rattle.mw_protocol.specs.Records.{Record}
 use Rattle.mw_protocol.specs.Packets.{location_checks}
-use Rattle.mw_protocol.specs.Checks.{Check, has_check, checks_at, asked, unseen, checked, view, keeps, start_items, items_found, found_item}
-use Rattle.mw_protocol.specs.Room.{Connection, checked_of, points, locations_in, location_of, known, new_locations, checks_record, records_of, update_with, update_owed, items_from, growth_owed}
+use Rattle.mw_protocol.specs.Checks.{Check, has_check, checks_at, unseen, keeps, start_items, items_found, found_item}
+use Rattle.mw_protocol.specs.Asked.{asked, checked, view}
+use Rattle.mw_protocol.specs.Room.{Connection, checked_of, points, new_locations, records_of, update_owed, growth_owed}
+use Rattle.mw_protocol.specs.Checks.{locations_in}
+use Rattle.mw_protocol.specs.Effects.{location_of, known, checks_record}
+use Rattle.mw_protocol.specs.Owed.{update_with, items_from}
 use Rattle.mw_room.specs.Log.{Logged, logged_check, checks_in, AllHeld, items_in, kept_in, starts_kept, view_in, locations_logged, points_in, growth_in, fresh_entries}
 use Rattle.mw_room.specs.Stands.{Stands}
 use Rattle.mw_room.proofs.Journal.{fresh, checked-append, filter-append, locations_in-append, drop-grown}
@@ -45,12 +49,12 @@ locations_grown c log new = ap (locations_in c.team c.slot) (map-append logged_c
 pub update_is : (seed : Seed) (journal more : List Record) (log new : List Logged) (c : Connection) → Grows seed journal more log new
     → update_owed seed journal (journal ++ more) c ≡ update_with (points_in seed c (log ++ new)) (locations_logged c new)
 update_is seed journal more log new c h =
-    let worth : points seed (checked (journal ++ more)) c.team c.slot ≡ points_in seed c (log ++ new) =
+    let worth : points seed (checked seed (journal ++ more)) c.team c.slot ≡ points_in seed c (log ++ new) =
     ap (λ cs. seed.server.location_check_points * length (locations_in c.team c.slot cs)) (sym h.after.0) in
-    let was : checked_of journal c.team c.slot ≡ locations_logged c log = ap (locations_in c.team c.slot) (sym h.before.0) in
-    let is : checked_of (journal ++ more) c.team c.slot ≡ locations_logged c log ++ locations_logged c new = ap (locations_in c.team c.slot) (sym h.after.0) ∙ locations_grown c log new in
-    let fresh_ones : drop (length (checked_of journal c.team c.slot)) (checked_of (journal ++ more) c.team c.slot) ≡ locations_logged c new =
-    ap (λ xs. drop (length xs) (checked_of (journal ++ more) c.team c.slot)) was ∙ drop-grown (locations_logged c log) _ (locations_logged c new) is in
+    let was : checked_of seed journal c.team c.slot ≡ locations_logged c log = ap (locations_in c.team c.slot) (sym h.before.0) in
+    let is : checked_of seed (journal ++ more) c.team c.slot ≡ locations_logged c log ++ locations_logged c new = ap (locations_in c.team c.slot) (sym h.after.0) ∙ locations_grown c log new in
+    let fresh_ones : drop (length (checked_of seed journal c.team c.slot)) (checked_of seed (journal ++ more) c.team c.slot) ≡ locations_logged c new =
+    ap (λ xs. drop (length xs) (checked_of seed (journal ++ more) c.team c.slot)) was ∙ drop-grown (locations_logged c log) _ (locations_logged c new) is in
     ap₂ update_with worth fresh_ones
 
 pub growth_is : (seed : Seed) (journal more : List Record) (log new : List Logged) (c : Connection) → Grows seed journal more log new
@@ -83,9 +87,9 @@ unseen-again seen (x ∷ xs) =
           ap (λ b. cond b (unseen seen (unseen (seen ++ x ∷ []) xs)) (x ∷ unseen (seen ++ x ∷ []) (unseen (seen ++ x ∷ []) xs))) e ∙ ap (λ cs. x ∷ cs) (unseen-again (seen ++ x ∷ []) xs))
     ]) refl
 
-asked_record : (team slot : ℕ) (ls : List ℤ) → asked (checks_record team slot ls) ≡ checks_at team slot ls
-asked_record team slot [] = refl
-asked_record team slot (l ∷ ls) = append-nil (checks_at team slot (l ∷ ls))
+asked_record : (seed : Seed) (team slot : ℕ) (ls : List ℤ) → asked seed (checks_record team slot ls) ≡ checks_at team slot ls
+asked_record seed team slot [] = refl
+asked_record seed team slot (l ∷ ls) = append-nil (checks_at team slot (l ∷ ls))
 
 -- the record of the new checks asks for just these
 pub grows_checks : (seed : Seed) (journal : List Record) (log : List Logged) (c : Connection) (ns : List ℤ) → Stands seed journal log
@@ -94,14 +98,14 @@ grows_checks seed journal log c ns h =
     let new = fresh_entries seed.locations (checks_in log) c.team c.slot ns in
     let known_ones = known seed c.slot ns in
     let more = records_of seed journal (Some c) (location_checks ns) in
-    let news : checks_in new ≡ unseen (checked journal) (checks_at c.team c.slot known_ones) =
+    let news : checks_in new ≡ unseen (checked seed journal) (checks_at c.team c.slot known_ones) =
     entries_are seed (checks_in log) c.team c.slot ns ∙ ap (λ cs. unseen cs (checks_at c.team c.slot known_ones)) h.0 in
-    let asks : asked more ≡ unseen (checked journal) (checks_at c.team c.slot known_ones) =
-    asked_record c.team c.slot (new_locations seed journal c.team c.slot ns) ∙ checks_at-again (checked journal) c.team c.slot known_ones in
-    let fresh_is : fresh journal more ≡ checks_in new =
-    ap (unseen (checked journal)) asks ∙ unseen-again (checked journal) (checks_at c.team c.slot known_ones) ∙ sym news in
-    let together : checks_in (log ++ new) ≡ checked (journal ++ more) =
-    map-append logged_check log new ∙ ap₂ (λ xs ys. xs ++ ys) h.0 (sym fresh_is) ∙ sym (checked-append journal more) in
+    let asks : asked seed more ≡ unseen (checked seed journal) (checks_at c.team c.slot known_ones) =
+    asked_record seed c.team c.slot (new_locations seed journal c.team c.slot ns) ∙ checks_at-again (checked seed journal) c.team c.slot known_ones in
+    let fresh_is : fresh seed journal more ≡ checks_in new =
+    ap (unseen (checked seed journal)) asks ∙ unseen-again (checked seed journal) (checks_at c.team c.slot known_ones) ∙ sym news in
+    let together : checks_in (log ++ new) ≡ checked seed (journal ++ more) =
+    map-append logged_check log new ∙ ap₂ (λ xs ys. xs ++ ys) h.0 (sym fresh_is) ∙ sym (checked-append seed journal more) in
     record {
       before = h;
       after = (together, AllHeld-append seed log new h.1 (entries_held seed (checks_in log) c.team c.slot ns));
@@ -118,7 +122,7 @@ record_is seed journal log c ns h =
 pub grows_nothing : (seed : Seed) (journal : List Record) (log : List Logged) → Stands seed journal log → Grows seed journal [] log []
 grows_nothing seed journal log h = record {
   before = h;
-  after = (ap checks_in (append-nil log) ∙ h.0 ∙ ap checked (sym (append-nil journal)), subst (AllHeld seed) (sym (append-nil log)) h.1);
+  after = (ap checks_in (append-nil log) ∙ h.0 ∙ ap (checked seed) (sym (append-nil journal)), subst (AllHeld seed) (sym (append-nil log)) h.1);
 }
 
 pub count_grown : (c : Connection) (log new : List Logged) → length (locations_logged c (log ++ new)) ≡ length (locations_logged c log) + length (locations_logged c new)

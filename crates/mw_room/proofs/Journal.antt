@@ -2,12 +2,14 @@
 use Rattle.std.proofs.Common.{◌≡◌, ℕ, List, [], ◌∷◌, ◌++◌, ◌||◌, ◌&&◌, ◌==◌, Bool, true, false, length, drop, filter, refl, sym, ap, ◌∙◌, append_assoc, append-nil, cond}
 use Rattle.mw_model.specs.Seed.{Seed, slot_of, held_at}
 use Rattle.mw_protocol.specs.Records.{Record}
-use Rattle.mw_protocol.specs.Checks.{Check, same_check, has_check, asked_by, asked, unseen, distinct, checked, items_found, item_for, received, view, keeps, start_items}
-use Rattle.mw_protocol.specs.Room.{locations_in, checked_of}
+use Rattle.mw_protocol.specs.Checks.{Check, same_check, has_check, unseen, distinct, items_found, item_for, keeps, start_items}
+use Rattle.mw_protocol.specs.Asked.{asked_by, asked, checked, received, view}
+use Rattle.mw_protocol.specs.Checks.{locations_in}
+use Rattle.mw_protocol.specs.Room.{checked_of}
 
-pub asked-append : (xs ys : List Record) → asked (xs ++ ys) ≡ asked xs ++ asked ys
-asked-append [] ys = refl
-asked-append (r ∷ rs) ys = ap (λ cs. asked_by r ++ cs) (asked-append rs ys) ∙ sym (append_assoc (asked_by r) (asked rs) (asked ys))
+pub asked-append : (seed : Seed) (xs ys : List Record) → asked seed (xs ++ ys) ≡ asked seed xs ++ asked seed ys
+asked-append seed [] ys = refl
+asked-append seed (r ∷ rs) ys = ap (λ cs. asked_by seed r ++ cs) (asked-append seed rs ys) ∙ sym (append_assoc (asked_by seed r) (asked seed rs) (asked seed ys))
 
 -- what is unseen in a list and then in another
 pub unseen-append : (seen xs ys : List Check) → unseen seen (xs ++ ys) ≡ unseen seen xs ++ unseen (seen ++ unseen seen xs) ys
@@ -20,8 +22,8 @@ unseen-append seen (c ∷ xs) ys =
           ap (λ cs. c ∷ cs) (unseen-append (seen ++ c ∷ []) xs ys ∙ ap (λ s. unseen (seen ++ c ∷ []) xs ++ unseen s ys) (append_assoc seen (c ∷ []) (unseen (seen ++ c ∷ []) xs)))
     ]
 
-pub checked-append : (journal more : List Record) → checked (journal ++ more) ≡ checked journal ++ unseen (checked journal) (asked more)
-checked-append journal more = ap distinct (asked-append journal more) ∙ unseen-append [] (asked journal) (asked more)
+pub checked-append : (seed : Seed) (journal more : List Record) → checked seed (journal ++ more) ≡ checked seed journal ++ unseen (checked seed journal) (asked seed more)
+checked-append seed journal more = ap distinct (asked-append seed journal more) ∙ unseen-append [] (asked seed journal) (asked seed more)
 
 pub items_found-append : (seed : Seed) (team slot : ℕ) (xs ys : List Check) → items_found seed team slot (xs ++ ys) ≡ items_found seed team slot xs ++ items_found seed team slot ys
 items_found-append seed team slot [] ys = refl
@@ -47,20 +49,20 @@ locations_in-append team slot (c ∷ xs) ys =
     ]
 
 -- the new checks of more records
-abbrev pub fresh : List Record → List Record → List Check
-fresh journal more = unseen (checked journal) (asked more)
+abbrev pub fresh : Seed → List Record → List Record → List Check
+fresh seed journal more = unseen (checked seed journal) (asked seed more)
 
 pub view-append : (seed : Seed) (mask team slot : ℕ) (journal more : List Record)
-    → view seed mask team slot (journal ++ more) ≡ view seed mask team slot journal ++ filter (keeps mask slot) (items_found seed team slot (fresh journal more))
+    → view seed mask team slot (journal ++ more) ≡ view seed mask team slot journal ++ filter (keeps mask slot) (items_found seed team slot (fresh seed journal more))
 view-append seed mask team slot journal more =
     let start = start_items (slot_of seed slot) in
-    ap (λ cs. filter (keeps mask slot) (start ++ items_found seed team slot cs)) (checked-append journal more)
-    ∙ ap (λ is. filter (keeps mask slot) (start ++ is)) (items_found-append seed team slot (checked journal) (fresh journal more))
-    ∙ ap (filter (keeps mask slot)) (sym (append_assoc start (items_found seed team slot (checked journal)) (items_found seed team slot (fresh journal more))))
-    ∙ filter-append (keeps mask slot) (received seed team slot journal) (items_found seed team slot (fresh journal more))
+    ap (λ cs. filter (keeps mask slot) (start ++ items_found seed team slot cs)) (checked-append seed journal more)
+    ∙ ap (λ is. filter (keeps mask slot) (start ++ is)) (items_found-append seed team slot (checked seed journal) (fresh seed journal more))
+    ∙ ap (filter (keeps mask slot)) (sym (append_assoc start (items_found seed team slot (checked seed journal)) (items_found seed team slot (fresh seed journal more))))
+    ∙ filter-append (keeps mask slot) (received seed team slot journal) (items_found seed team slot (fresh seed journal more))
 
-pub checked_of-append : (team slot : ℕ) (journal more : List Record) → checked_of (journal ++ more) team slot ≡ checked_of journal team slot ++ locations_in team slot (fresh journal more)
-checked_of-append team slot journal more = ap (locations_in team slot) (checked-append journal more) ∙ locations_in-append team slot (checked journal) (fresh journal more)
+pub checked_of-append : (seed : Seed) (team slot : ℕ) (journal more : List Record) → checked_of seed (journal ++ more) team slot ≡ checked_of seed journal team slot ++ locations_in team slot (fresh seed journal more)
+checked_of-append seed team slot journal more = ap (locations_in team slot) (checked-append seed journal more) ∙ locations_in-append team slot (checked seed journal) (fresh seed journal more)
 
 pub drop-front : {X : Type 0} (xs ys : List X) → drop (length xs) (xs ++ ys) ≡ ys
 drop-front [] ys = refl

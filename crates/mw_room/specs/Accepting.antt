@@ -1,7 +1,8 @@
 -- A Connect that is accepted.
 use Rattle.std.specs.Prelude.{ℕ, Bool, true, false, Option, Some, None}
 use Rattle.mw_model.specs.Seed.{Seed}
-use Rattle.mw_protocol.specs.Packets.{Connect, Player, connect_errors}
+use Rattle.mw_protocol.specs.Packets.{Connect}
+use Rattle.mw_protocol.specs.Connecting.{Player, connect_errors}
 use Rattle.mw_protocol.specs.Room.{Connection, accepted}
 
 abbrev pub accept : Seed → Connect → Option Connection

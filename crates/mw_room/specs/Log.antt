@@ -4,7 +4,9 @@ use Rattle.mw_model.specs.Seed.{Seed, Held, slot_of, held_among, held_at}
 use Rattle.mw_model.specs.Items.{NetItem}
 use Rattle.mw_protocol.specs.Checks.{Check, has_check, start_items, found_item, keeps}
 use Rattle.mw_protocol.specs.Messages.{ServerPacket}
-use Rattle.mw_protocol.specs.Room.{Connection, locations_in, points, update_with, items_from}
+use Rattle.mw_protocol.specs.Room.{Connection, points}
+use Rattle.mw_protocol.specs.Checks.{locations_in}
+use Rattle.mw_protocol.specs.Owed.{update_with, items_from}
 
 -- a check in a team, with what stands at its location
 pub record Logged : Type 0 where

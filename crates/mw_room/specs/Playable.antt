@@ -7,5 +7,6 @@ abbrev pub HasFewNames : Slot → Type 0
 HasFewNames slot = length slot.names ≤ 8
 
 pub record IsPlayable (seed : Seed) : Type 0 where
+  pub few_teams : seed.teams ≤ 8
   pub few_slots : length seed.slots ≤ 1024
   pub few_names : All HasFewNames seed.slots

@@ -3,7 +3,8 @@ use Rattle.std.specs.Prelude.{◌≡◌, ℕ, ℤ, Some, List, [], ◌∷◌, re
 use Rattle.std.specs.Coded.{Coded, Coded-set, code_by, coded×, coded_ℕ, coded_ℤ, coded_list, coded_option, ×_prop, Unit-prop}
 use Rattle.mw_model.specs.Seed.{Seed, Held, held_at}
 use Rattle.mw_protocol.specs.Records.{Record}
-use Rattle.mw_protocol.specs.Checks.{Check, checked}
+use Rattle.mw_protocol.specs.Checks.{Check}
+use Rattle.mw_protocol.specs.Asked.{checked}
 use Rattle.mw_room.specs.Log.{Logged, checks_in, AllHeld}
 
 abbrev pub held_code : Coded Held
@@ -21,7 +22,7 @@ AllHeld-prop seed (e ∷ es) = ×_prop (Coded-set (coded_option held_code) (held
 
 -- its checks are the journal's distinct checks, each with what the seed file has there
 abbrev pub Stands : Seed → List Record → List Logged → Type 0
-Stands seed journal log = (checks_in log ≡ checked journal) × AllHeld seed log
+Stands seed journal log = (checks_in log ≡ checked seed journal) × AllHeld seed log
 
 pub Stands-prop : (seed : Seed) (journal : List Record) (log : List Logged) → IsProp (Stands seed journal log)
-Stands-prop seed journal log = ×_prop (Coded-set (coded_list check_code) (checks_in log) (checked journal)) (AllHeld-prop seed log)
+Stands-prop seed journal log = ×_prop (Coded-set (coded_list check_code) (checks_in log) (checked seed journal)) (AllHeld-prop seed log)

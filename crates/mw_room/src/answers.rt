@@ -1,6 +1,8 @@
 ghost use Rattle.std.specs.Prelude.{◌≡◌, ◌≤◌, ◌<◌, ◌^◌, ◌++◌, IfOk, OnOk, length, map, filter, not};
 ghost use Rattle.mw_model.specs.Games.{checksum_of};
-ghost use Rattle.mw_protocol.specs.Room.{plays as plays_lem, games_played as games_played_lem, room_info_of, name_in as name_in_lem, team_players, players_of as players_of_lem, slot_infos as slot_infos_lem, connected_of, locations_among, is_checked};
+ghost use Rattle.mw_protocol.specs.Players.{plays as plays_lem, games_played as games_played_lem, room_info_of, name_in as name_in_lem, team_players, players_of as players_of_lem, slot_infos as slot_infos_lem};
+ghost use Rattle.mw_protocol.specs.Room.{connected_of, is_checked};
+ghost use Rattle.mw_protocol.specs.Asked.{locations_among};
 ghost use Rattle.mw_room.specs.Log.{checks_in};
 ghost use Rattle.mw_room.specs.Playable.{IsPlayable};
 
@@ -8,7 +10,7 @@ use crate::log::is_logged;
 use crate::logged::Logged;
 use crate::owed::points_of;
 use crate::session::Connection;
-use mw_base::{List, Memory, Text};
+use mw_base::{List, Memory, SlotId, TeamId, Text};
 use mw_datapack::checksum_of_game;
 use mw_multidata::{Game, Held, Multidata, Slot};
 use mw_packets_out::{Connected, GameSum, NetworkPlayer, NetworkSlot, RoomInfo};
@@ -79,17 +81,17 @@ fn name_in(slot: &Slot, team: u8) -> &str
 fn add_team(
     alloc: Global,
     found: &mut List<NetworkPlayer>,
-    team: u8,
+    team: TeamId,
     slots: &[Slot],
 ) -> Result<(), Memory>
     requires { length slots.now ≤ 1024 }
     ensures { OnOk result (found.new ≡ found.old ++ team_players team 1 slots.now) }
 {
     for (before, slot) in slots.iter().enumerate() {
-        let name = Text::of(alloc, name_in(slot, team))?;
+        let name = Text::of(alloc, name_in(slot, team.get()))?;
         found.push(NetworkPlayer {
             team,
-            slot: before as u16 + 1,
+            slot: SlotId::new(before as u16 + 1).unwrap(),
             name,
         })?;
     }
@@ -98,12 +100,13 @@ fn add_team(
 
 /// The players, by team, then slot.
 fn players_of(alloc: Global, teams: u8, slots: &[Slot]) -> Result<List<NetworkPlayer>, Memory>
-    requires { length slots.now ≤ 1024 }
+    requires few { length slots.now ≤ 1024 }
+    requires teams { teams ≤ 8 }
     ensures { IfOk result (λ ps. ps ≡ players_of_lem teams slots.now) }
 {
     let mut found = List::new(alloc);
     for team in 0..teams {
-        add_team(alloc, &mut found, team, slots)?;
+        add_team(alloc, &mut found, TeamId::new(team).unwrap(), slots)?;
     }
     Ok(found)
 }
@@ -118,7 +121,7 @@ fn slot_infos(alloc: Global, team: u8, slots: &[Slot]) -> Result<List<NetworkSlo
         let name = Text::of(alloc, name_in(slot, team))?;
         let game = Text::of(alloc, slot.game.as_str())?;
         found.push(NetworkSlot {
-            slot: before as u16 + 1,
+            slot: SlotId::new(before as u16 + 1).unwrap(),
             name,
             game,
         })?;
@@ -182,8 +185,8 @@ pub fn connected(
     let slots = seed.slots.as_slice();
     let locations = seed.locations.as_slice();
     Ok(Connected {
-        team: c.team.get(),
-        slot: c.slot.get(),
+        team: c.team,
+        slot: c.slot,
         players: players_of(alloc, seed.teams, slots)?,
         missing_locations: missing_locations(alloc, locations, log, c)?,
         checked_locations: checked_locations(alloc, locations, log, c)?,

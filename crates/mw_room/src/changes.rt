@@ -1,9 +1,10 @@
-ghost use Rattle.std.specs.Prelude.{◌≡◌, ◌+◌, ◌<◌, ◌^◌, ℕ, IfOk, map, length, option_to_list};
-ghost use Rattle.mw_protocol.specs.Room.{made_by, message_of, items_from};
+ghost use Rattle.std.specs.Prelude.{◌≡◌, ◌+◌, ◌<◌, ◌^◌, ℕ, List, None, IfOk, map, length, option_to_list};
+ghost use Rattle.mw_protocol.specs.Room.{made_by, message_of};
+ghost use Rattle.mw_protocol.specs.Owed.{items_from};
 ghost use Rattle.mw_packets_in.specs.View.{packet_view as asked};
 ghost use Rattle.mw_packets_out.specs.View.{packet_view as told};
 ghost use Rattle.mw_room.specs.Answering.{other_in, welcome_in, answer_in, after_in, new_in};
-ghost use Rattle.mw_room.specs.Log.{view_in};
+ghost use Rattle.mw_room.specs.Log.{view_in, Logged as plain};
 ghost use Rattle.mw_room.specs.Playable.{IsPlayable};
 ghost use Rattle.mw_base.specs.Space.{HasSpace};
 ghost use Rattle.mw_room.specs.Views.{session_view, changed};
@@ -93,6 +94,26 @@ fn whole_view(
     Ok(packets)
 }
 
+/// What a session that isn't connected is owed for its own packet.
+fn told_stranger(
+    alloc: Global,
+    seed: &Multidata,
+    log: &[Logged],
+    packet: &Packet,
+) -> Result<List<ServerPacket>, Memory>
+    requires playable { IsPlayable seed.now }
+    requires few { length log.now < 2 ^ 32 }
+    ensures { IfOk result (λ ps. (new : List plain) → map told ps ≡ answer_in seed.now log.now new (asked packet.now) None) }
+{
+    match packet {
+        Packet::Connect(_) => {
+            let made = connection_made(seed, packet);
+            welcome(alloc, seed, log, &made)
+        }
+        _ => Ok(List::new(alloc)),
+    }
+}
+
 /// What a session is owed for its own packet.
 fn told_sender(
     alloc: Global,
@@ -106,16 +127,12 @@ fn told_sender(
     requires few { length log.now + length new.now < 2 ^ 32 }
     ensures { IfOk result (λ ps. map told ps ≡ answer_in seed.now log.now new.now (asked packet.now) connection.now) }
 {
-    match (packet, connection) {
-        (Packet::Connect { .. }, None) => {
-            let made = connection_made(seed, packet);
-            welcome(alloc, seed, log, &made)
-        }
-        (Packet::Sync, Some(c)) => whole_view(alloc, seed, log, c),
-        (Packet::Connect { .. } | Packet::LocationChecks { .. }, Some(c)) => {
-            growth_of(alloc, seed, log, new, c)
-        }
-        (Packet::Sync | Packet::LocationChecks { .. }, None) => Ok(List::new(alloc)),
+    match connection {
+        None => told_stranger(alloc, seed, log, packet),
+        Some(c) => match packet {
+            Packet::Sync => whole_view(alloc, seed, log, c),
+            _ => growth_of(alloc, seed, log, new, c),
+        },
     }
 }
 

@@ -1,7 +1,8 @@
 ghost use Rattle.std.specs.Prelude.{◌≡◌, ◌≤◌, pos, length, unwrap_or, Some, None, if◌then◌else◌};
 ghost use Rattle.std.specs.Option.{option_copied};
-ghost use Rattle.mw_protocol.specs.Packets.{team_named as team_named_lem, player_named as player_named_lem, text_or_empty, looks_on as looks_on_lem, is_game_of as is_game_of_lem, is_old as is_old_lem, is_mask, is_wrong_password as is_wrong_password_lem, slot_played as slot_played_lem};
-ghost use Rattle.mw_protocol.specs.Room.{made_by, mask_of};
+ghost use Rattle.mw_protocol.specs.Connecting.{team_named as team_named_lem, player_named as player_named_lem, text_or_empty, looks_on as looks_on_lem, is_game_of as is_game_of_lem, is_old as is_old_lem, is_mask, is_wrong_password as is_wrong_password_lem, slot_played as slot_played_lem};
+ghost use Rattle.mw_protocol.specs.Room.{made_by};
+ghost use Rattle.mw_protocol.specs.Connecting.{mask_of};
 ghost use Rattle.mw_packets_in.specs.View.{packet_view};
 ghost use Rattle.mw_room.specs.Accepting.{accept as accept_lem, connection_unless as connection_unless_lem};
 ghost use Rattle.mw_room.specs.Playable.{IsPlayable};
@@ -11,7 +12,7 @@ use crate::playable::playable;
 use crate::session::Connection;
 use mw_base::{List, SlotId, TeamId, Text};
 use mw_multidata::{Multidata, Slot};
-use mw_packets_in::{Packet, Version, has_tag};
+use mw_packets_in::{Connect, Packet, Version, has_tag};
 use std::marker::Model;
 
 /// A player: the team, and the slot.
@@ -138,24 +139,16 @@ fn connection_unless(refused: bool, player: Option<Player>, mask: Option<u8>) ->
 
 /// The connection that a Connect of a session that isn't connected makes; None where it is refused.
 #[tactic(auto, using(crate::proofs::Accepted::accepted_is))]
-fn accept(
-    seed: &Multidata,
-    name: &Text,
-    password: &Option<Text>,
-    game: &Option<Text>,
-    version: &Version,
-    items_handling: &Option<i128>,
-    tags: &Option<List<Text>>,
-) -> Option<Connection>
+fn accept(seed: &Multidata, fields: &Connect) -> Option<Connection>
     requires { IsPlayable seed.now }
-    ensures { result ≡ accept_lem seed.now record { name = name.now; password = password.now; game = game.now; version = version.now; items_handling = items_handling.now; tags = tags.now } }
+    ensures { result ≡ accept_lem seed.now fields.now }
 {
-    let player = player_named(seed, name.as_str());
+    let player = player_named(seed, fields.name.as_str());
     let slot = slot_played(seed, &player);
-    let refused = is_wrong_password(seed, password)
-        | !is_game_of(game, tags, slot)
-        | is_old(version);
-    connection_unless(refused, player, mask_in(items_handling))
+    let refused = is_wrong_password(seed, &fields.password)
+        | !is_game_of(&fields.game, &fields.tags, slot)
+        | is_old(&fields.version);
+    connection_unless(refused, player, mask_in(&fields.items_handling))
 }
 
 /// The connection that a packet makes for a session that isn't connected.
@@ -164,14 +157,7 @@ pub fn connection_made(seed: &Multidata, packet: &Packet) -> Option<Connection>
 {
     playable(seed);
     match packet {
-        Packet::Connect {
-            name,
-            password,
-            game,
-            version,
-            items_handling,
-            tags,
-        } => accept(seed, name, password, game, version, items_handling, tags),
+        Packet::Connect(fields) => accept(seed, fields),
         _ => None,
     }
 }

@@ -2,7 +2,8 @@ ghost use Rattle.std.specs.Prelude.{◌≡◌, ◌++◌, ◌∷◌, [], ◌≤�
 ghost use Rattle.std.specs.Option.{option_copied};
 ghost use Rattle.mw_model.specs.Seed.{held_among, held_at, slot_of};
 ghost use Rattle.mw_protocol.specs.Checks.{has_check, checks_at, keeps, found_item, start_item, start_items};
-ghost use Rattle.mw_protocol.specs.Room.{known, locations_in};
+ghost use Rattle.mw_protocol.specs.Effects.{known};
+ghost use Rattle.mw_protocol.specs.Checks.{locations_in};
 ghost use Rattle.mw_room.specs.Log.{logged_check, checks_in, AllHeld, items_in, kept_in, starts_kept, view_in, locations_logged, fresh_entries};
 ghost use Rattle.mw_room.specs.Log.{entry_unless as entry_unless_lem};
 

@@ -2,7 +2,7 @@ ghost use Rattle.std.specs.Prelude.{◌≡◌, ◌+◌, ◌-◌, ◌<◌, slice_
 ghost use Rattle.std.specs.Option.{option_copied};
 ghost use Rattle.mw_model.specs.Seed.{slot_of};
 ghost use Rattle.mw_protocol.specs.Checks.{start_items};
-ghost use Rattle.mw_protocol.specs.Room.{items_from, update_with};
+ghost use Rattle.mw_protocol.specs.Owed.{items_from, update_with};
 ghost use Rattle.mw_packets_out.specs.View.{packet_view};
 ghost use Rattle.mw_room.specs.Log.{view_in, starts_kept, kept_in, points_in, locations_logged, growth_in};
 

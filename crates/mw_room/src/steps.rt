@@ -3,7 +3,7 @@ ghost use Rattle.mw_packets_in.specs.View.{packet_view};
 ghost use Rattle.mw_records.specs.Records.{record_view};
 ghost use Rattle.mw_room.specs.Answering.{all_after, records_in};
 ghost use Rattle.mw_room.specs.Fits.{ChangesFit};
-ghost use Rattle.mw_protocol.specs.Room.{location_of};
+ghost use Rattle.mw_protocol.specs.Effects.{location_of};
 ghost use Rattle.mw_room.specs.Log.{checks_in};
 ghost use Rattle.mw_room.specs.Playable.{IsPlayable};
 ghost use Rattle.mw_room.specs.Views.{session_view, all_changed};
@@ -80,12 +80,8 @@ pub fn records_for(
     let mut records = List::new(alloc);
     if let Some(c) = connection {
         let locations = locations_in(alloc, new)?;
-        if locations.len() > 0 {
-            records.push(Record::Checks {
-                team: c.team,
-                slot: c.slot,
-                locations,
-            })?;
+        if let Some(record) = Record::of_checks(c.team, c.slot, locations) {
+            records.push(record)?;
         }
     }
     Ok(records)

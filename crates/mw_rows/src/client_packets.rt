@@ -3,20 +3,13 @@ use std::test::Fail;
 
 fn connects_ann(packet: &Packet) -> bool {
     match packet {
-        Packet::Connect {
-            name,
-            password,
-            game,
-            version,
-            items_handling,
-            tags,
-        } => {
-            name.as_str() == "Ann"
-                && password.is_none()
-                && game.is_some()
-                && version.build == 1
-                && *items_handling == Some(7)
-                && tags.is_some()
+        Packet::Connect(fields) => {
+            fields.name.as_str() == "Ann"
+                && fields.password.is_none()
+                && fields.game.is_some()
+                && fields.version.build == 1
+                && fields.items_handling == Some(7)
+                && fields.tags.is_some()
         }
         _ => false,
     }

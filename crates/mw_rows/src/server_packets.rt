@@ -1,6 +1,6 @@
 ghost use Rattle.std.specs.Prelude.{◌≡◌, ◌∷◌, [], IfOk};
 
-use mw_base::{List, NetItem, Permission, Text};
+use mw_base::{List, NetItem, Permission, SlotId, TeamId, Text};
 use mw_packets_out::{
     Connected, GameSum, NetworkPlayer, NetworkSlot, RoomInfo, ServerPacket, write_message,
 };
@@ -34,26 +34,34 @@ fn room_info(alloc: Global) -> Result<RoomInfo, Fail> {
     })
 }
 
+fn player(alloc: Global, slot: SlotId, name: &str) -> Result<NetworkPlayer, Fail> {
+    Ok(NetworkPlayer {
+        team: TeamId::new(0).unwrap(),
+        slot,
+        name: Text::of(alloc, name)?,
+    })
+}
+
+fn slot_of(alloc: Global, slot: SlotId, name: &str) -> Result<NetworkSlot, Fail> {
+    Ok(NetworkSlot {
+        slot,
+        name: Text::of(alloc, name)?,
+        game: Text::of(alloc, "G")?,
+    })
+}
+
 fn connected(alloc: Global) -> Result<Connected, Fail> {
-    let mut players = List::new(alloc);
-    let mut slot_info = List::new(alloc);
-    for (slot, name) in [(1, "Ann"), (2, "Bob")] {
-        players.push(NetworkPlayer {
-            team: 0,
-            slot,
-            name: Text::of(alloc, name)?,
-        })?;
-        slot_info.push(NetworkSlot {
-            slot,
-            name: Text::of(alloc, name)?,
-            game: Text::of(alloc, "G")?,
-        })?;
-    }
+    let first = SlotId::new(1).unwrap();
+    let second = SlotId::new(2).unwrap();
+    let mut players = list(alloc, player(alloc, first, "Ann")?)?;
+    players.push(player(alloc, second, "Bob")?)?;
+    let mut slot_info = list(alloc, slot_of(alloc, first, "Ann")?)?;
+    slot_info.push(slot_of(alloc, second, "Bob")?)?;
     let mut missing_locations = list(alloc, 101)?;
     missing_locations.push(102)?;
     Ok(Connected {
-        team: 0,
-        slot: 1,
+        team: TeamId::new(0).unwrap(),
+        slot: first,
         players,
         missing_locations,
         checked_locations: List::new(alloc),
@@ -108,11 +116,8 @@ fn a_location_is_checked(rt: HostRuntime) -> Result<(), Fail> {
 #[test]
 fn slots_stand_in_byte_order(rt: HostRuntime) -> Result<(), Fail> {
     let mut it = connected(rt.alloc())?;
-    it.slot_info.push(NetworkSlot {
-        slot: 10,
-        name: Text::of(rt.alloc(), "Cy")?,
-        game: Text::of(rt.alloc(), "G")?,
-    })?;
+    it.slot_info
+        .push(slot_of(rt.alloc(), SlotId::new(10).unwrap(), "Cy")?)?;
     let packets = list(rt.alloc(), ServerPacket::Connected(it))?;
     let text = write_message(rt.alloc(), &packets)?;
     let first = text.as_str().find(r#""1":{"#);

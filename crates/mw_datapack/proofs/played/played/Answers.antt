@@ -1,5 +1,5 @@
 use Rattle.std.proofs.Common.{◌≡◌, ap, sym, subst, ◌∙◌, true, is_some, option_map}
-use Rattle.mw_protocol.specs.Room.{plays}
+use Rattle.mw_protocol.specs.Players.{plays}
 use Rattle.mw_model.specs.Seed.{Seed}
 use Rattle.mw_multidata.specs.Names.{find_game}
 use Rattle.mw_multidata.specs.SeedKept.{IsSeed}

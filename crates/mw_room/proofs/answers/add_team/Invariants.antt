@@ -1,5 +1,5 @@
 use Rattle.std.proofs.Common.{◌≡◌, ◌+◌, ◌++◌, drop}
-use Rattle.mw_protocol.specs.Room.{team_players}
+use Rattle.mw_protocol.specs.Players.{team_players}
 use Rattle.mw_room.proofs.answers.add_team.Given as goal
 
 abbrev pub invariant-loop-before : goal.invariant-loop-before

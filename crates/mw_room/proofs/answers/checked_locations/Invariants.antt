@@ -1,6 +1,7 @@
 use Rattle.std.proofs.Common.{◌≡◌, ◌++◌, drop}
 use Rattle.std.specs.List.{filter}
-use Rattle.mw_protocol.specs.Room.{is_checked, locations_among}
+use Rattle.mw_protocol.specs.Room.{is_checked}
+use Rattle.mw_protocol.specs.Asked.{locations_among}
 use Rattle.mw_room.specs.Log.{checks_in}
 use Rattle.mw_room.proofs.answers.checked_locations.Given as goal
 

@@ -1,5 +1,5 @@
 use Rattle.std.proofs.Common.{◌≡◌, ◌++◌, drop}
-use Rattle.mw_protocol.specs.Room.{games_played}
+use Rattle.mw_protocol.specs.Players.{games_played}
 use Rattle.mw_room.proofs.answers.games_played.Given as goal
 
 abbrev pub invariant-loop-game : goal.invariant-loop-game

@@ -1,5 +1,5 @@
 use Rattle.std.proofs.Common.{◌≡◌, drop}
-use Rattle.mw_protocol.specs.Room.{plays}
+use Rattle.mw_protocol.specs.Players.{plays}
 use Rattle.mw_room.proofs.answers.plays.Given as goal
 
 abbrev pub invariant-loop-slot : goal.invariant-loop-slot

@@ -1,5 +1,5 @@
 use Rattle.std.proofs.Common.{◌≡◌, ◌+◌, ◌++◌, drop}
-use Rattle.mw_protocol.specs.Room.{slot_infos}
+use Rattle.mw_protocol.specs.Players.{slot_infos}
 use Rattle.mw_room.proofs.answers.slot_infos.Given as goal
 
 abbrev pub invariant-loop-before : goal.invariant-loop-before

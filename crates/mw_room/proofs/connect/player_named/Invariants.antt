@@ -1,6 +1,6 @@
 use Rattle.std.proofs.Common.{◌≡◌, ◌+◌, drop}
 use Rattle.std.specs.List.{All}
-use Rattle.mw_protocol.specs.Packets.{player_among}
+use Rattle.mw_protocol.specs.Connecting.{player_among}
 use Rattle.mw_room.specs.Playable.{HasFewNames}
 use Rattle.mw_room.proofs.connect.player_named.Given as goal
 

@@ -1,5 +1,5 @@
 use Rattle.std.proofs.Common.{◌≡◌, drop}
-use Rattle.mw_protocol.specs.Packets.{team_named}
+use Rattle.mw_protocol.specs.Connecting.{team_named}
 use Rattle.mw_room.proofs.connect.team_named.Given as goal
 
 abbrev pub invariant-loop-team : goal.invariant-loop-team

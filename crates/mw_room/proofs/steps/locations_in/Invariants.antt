@@ -1,5 +1,5 @@
 use Rattle.std.proofs.Common.{◌≡◌, ◌++◌, drop, map}
-use Rattle.mw_protocol.specs.Room.{location_of}
+use Rattle.mw_protocol.specs.Effects.{location_of}
 use Rattle.mw_room.specs.Log.{checks_in}
 use Rattle.mw_room.proofs.steps.locations_in.Given as goal
 

@@ -1,5 +1,5 @@
 use Rattle.std.proofs.Common.{◌≡◌, [], map, sym, ap, subst, ◌∙◌, arith}
-use Rattle.mw_protocol.specs.Checks.{checked}
+use Rattle.mw_protocol.specs.Asked.{checked}
 use Rattle.mw_records.specs.Records.{record_view}
 use Rattle.mw_room.specs.Playable.{IsPlayable}
 use Rattle.mw_room.specs.Log.{checks_in, AllHeld}
@@ -11,6 +11,6 @@ invariant_of-result c =
     let log : c.new-2.result.items ≡ [] = c.new-2.ensures.items in
     record {
       playable = subst IsPlayable c.multidata.ensures.value c.playable.ensures;
-      stands = (ap checks_in log ∙ ap checked (ap (map record_view) (sym journal)), subst (AllHeld c.args.tables) (sym log) _);
+      stands = (ap checks_in log ∙ ap (checked c.args.tables) (ap (map record_view) (sym journal)), subst (AllHeld c.args.tables) (sym log) _);
       few = grind arith;
     }

@@ -1,0 +1,77 @@
+ghost use Rattle.std.specs.Prelude.{◌≡◌, IfOk, map};
+ghost use Rattle.mw_model.specs.Json.{IsWritable, many};
+ghost use Rattle.mw_model.specs.Trees.{items_of, text_json};
+ghost use Rattle.mw_protocol.specs.Messages.{connection_refused_json, invalid_packet_json, kind_text, text_or_null};
+ghost use Rattle.mw_json.specs.View.{view};
+ghost use Rattle.mw_packets_out.specs.View.{kind_view};
+
+use crate::packet::InvalidKind;
+use mw_base::{List, Memory, Text};
+use mw_json::{Tree, push_tree, put, put_words, words_tree};
+use std::alloc::Global;
+
+/// Texts as a list.
+#[tactic(auto, using(crate::proofs::Writable::same_items))]
+fn texts_tree(alloc: Global, texts: &[Text]) -> Result<Tree, Memory>
+    ensures value { IfOk result (λ t. view t ≡ many (items_of (map text_json texts.now))) }
+    ensures writable { IfOk result (λ t. IsWritable (view t)) }
+{
+    let mut trees = List::new(alloc);
+    for text in texts {
+        push_tree(&mut trees, words_tree(alloc, text.as_str())?)?;
+    }
+    Ok(Tree::Many(trees))
+}
+
+/// Why a Connect is refused, as an object.
+pub(crate) fn connection_refused_tree(alloc: Global, errors: &[Text]) -> Result<Tree, Memory>
+    ensures value { IfOk result (λ t. view t ≡ connection_refused_json errors.now) }
+    ensures writable { IfOk result (λ t. IsWritable (view t)) }
+{
+    let errors = texts_tree(alloc, errors)?;
+    let mut parts = List::new(alloc);
+    put_words(alloc, &mut parts, "cmd", "ConnectionRefused")?;
+    put(alloc, &mut parts, "errors", errors)?;
+    Ok(Tree::Members(parts))
+}
+
+/// A text, or null where there is none.
+fn text_or_null_tree(alloc: Global, text: &Option<Text>) -> Result<Tree, Memory>
+    ensures value { IfOk result (λ t. view t ≡ text_or_null text.now) }
+    ensures writable { IfOk result (λ t. IsWritable (view t)) }
+{
+    match text {
+        Some(there) => words_tree(alloc, there.as_str()),
+        None => Ok(Tree::Null),
+    }
+}
+
+/// A kind's word.
+fn kind_word(kind: InvalidKind) -> &'static str
+    ensures { result.now ≡ kind_text (kind_view kind) }
+{
+    match kind {
+        InvalidKind::Cmd => "cmd",
+        InvalidKind::Arguments => "arguments",
+    }
+}
+
+/// What is no packet or can't be done, as an object.
+pub(crate) fn invalid_packet_tree(
+    alloc: Global,
+    kind: InvalidKind,
+    original_cmd: &Option<Text>,
+    text: &Text,
+) -> Result<Tree, Memory>
+    ensures value { IfOk result (λ t. view t
+        ≡ invalid_packet_json (record { kind = kind_view kind; cmd = original_cmd.now; why = text.now })) }
+    ensures writable { IfOk result (λ t. IsWritable (view t)) }
+{
+    let original_cmd = text_or_null_tree(alloc, original_cmd)?;
+    let mut parts = List::new(alloc);
+    put_words(alloc, &mut parts, "cmd", "InvalidPacket")?;
+    put(alloc, &mut parts, "original_cmd", original_cmd)?;
+    put_words(alloc, &mut parts, "text", text.as_str())?;
+    put_words(alloc, &mut parts, "type", kind_word(kind))?;
+    Ok(Tree::Members(parts))
+}
