@@ -2,7 +2,8 @@ ghost use Rattle.std.specs.Prelude.{◌≡◌, ◌∷◌, [], IfOk};
 
 use mw_base::{List, NetItem, Permission, SlotId, TeamId, Text};
 use mw_packets_out::{
-    Connected, GameSum, NetworkPlayer, NetworkSlot, RoomInfo, ServerPacket, write_message,
+    Connected, GameSum, InvalidKind, NetworkPlayer, NetworkSlot, RoomInfo, ServerPacket,
+    write_both, write_message,
 };
 use std::alloc::Global;
 use std::test::Fail;
@@ -124,5 +125,46 @@ fn slots_stand_in_byte_order(rt: HostRuntime) -> Result<(), Fail> {
     let tenth = text.as_str().find(r#""10":{"#);
     let second = text.as_str().find(r#""2":{"#);
     assert!(rt; first < tenth && tenth < second);
+    Ok(())
+}
+
+#[test]
+fn refusals_are_told(rt: HostRuntime) -> Result<(), Fail> {
+    let alloc = rt.alloc();
+    let mut errors = list(alloc, Text::of(alloc, "InvalidPassword")?)?;
+    errors.push(Text::of(alloc, "InvalidSlot")?)?;
+    let mut packets = list(alloc, ServerPacket::ConnectionRefused { errors })?;
+    packets.push(ServerPacket::InvalidPacket {
+        kind: InvalidKind::Arguments,
+        original_cmd: Some(Text::of(alloc, "LocationChecks")?),
+        text: Text::of(alloc, "arguments: locations")?,
+    })?;
+    packets.push(ServerPacket::InvalidPacket {
+        kind: InvalidKind::Cmd,
+        original_cmd: None,
+        text: Text::of(alloc, "no JSON list")?,
+    })?;
+    assert_eq!(rt;
+        write_message(alloc, &packets)?.as_str(),
+        r#"[{"cmd":"ConnectionRefused","errors":["InvalidPassword","InvalidSlot"]},{"cmd":"InvalidPacket","original_cmd":"LocationChecks","text":"arguments: locations","type":"arguments"},{"cmd":"InvalidPacket","original_cmd":null,"text":"no JSON list","type":"cmd"}]"#
+    );
+    Ok(())
+}
+
+#[test]
+fn what_stands_there_is_told(rt: HostRuntime) -> Result<(), Fail> {
+    let sword = NetItem {
+        item: 7,
+        location: 101,
+        player: 2,
+        flags: 1,
+    };
+    let info = ServerPacket::LocationInfo {
+        locations: list(rt.alloc(), sword)?,
+    };
+    assert_eq!(rt;
+        write_both(rt.alloc(), &[], list(rt.alloc(), info)?.as_slice())?.as_str(),
+        r#"[{"cmd":"LocationInfo","locations":[{"class":"NetworkItem","flags":1,"item":7,"location":101,"player":2}]}]"#
+    );
     Ok(())
 }
