@@ -1,34 +1,41 @@
 ghost use Rattle.std.specs.Prelude.{◌≡◌, ◌<◌, ◌≤◌, ◌*◌, ℕ, List, IfOk, OnOk, length, sum_by};
 ghost use Rattle.mw_multi.specs.Placement.{IsPlacement, IsPlaced};
+ghost use Rattle.mw_multi.specs.Steps.{rule_list};
 ghost use Rattle.mw_multi.specs.Events.{with_events};
 ghost use Rattle.mw_reach.specs.Goals.{IsBeatable};
-ghost use Rattle.mw_reach.specs.Reached.{IsMadeFor, KeepsRules};
+ghost use Rattle.mw_reach.specs.Reached.{IsMadeFor};
 ghost use Rattle.mw_multi.specs.WorldKept.{copies};
 ghost use Rattle.mw_fill.specs.Generated.{IsUnmet, slot_pool_size, pool_size, CanBeTried, GeneratedSeed};
 
+use crate::asking::{reach_asking, unmet_goal_asking};
 use crate::error::FillError;
 use crate::lists::stock_of;
 use crate::one_try::try_from_stock;
 use crate::seed::{GenerateError, Seed};
 use mw_base::Memory;
-use mw_multi::{Bag, Joint, Placed, World};
-use mw_reach::{Reached, reach, unmet_goal};
+use mw_multi::{Bag, Joint, Placed, TreeRules, World};
+use mw_reach::Reached;
+use mw_rules::Ruling;
 use std::alloc::Global;
 
 /// The first slot whose goal doesn't hold with everything in hand, from 1; `Memory` where memory ran out.
-fn first_unmet(alloc: Global, joint: &Joint, reached: &mut Reached) -> Result<Option<u16>, Memory>
+fn first_unmet<R: Ruling>(
+    alloc: Global,
+    joint: &Joint,
+    rules: &R,
+    reached: &mut Reached,
+) -> Result<Option<u16>, Memory>
+    requires rules { R.stands_for rules.now (rule_list joint.now) }
     requires reached { IsMadeFor joint.now reached.old }
-    requires rules { KeepsRules joint.now reached.old }
     ensures kept { IsMadeFor joint.now reached.new }
-    ensures rules { KeepsRules joint.now reached.new }
     ensures slot { IfOk result (IsUnmet joint.now) }
 {
     // Reading the joint makes known what its type keeps.
     let _ = &joint.slots;
     let everything = Bag::everything(alloc, joint)?;
     let placed = Placed::events(alloc, joint)?;
-    reach(joint, &everything, &placed, reached);
-    Ok(unmet_goal(joint, reached))
+    reach_asking(joint, rules, &everything, &placed, reached);
+    Ok(unmet_goal_asking(joint, rules, reached))
 }
 
 /// How many copies the pool of a world has.
@@ -59,8 +66,16 @@ fn pool_copies(joint: &Joint) -> u64
 ///
 /// It is refused at the first slot whose goal doesn't hold with all items in hand and the events alone placed; then where
 /// the pools have more copies than there are locations with an id; then where each try is Stuck. `Memory` is want of memory.
-pub fn generate(alloc: Global, joint: &Joint, seed: u64, tries: u32) -> Result<Seed, GenerateError>
-    requires { (1 ≤ tries) × (tries ≤ 1000) }
+/// The joint's rules are asked of `rules`.
+pub fn generate_by<R: Ruling>(
+    alloc: Global,
+    joint: &Joint,
+    rules: &R,
+    seed: u64,
+    tries: u32,
+) -> Result<Seed, GenerateError>
+    requires rules { R.stands_for rules.now (rule_list joint.now) }
+    requires tries { (1 ≤ tries) × (tries ≤ 1000) }
     ensures seed { GeneratedSeed joint.now seed tries result }
     ensures tried { OnOk result (CanBeTried joint.now) }
     ensures placement { IfOk result (λ found. IsPlacement joint.now found.placement) }
@@ -70,8 +85,8 @@ pub fn generate(alloc: Global, joint: &Joint, seed: u64, tries: u32) -> Result<S
 {
     // Reading the joint makes known what its type keeps.
     let _ = &joint.slots;
-    let mut reached = Reached::new(alloc, joint)?;
-    match first_unmet(alloc, joint, &mut reached)? {
+    let mut reached = Reached::new_by(alloc, joint, rules)?;
+    match first_unmet(alloc, joint, rules, &mut reached)? {
         Some(slot) => return Err(GenerateError::NotBeatable { slot }),
         None => {}
     }
@@ -82,11 +97,28 @@ pub fn generate(alloc: Global, joint: &Joint, seed: u64, tries: u32) -> Result<S
         return Err(GenerateError::TooManyItems { have, room });
     }
     for stream in 0..u64::from(tries) {
-        match try_from_stock(alloc, joint, &stock, &mut reached, seed, stream) {
+        match try_from_stock(alloc, joint, rules, &stock, &mut reached, seed, stream) {
             Ok(placement) => return Ok(Seed { placement, stream }),
             Err(FillError::Memory) => return Err(GenerateError::Memory),
             Err(FillError::Stuck { .. }) => {}
         }
     }
     Err(GenerateError::Exhausted)
+}
+
+/// The placement of the first of 1 to 1,000 tries that gives one, the first try having number 0.
+///
+/// It is refused at the first slot whose goal doesn't hold with all items in hand and the events alone placed; then where
+/// the pools have more copies than there are locations with an id; then where each try is Stuck. `Memory` is want of memory.
+pub fn generate(alloc: Global, joint: &Joint, seed: u64, tries: u32) -> Result<Seed, GenerateError>
+    requires { (1 ≤ tries) × (tries ≤ 1000) }
+    ensures seed { GeneratedSeed joint.now seed tries result }
+    ensures tried { OnOk result (CanBeTried joint.now) }
+    ensures placement { IfOk result (λ found. IsPlacement joint.now found.placement) }
+    ensures beatable { IfOk result (λ found. (table : List (List ℕ))
+        → IsPlaced joint.now.slots (with_events joint.now found.placement) table
+        → IsBeatable joint.now table) }
+{
+    let rules = TreeRules::of(alloc, joint)?;
+    generate_by(alloc, joint, &rules, seed, tries)
 }

@@ -2,6 +2,7 @@
 #![tactic(auto)]
 
 mod anywhere;
+mod asking;
 mod assumed;
 mod copies;
 mod draws;
@@ -21,7 +22,7 @@ mod seed;
 
 pub use draws::{Words, draw, shuffle};
 pub use error::FillError;
-pub use generating::generate;
+pub use generating::{generate, generate_by};
 pub use laws::has_one_outcome;
-pub use one_try::fill_try;
+pub use one_try::{fill_try, fill_try_by};
 pub use seed::{GenerateError, Seed};

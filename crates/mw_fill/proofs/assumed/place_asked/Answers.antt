@@ -16,14 +16,14 @@ use Rattle.mw_fill.proofs.Runs.{IsPlacedSoFar, table_room, placed_here, stuck_he
 use Rattle.mw_fill.proofs.assumed.place_asked.Goals as goal
 
 pub location_for-requires-clause-placed : goal.location_for-requires-clause-placed
-location_for-requires-clause-placed c =
+location_for-requires-clause-placed g c =
     let copy = c.copy-item.result in
     let kept : IsJoint c.args.joint.now = subst IsJoint c.joint.view_is c.joint.invariant in
     let copy_kept : CopyKept c.args.joint.now.slots copy = subst (CopyKept c.args.joint.now.slots) (sym c.copy-item.is) (c.requires.copies c.loop-copy.copy-index copy c.loop-copy-test.true) in
     placed_here c.args.joint.now kept c.args.openings.now c.args.copies.now c.requires.few c.loop-copy.copy-index c.loop-copy.hand c.loop-copy.held c.loop-copy.placed c.loop-copy.invariant.so_far copy c.loop-copy-test.true c.copy-item.is copy_kept
 
 pub returns-in-None-clause-answer : goal.returns-in-None-clause-answer
-returns-in-None-clause-answer c =
+returns-in-None-clause-answer g c =
     let a = c.args in
     let copy = c.copy-item.result in
     let now = c.loop-copy in
@@ -38,12 +38,12 @@ returns-in-None-clause-answer c =
     (stuck_here a.joint.now kept a.openings.now a.copies.now c.requires.few now.copy-index now.hand now.held now.placed now.invariant.so_far copy c.loop-copy-test.true c.copy-item.is copy_kept w least none)
 
 pub put-requires-clause-room : goal.put-requires-clause-room
-put-requires-clause-room c =
+put-requires-clause-room g c =
     let kept : IsJoint c.args.joint.now = subst IsJoint c.joint.view_is c.joint.invariant in
     table_room c.args.joint.now kept c.args.openings.now c.args.copies.now c.requires.few c.loop-copy.copy-index c.loop-copy.hand c.loop-copy.held c.loop-copy.placed c.loop-copy.invariant.so_far c.loop-copy-test.true
 
 pub put-requires-clause-kept : goal.put-requires-clause-kept
-put-requires-clause-kept c =
+put-requires-clause-kept g c =
     let a = c.args in
     let copy = c.copy-item.result in
     let copy_kept : CopyKept a.joint.now.slots copy = subst (CopyKept a.joint.now.slots) (sym c.copy-item.is) (c.requires.copies c.loop-copy.copy-index copy c.loop-copy-test.true) in
@@ -51,13 +51,13 @@ put-requires-clause-kept c =
     subst (PutKept a.joint.now.slots) (sym c.put_at-put.ensures) (put_kept a.joint.now.slots c.in-Some.opening copy.receiver copy.item site copy_kept.item)
 
 pub bounds-held-opening-inside : goal.bounds-held-opening-inside
-bounds-held-opening-inside c =
+bounds-held-opening-inside g c =
     let a = c.args in
     let site = find_all (OpeningKept a.joint.now.slots) _ a.openings.now c.in-Some.opening c.requires.openings (sym c.location_for.ensures.fit.2 ∙ c.in-Some.is) in
     omega (arith, site.place, c.loop-copy.invariant.so_far.held_is.size, ap (λ (s : Opening). s.place) c.opening.view_is)
 
 pub loop-copy-preserved : goal.loop-copy-preserved
-loop-copy-preserved c =
+loop-copy-preserved g c =
     let a = c.args in
     let copy = c.copy-item.result in
     let opening = c.in-Some.opening in
@@ -79,5 +79,4 @@ loop-copy-preserved c =
       so_far = subst (λ h. IsPlacedSoFar a.joint.now a.openings.now a.copies.now (now.copy-index + 1) h (set now.held c.opening.inside.place (Some c.put_at-put.result)) c.put.new.self) (sym hand)
           (subst (λ t. IsPlacedSoFar a.joint.now a.openings.now a.copies.now (now.copy-index + 1) less t c.put.new.self) entry next);
       made = c.location_for.ensures.kept;
-      rules = c.location_for.ensures.rules;
     }

@@ -9,13 +9,13 @@ use Rattle.mw_fill.proofs.Trying.{regular_all, all_kinds_all, places_within, on_
 use Rattle.mw_fill.proofs.one_try.place_all.Goals as goal
 
 pub place_first-requires-clause-openings : goal.place_first-requires-clause-openings
-place_first-requires-clause-openings c =
+place_first-requires-clause-openings g c =
     let slots = c.args.joint.now.slots in
     let places : c.as_slice-3.result.now ≡ regular c.args.lists.now.openings = c.as_slice-3.ensures ∙ c.in_ok-places.ensures ∙ ap regular (c.as_slice.ensures ∙ ap (λ (l : Lists). l.openings) c.lists.view_is) in
     subst (All (OpeningKept slots)) (sym places) (regular_all (OpeningKept slots) c.args.lists.now.openings c.requires.lists.openings)
 
 pub returns-in-Err-clause-answer : goal.returns-in-Err-clause-answer
-returns-in-Err-clause-answer c =
+returns-in-Err-clause-answer g c =
     let joint = c.args.joint.now in
     let lists = c.args.lists.now in
     let places : c.as_slice-3.result.now ≡ regular lists.openings = c.as_slice-3.ensures ∙ c.in_ok-places.ensures ∙ ap regular (c.as_slice.ensures ∙ ap (λ (l : Lists). l.openings) c.lists.view_is) in
@@ -24,14 +24,14 @@ returns-in-Err-clause-answer c =
     (λ slot item run. stuck_first joint lists slot item (run_same joint c.as_slice-3.result.now (regular lists.openings) c.as_slice-2.result.now lists.asked (stuck slot item) places asked run)) c.in-Err.ensures.answer
 
 pub place_anywhere-requires : goal.place_anywhere-requires
-place_anywhere-requires c =
+place_anywhere-requires g c =
     let joint = c.args.joint.now in
     let places : c.as_slice-5.result.now ≡ regular c.args.lists.now.openings = c.as_slice-5.ensures ∙ c.in_ok-places.ensures ∙ ap regular (c.as_slice.ensures ∙ ap (λ (l : Lists). l.openings) c.lists.view_is) in
     let kept : All (OpeningKept joint.slots) c.as_slice-5.result.now = subst (All (OpeningKept joint.slots)) (sym places) (regular_all (OpeningKept joint.slots) c.args.lists.now.openings c.requires.lists.openings) in
     record { within = places_within joint c.in_default.ensures.answer.0 c.place_first.new.held c.as_slice-5.result.now c.in_default.ensures.answer.1 kept }
 
 pub returns-in-Err-place_anywhere-clause-answer : goal.returns-in-Err-place_anywhere-clause-answer
-returns-in-Err-place_anywhere-clause-answer c =
+returns-in-Err-place_anywhere-clause-answer g c =
     let joint = c.args.joint.now in
     let slots = joint.slots in
     let lists = c.args.lists.now in
@@ -49,7 +49,7 @@ returns-in-Err-place_anywhere-clause-answer c =
     (λ slot item e. stuck_helping joint lists puts slot item run (same ∙ e)) (c.in-Err-place_anywhere.ensures joint puts kept sites c.in_default.ensures.answer.1)
 
 pub place_anywhere-requires-2 : goal.place_anywhere-requires-2
-place_anywhere-requires-2 c =
+place_anywhere-requires-2 g c =
     let joint = c.args.joint.now in
     let slots = joint.slots in
     let lists = c.args.lists.now in
@@ -70,7 +70,7 @@ place_anywhere-requires-2 c =
     record { within = places_within joint middle.0 c.place_anywhere.new.held c.as_slice-8.result.now middle.1 all_sites }
 
 pub returns-clause-answer : goal.returns-clause-answer
-returns-clause-answer c =
+returns-clause-answer g c =
     let joint = c.args.joint.now in
     let slots = joint.slots in
     let lists = c.args.lists.now in

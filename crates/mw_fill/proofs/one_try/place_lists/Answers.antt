@@ -9,7 +9,7 @@ use Rattle.mw_fill.proofs.Ascending.{held_placement, placement_kept}
 use Rattle.mw_fill.proofs.one_try.place_lists.Goals as goal
 
 pub placement_from-requires : goal.placement_from-requires
-placement_from-requires c =
+placement_from-requires g c =
     let joint = c.args.joint.now in
     let end = c.in_ok-place_all.ensures.answer in
     let there : All (OpeningKept joint.slots) c.args.openings.now =
@@ -17,13 +17,13 @@ placement_from-requires c =
     record { within = places_within joint end.0 c.place_all.new.held c.args.openings.now end.1 there }
 
 pub returns-clause-answer : goal.returns-clause-answer
-returns-clause-answer c =
+returns-clause-answer g c =
     let end = c.in_ok-place_all.ensures.answer in
     let openings = c.requires.openings in
     (end.0, end.2, c.in_ok-placement.ensures ∙ ap (map (end_held c.place_all.new.held)) openings ∙ held_placement end.0 c.place_all.new.held _ end.1.entries)
 
 pub returns-clause-placement : goal.returns-clause-placement
-returns-clause-placement c =
+returns-clause-placement g c =
     let joint = c.args.joint.now in
     let end = c.in_ok-place_all.ensures.answer in
     let openings = c.requires.openings in

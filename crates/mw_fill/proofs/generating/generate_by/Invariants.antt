@@ -1,10 +1,9 @@
-use Rattle.mw_reach.specs.Reached.{IsMadeFor, KeepsRules}
+use Rattle.mw_reach.specs.Reached.{IsMadeFor}
 use Rattle.mw_fill.specs.Generated.{AreStuck}
-use Rattle.mw_fill.proofs.generating.generate.Given as goal
+use Rattle.mw_fill.proofs.generating.generate_by.Given as goal
 
 abbrev pub invariant-loop-stream : goal.invariant-loop-stream
-invariant-loop-stream l = record {
+invariant-loop-stream g l = record {
   stuck : AreStuck l.joint l.seed l.stream;
   made : IsMadeFor l.joint l.reached;
-  rules : KeepsRules l.joint l.reached;
 }
