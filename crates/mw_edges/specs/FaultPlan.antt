@@ -1,8 +1,9 @@
 -- Which calls of an object in memory fail.
-use Rattle.std.specs.Prelude.{ℕ, ◌+◌, ◌-◌, ◌^◌, min, List, Bool, nat_eq, if◌then◌else◌}
+use Rattle.std.specs.Prelude.{ℕ, ◌+◌, ◌-◌, ◌^◌, min, List, Bool, nat_eq, nat_le, if◌then◌else◌}
 use Rattle.std.specs.List.{list_any}
 
--- the number of the next call, how many calls have failed, and the numbers of the calls that are to fail
+-- the number of the next call, how many calls have failed, and the numbers of the calls that are to
+-- fail
 pub record FaultPlan : Type 0 where
   pub call : ℕ
   pub count : ℕ
@@ -15,6 +16,10 @@ first_plan failing = record { call = 0; count = 0; failing = failing }
 -- whether the next call is to fail
 abbrev pub fails : FaultPlan → Bool
 fails plan = list_any (λ n. nat_eq n plan.call) plan.failing
+
+-- whether the next call is to fail, or a later one
+abbrev pub may_fail : FaultPlan → Bool
+may_fail plan = list_any (λ n. nat_le plan.call n) plan.failing
 
 -- after a call, which failed or didn't; numbers of calls end at the last that a u64 holds
 abbrev pub after_call : Bool → FaultPlan → FaultPlan

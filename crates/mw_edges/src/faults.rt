@@ -1,4 +1,4 @@
-ghost use Rattle.std.specs.Prelude.{◌≡◌, ◌||◌};
+ghost use Rattle.std.specs.Prelude.{◌≡◌, ◌≤◌, ◌||◌};
 ghost use Rattle.mw_edges.specs.FaultPlan.{first_plan, fails, after_call};
 
 use crate::tally::Tally;
@@ -38,6 +38,7 @@ impl Faults {
     pub fn count_call(&mut self, broken: bool) -> bool
         ensures failed { result ≡ (broken || fails self.old) }
         ensures plan { self.new ≡ after_call result self.old }
+        ensures later { self.old.call ≤ self.new.call }
     {
         let failed = broken || self.failing.as_slice().contains(&self.call);
         if failed {

@@ -43,8 +43,8 @@ fn place_of(files: &[(Text, Bytes)], name: &str) -> usize
     files.len()
 }
 
-/// Puts a file in place of the first one of its name, or behind the others. After `Memory` the files
-/// are as before.
+/// Puts a file in place of the first one of its name, or behind the others. After `Memory` the
+/// files are as before.
 #[tactic(auto, using(crate::proofs::Replaced::set_there, crate::proofs::Replaced::pushed))]
 fn put_file(files: &mut Vec<(Text, Bytes)>, name: Text, bytes: Bytes) -> Result<(), Memory>
     ensures ok { OnOk result (files.new.items ≡ with_file files.old.items name bytes) }

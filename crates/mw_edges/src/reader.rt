@@ -51,7 +51,8 @@ impl<R: Read> Source for ReaderSource<R> {
 
     fn take(&mut self, into: &mut [u8]) -> Result<usize, Failed>
         ensures bound { ReadsAtMost result into.new }
-        ensures bytes { ReadConsumes (R.remaining (reader_of self.old)) (R.remaining (reader_of self.new))
+        ensures bytes { ReadConsumes (R.remaining (reader_of self.old))
+            (R.remaining (reader_of self.new))
             result into.new }
         ensures counted { CountsErr (reader_faults self.old) (reader_faults self.new) result }
         ensures cause { HasFault (reader_faults self.old) (reader_faults self.new) result }

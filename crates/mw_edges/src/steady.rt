@@ -1,9 +1,9 @@
-ghost use Rattle.std.specs.Prelude.{◌≡◌, ◌≢◌, ◌++◌, ℕ, List, [], min, length, take, drop, Some, None, Ok, Err, OnOk, OnErr, IfOk, unwrap_or};
+ghost use Rattle.std.specs.Prelude.{◌≡◌, ◌≢◌, ◌++◌, ℕ, List, [], min, length, take, drop, Some, None, Ok, Err, OnOk, OnErr, IfOk, unwrap_or, IsErrOf, IsTrue, false};
 ghost use Rattle.std.specs.Io.{ReadsAtMost};
 ghost use Rattle.std.specs.Io.KnownBytes.{Appends, ReadConsumes};
 ghost use Rattle.mw_edges.specs.Causes.{CountsErr, HasCause, HasFault, PutsFront};
 ghost use Rattle.mw_edges.specs.Files.{steady_file, with_file};
-ghost use Rattle.mw_edges.specs.Folders.{GivesFile, IsWritten};
+ghost use Rattle.mw_edges.specs.Folders.{GivesFile, IsWritten, MayBeUnread};
 
 use crate::files::{find_file, read_bytes, write_bytes};
 use crate::folder::{FileRead, Folder, FolderError};
@@ -68,8 +68,8 @@ impl Source for SteadySource {
     }
 }
 
-/// A sink that keeps its bytes in memory, and never fails. Contracts see the bytes that were put, and
-/// how often memory for more was wanting.
+/// A sink that keeps its bytes in memory, and never fails. Contracts see the bytes that were put,
+/// and how often memory for more was wanting.
 #[derive(Drop)]
 pub struct SteadySink {
     held: Vec<u8>,
@@ -128,7 +128,8 @@ impl Sink for SteadySink {
 
     fn put(&mut self, bytes: &[u8]) -> Result<(), SinkError>
         ensures ok { OnOk result (Appends (Some self.old.bytes) (Some self.new.bytes) bytes.now) }
-        ensures err { OnErr result (PutsFront (Some self.old.bytes) (Some self.new.bytes) bytes.now) }
+        ensures err { OnErr result
+            (PutsFront (Some self.old.bytes) (Some self.new.bytes) bytes.now) }
         ensures same { OnErr result (self.new.bytes ≡ self.old.bytes) }
         ensures steady { result ≢ Err SinkError.Failed }
         ensures cause { HasCause 0 0 SinkError.Failed result }
@@ -143,8 +144,8 @@ impl Sink for SteadySink {
 }
 
 /// A folder of files in memory, which never fails: a file that was not given is there, and empty.
-/// Contracts see the files, each a name and its bytes, and how often a write was refused; of two with
-/// one name the first counts.
+/// Contracts see the files, each a name and its bytes, and how often a write was refused; of two
+/// with one name the first counts.
 #[derive(Drop)]
 pub struct SteadyFolder {
     files: Vec<(Text, Bytes)>,
@@ -177,6 +178,8 @@ impl Folder for SteadyFolder {
 
     ghost faults = { λ _. 0 };
 
+    ghost may_fail = { λ _. false };
+
     ghost refusals = { λ s. s.refused };
 
     fn read_file(&mut self, alloc: Global, name: &Text, limit: u64) -> Result<FileRead, FolderError>
@@ -185,6 +188,9 @@ impl Folder for SteadyFolder {
         ensures files { self.new.files ≡ self.old.files }
         ensures steady { result ≢ Err FolderError.Failed }
         ensures cause { HasCause 0 0 FolderError.Failed result }
+        ensures place { IsErrOf result FolderError.Failed
+            → MayBeUnread (steady_file self.old.files name.now) false }
+        ensures sound { IsTrue false → IsTrue false }
         ensures unrefused { self.new.refused ≡ self.old.refused }
     {
         let Some(bytes) = find_file(self.files.as_slice(), name.as_str()) else {
@@ -198,13 +204,18 @@ impl Folder for SteadyFolder {
 
     #[tactic(auto, using(crate::proofs::Replaced::file_there, crate::proofs::Replaced::others_there))]
     fn write_file(&mut self, alloc: Global, name: &Text, bytes: &[u8]) -> Result<(), FolderError>
-        ensures written { OnOk result (IsWritten (steady_file self.old.files name.now) (steady_file self.new.files name.now) bytes.now) }
-        ensures untold { steady_file self.old.files name.now ≡ None → steady_file self.new.files name.now ≡ None }
-        ensures others { (n : List ℕ) → n ≢ name.now → steady_file self.new.files n ≡ steady_file self.old.files n }
+        ensures written { OnOk result
+            (IsWritten (steady_file self.old.files name.now) (steady_file self.new.files name.now)
+            bytes.now) }
+        ensures untold { steady_file self.old.files name.now ≡ None
+            → steady_file self.new.files name.now ≡ None }
+        ensures others { (n : List ℕ) → n ≢ name.now
+            → steady_file self.new.files n ≡ steady_file self.old.files n }
         ensures files { OnOk result (self.new.files ≡ with_file self.old.files name.now bytes.now) }
         ensures same { OnErr result (self.new.files ≡ self.old.files) }
         ensures steady { result ≢ Err FolderError.Failed }
         ensures cause { HasCause 0 0 FolderError.Failed result }
+        ensures sound { IsTrue false → IsTrue false }
         ensures counted { CountsErr self.old.refused self.new.refused result }
         ensures refused { HasFault self.old.refused self.new.refused result }
     {

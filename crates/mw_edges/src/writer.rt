@@ -56,7 +56,8 @@ fn write_some<W: Write>(writer: &mut W, bytes: &[u8]) -> Result<usize, Failed>
 /// Writes all the bytes, and gives up where a write takes none.
 fn write_whole<W: Write>(writer: &mut W, bytes: &[u8]) -> Result<(), Failed>
     ensures ok { OnOk result (Appends (W.contents writer.old) (W.contents writer.new) bytes.now) }
-    ensures err { OnErr result (PutsFront (W.contents writer.old) (W.contents writer.new) bytes.now) }
+    ensures err { OnErr result
+        (PutsFront (W.contents writer.old) (W.contents writer.new) bytes.now) }
 {
     let mut at = 0;
     for _ in 0..u64::MAX {
@@ -91,7 +92,8 @@ fn flush_whole<W: Write>(writer: &mut W) -> Result<(), Failed>
 /// Writes all the bytes, and flushes.
 pub(crate) fn put_whole<W: Write>(writer: &mut W, bytes: &[u8]) -> Result<(), Failed>
     ensures ok { OnOk result (Appends (W.contents writer.old) (W.contents writer.new) bytes.now) }
-    ensures err { OnErr result (PutsFront (W.contents writer.old) (W.contents writer.new) bytes.now) }
+    ensures err { OnErr result
+        (PutsFront (W.contents writer.old) (W.contents writer.new) bytes.now) }
 {
     write_whole(writer, bytes)?;
     flush_whole(writer)
@@ -106,12 +108,15 @@ impl<W: Write> Sink for WriterSink<W> {
 
     fn put(&mut self, bytes: &[u8]) -> Result<(), SinkError>
         ensures ok { OnOk result
-            (Appends (W.contents (writer_of self.old)) (W.contents (writer_of self.new)) bytes.now) }
+            (Appends (W.contents (writer_of self.old)) (W.contents (writer_of self.new))
+            bytes.now) }
         ensures err { OnErr result
-            (PutsFront (W.contents (writer_of self.old)) (W.contents (writer_of self.new)) bytes.now) }
+            (PutsFront (W.contents (writer_of self.old)) (W.contents (writer_of self.new))
+            bytes.now) }
         ensures memory { result ≢ Err SinkError.Memory }
         ensures counted { CountsErr (writer_faults self.old) (writer_faults self.new) result }
-        ensures cause { HasCause (writer_faults self.old) (writer_faults self.new) SinkError.Failed result }
+        ensures cause { HasCause (writer_faults self.old) (writer_faults self.new)
+            SinkError.Failed result }
         ensures refused { HasFault (writer_faults self.old) (writer_faults self.new) result }
     {
         match put_whole(&mut self.inner, bytes) {

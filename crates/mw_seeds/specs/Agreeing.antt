@@ -23,9 +23,11 @@ has_flags flags (Some i) = flags == class_flags i.class
 
 abbrev pub where_flags : ℕ → List Item → Option ℕ → Option ℕ
 where_flags flags items None = None
-where_flags flags items (Some index) = if has_flags flags (slice_get items index) then Some index else None
+where_flags flags items (Some index) =
+    if has_flags flags (slice_get items index) then Some index else None
 
--- where the item of an entry stands among these, if it has an id there and the entry's flags are those of its class
+-- where the item of an entry stands among these, if it has an id there and the entry's flags are
+-- those of its class
 abbrev pub index_among : Held → Option (List Item) → Option ℕ
 index_among h None = None
 index_among h (Some items) = where_flags h.flags items (index_of_id (map item_id items) h.item)
@@ -45,7 +47,9 @@ agrees_with slots has (Some h) = has && is_some (held_index slots h)
 
 -- at a location of the slot of this number, by its id
 abbrev pub agrees_at : Joint → Seed → ℕ → ℤ → Bool
-agrees_at joint seed slot location = agrees_with joint.slots (has_location location (slot_at joint.slots slot)) (held_at seed slot location)
+agrees_at joint seed slot location =
+    agrees_with joint.slots (has_location location (slot_at joint.slots slot))
+    (held_at seed slot location)
 
 -- they agree everywhere
 abbrev pub TablesAgree : Joint → Seed → Type 0
@@ -53,9 +57,11 @@ TablesAgree joint seed = (slot : ℕ) (location : ℤ) → agrees_at joint seed 
 
 -- by slot, then by id
 abbrev pub location_cmp : ℕ → ℤ → ℕ → ℤ → Ordering
-location_cmp slot location other_slot other = ordering_then (nat_cmp slot other_slot) (int_cmp location other)
+location_cmp slot location other_slot other =
+    ordering_then (nat_cmp slot other_slot) (int_cmp location other)
 
 -- they don't agree there, and do at each location before
 pub record IsFirstDifference (joint : Joint) (seed : Seed) (slot : ℕ) (location : ℤ) : Type 0 where
   pub differs : agrees_at joint seed slot location ≡ false
-  pub earlier : (s : ℕ) (l : ℤ) → location_cmp s l slot location ≡ Less → agrees_at joint seed s l ≡ true
+  pub earlier : (s : ℕ) (l : ℤ) → location_cmp s l slot location ≡ Less
+      → agrees_at joint seed s l ≡ true

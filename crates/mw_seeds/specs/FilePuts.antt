@@ -1,5 +1,5 @@
--- For proofs alone: what the entries of a seed file put at the locations of joined tables, and where two lists of entries
--- first differ.
+-- For proofs alone: what the entries of a seed file put at the locations of joined tables, and
+-- where two lists of entries first differ.
 use Rattle.std.specs.Prelude.{ℕ, zero, suc, ℤ, List, map, slice_get, [], ◌∷◌, Option, Some, None, Bool, ◌==◌, ◌&&◌, if◌then◌else◌}
 use Rattle.std.specs.Ordering.{int_eq, is_lt}
 use Rattle.mw_model.specs.Seed.{Held, held_among}
@@ -23,23 +23,31 @@ own_put number s place = record { place = place; receiver = number; item = s.wor
 -- the item with this index for the entry's receiver, or else the own filler
 abbrev pub put_or_own : ℕ → Slot → ℕ → Held → Option ℕ → Put
 put_or_own number s place h None = own_put number s place
-put_or_own number s place h (Some index) = record { place = place; receiver = h.receiver; item = index }
+put_or_own number s place h (Some index) = record {
+  place = place;
+  receiver = h.receiver;
+  item = index;
+}
 
 -- what an entry puts at a place of the slot of this number, or else its own filler
 abbrev pub file_put : List (List Item) → ℕ → Slot → ℕ → Option Held → Put
 file_put catalogs number s place None = own_put number s place
-file_put catalogs number s place (Some h) = put_or_own number s place h (index_among h (catalog_at catalogs h.receiver))
+file_put catalogs number s place (Some h) =
+    put_or_own number s place h (index_among h (catalog_at catalogs h.receiver))
 
 -- the same at a location with an id
 abbrev pub put_where : List (List Item) → List Held → ℕ → Slot → ℕ → Option ℤ → List Put
 put_where catalogs held number s place None = []
-put_where catalogs held number s place (Some id) = file_put catalogs number s place (held_among held number id) ∷ []
+put_where catalogs held number s place (Some id) =
+    file_put catalogs number s place (held_among held number id) ∷ []
 
 abbrev pub location_put : List (List Item) → List Held → ℕ → Slot → ℕ → Location → List Put
-location_put catalogs held number s index l = put_where catalogs held number s (location_place s index) l.id
+location_put catalogs held number s index l =
+    put_where catalogs held number s (location_place s index) l.id
 
 abbrev pub slot_puts : List (List Item) → List Held → ℕ → Slot → List Put
-slot_puts catalogs held number s = each_numbered (location_put catalogs held number s) 0 s.world.locations
+slot_puts catalogs held number s =
+    each_numbered (location_put catalogs held number s) 0 s.world.locations
 
 -- at each location with an id, by slot and table order
 abbrev pub file_puts : List Slot → List Held → List Put
@@ -48,7 +56,10 @@ file_puts slots held = each_numbered (slot_puts (map slot_items slots) held) 1 s
 -- ---- two lists of entries
 
 abbrev pub same_entry : Held → Held → Bool
-same_entry a b = (a.slot == b.slot) && (int_eq a.location b.location && (int_eq a.item b.item && ((a.receiver == b.receiver) && (a.flags == b.flags))))
+same_entry a b =
+    (a.slot == b.slot) &&
+    (int_eq a.location b.location &&
+    (int_eq a.item b.item && ((a.receiver == b.receiver) && (a.flags == b.flags))))
 
 -- the one whose location comes first
 abbrev pub earlier_of : Held → Held → Held
@@ -59,4 +70,5 @@ abbrev pub first_apart : List Held → List Held → Option Held
 first_apart [] [] = None
 first_apart [] (h ∷ held) = Some h
 first_apart (d ∷ due) [] = Some d
-first_apart (d ∷ due) (h ∷ held) = if same_entry d h then first_apart due held else Some (earlier_of d h)
+first_apart (d ∷ due) (h ∷ held) =
+    if same_entry d h then first_apart due held else Some (earlier_of d h)

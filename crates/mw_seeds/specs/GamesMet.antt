@@ -16,7 +16,8 @@ has_game (g ∷ gs) name = bytes_eq g.name name || has_game gs name
 -- the game of a world more, where it isn't there yet
 abbrev pub IsGameAdded : List Game → World → List Game → Type 0
 IsGameAdded before w after =
-    MatchBool (has_game before w.game) (after ≡ before) ((g : Game) × IsGameOf w g × (after ≡ before ++ g ∷ []))
+    MatchBool (has_game before w.game) (after ≡ before)
+    ((g : Game) × IsGameOf w g × (after ≡ before ++ g ∷ []))
 
 -- the different games of the slots' worlds
 pub record AreDifferent (slots : List Slot) (games : List Game) : Type 0 where

@@ -36,7 +36,9 @@ pub record IsRight (joint : Joint) (seed : Seed) (puts : List Put) : Type 0 wher
 
 -- what the check of the file's spheres finds
 abbrev pub IsFound : Joint → Seed → CheckRefusal → Type 0
-IsFound joint seed refusal = (puts : List Put) × IsPlacementIn joint seed puts × IsChecked joint puts seed.spheres (Err refusal)
+IsFound joint seed refusal =
+    (puts : List Put) × IsPlacementIn joint seed puts
+    × IsChecked joint puts seed.spheres (Err refusal)
 
 -- why a seed file isn't right for a joint
 abbrev pub IsNotRight : Joint → Seed → SeedRefusal → Type 0

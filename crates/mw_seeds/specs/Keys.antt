@@ -1,4 +1,5 @@
--- For proofs alone: the locations with an id of joined tables, in ascending order, beside the entries of a seed file.
+-- For proofs alone: the locations with an id of joined tables, in ascending order, beside the
+-- entries of a seed file.
 use Rattle.std.specs.Prelude.{◌==◌, ◌&&◌, ℕ, ℤ, pos, List, [], ◌∷◌, Bool, Option, Some, None, is_some, map, option_map, if◌then◌else◌}
 use Rattle.std.specs.Ordering.{int_eq}
 use Rattle.std.specs.List.Sorted.{IsPermutation}
@@ -52,7 +53,8 @@ abbrev pub first_other : (Held → Bool) → List Held → List Held → Option 
 first_other fits [] [] = None
 first_other fits [] (h ∷ hs) = Some h
 first_other fits (d ∷ ds) [] = Some d
-first_other fits (d ∷ ds) (h ∷ hs) = if fits_at fits d h then first_other fits ds hs else Some (earlier_of d h)
+first_other fits (d ∷ ds) (h ∷ hs) =
+    if fits_at fits d h then first_other fits ds hs else Some (earlier_of d h)
 
 abbrev pub key_of : Held → Key
 key_of h = record { slot = h.slot; location = h.location }
@@ -63,4 +65,5 @@ fits_among catalogs h = is_some (index_among h (catalog_at catalogs h.receiver))
 
 -- the same by the keys
 abbrev pub first_other_key : List (List Item) → List Key → List Held → Option Key
-first_other_key catalogs keys held = option_map key_of (first_other (fits_among catalogs) (map as_held keys) held)
+first_other_key catalogs keys held =
+    option_map key_of (first_other (fits_among catalogs) (map as_held keys) held)

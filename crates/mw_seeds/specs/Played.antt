@@ -35,24 +35,33 @@ put_name slots (Some put) = name_of_item (item_at slots put.receiver put.item)
 -- an event location's own event, or else what stands at its place
 abbrev pub stands_with : (ℕ → Option Put) → ℕ → ℕ → Option ℕ → Option Put
 stands_with stands number place None = stands place
-stands_with stands number place (Some event) = Some record { place = place; receiver = number; item = event }
+stands_with stands number place (Some event) = Some record {
+  place = place;
+  receiver = number;
+  item = event;
+}
 
 abbrev pub stands_in : (ℕ → Option Put) → ℕ → Slot → ℕ → Option Location → Option Put
 stands_in stands number s index None = None
-stands_in stands number s index (Some l) = stands_with stands number (location_place s index) l.event
+stands_in stands number s index (Some l) =
+    stands_with stands number (location_place s index) l.event
 
 -- an entry's line: its sphere's number, who finds it where, for whom, and what
 abbrev pub entry_line : ℕ → List ℕ → List ℕ → List ℕ → List ℕ → List ℕ
 entry_line number finder location receiver what =
-    decimal number ++ codes " " ++ finder ++ codes ": " ++ location ++ codes " -> " ++ receiver ++ codes ": " ++ what ++ codes "\n"
+    decimal number ++ codes " " ++ finder ++ codes ": " ++ location ++ codes " -> " ++ receiver
+    ++ codes ": " ++ what ++ codes "\n"
 
 abbrev pub put_line : List Slot → ℕ → Slot → Option Location → Option Put → List ℕ
-put_line slots number s location put = entry_line number (first_name s) (name_of_location location) (receiver_name slots put) (put_name slots put)
+put_line slots number s location put =
+    entry_line number (first_name s) (name_of_location location) (receiver_name slots put)
+    (put_name slots put)
 
 -- the line of a slot's location in the sphere of a number
 abbrev pub found_line : List Slot → (ℕ → Option Put) → ℕ → ℕ → ℕ → Slot → List ℕ
 found_line slots stands number finder index s =
-    put_line slots number s (slice_get s.world.locations index) (stands_in stands finder s index (slice_get s.world.locations index))
+    put_line slots number s (slice_get s.world.locations index)
+    (stands_in stands finder s index (slice_get s.world.locations index))
 
 abbrev pub line_of : List Slot → (ℕ → Option Put) → ℕ → Spot → Option Slot → List ℕ
 line_of slots stands number spot None = []
@@ -64,4 +73,6 @@ spot_line slots stands number spot = line_of slots stands number spot (slot_at s
 -- a line for each entry of the spheres, the first of which has this number
 abbrev pub played_lines : List Slot → (ℕ → Option Put) → ℕ → List (List Spot) → List ℕ
 played_lines slots stands number [] = []
-played_lines slots stands number (sphere ∷ spheres) = flat_map (spot_line slots stands number) sphere ++ played_lines slots stands (suc number) spheres
+played_lines slots stands number (sphere ∷ spheres) =
+    flat_map (spot_line slots stands number) sphere
+    ++ played_lines slots stands (suc number) spheres

@@ -101,7 +101,13 @@ file_slot s = record { names = s.names; game = s.world.game; start = start_items
 -- an item with an id, for its receiver, at a location of the slot of this number
 abbrev pub held_with : ℕ → ℤ → ℕ → Option ℤ → Class → List Held
 held_with number location receiver None class = []
-held_with number location receiver (Some id) class = record { slot = number; location = location; item = id; receiver = receiver; flags = class_flags class } ∷ []
+held_with number location receiver (Some id) class = record {
+  slot = number;
+  location = location;
+  item = id;
+  receiver = receiver;
+  flags = class_flags class;
+} ∷ []
 
 abbrev pub held_item : ℕ → ℤ → ℕ → Option Item → List Held
 held_item number location receiver None = []
@@ -109,19 +115,24 @@ held_item number location receiver (Some i) = held_with number location receiver
 
 abbrev pub held_put : List joined.Slot → ℕ → ℤ → Option Put → List Held
 held_put slots number location None = []
-held_put slots number location (Some put) = held_item number location put.receiver (item_at slots put.receiver put.item)
+held_put slots number location (Some put) =
+    held_item number location put.receiver (item_at slots put.receiver put.item)
 
 -- what stands at a location with an id
 abbrev pub held_where : List joined.Slot → ℕ → Option ℤ → Option Put → List Held
 held_where slots number None put = []
 held_where slots number (Some id) put = held_put slots number id put
 
--- what stands at the location with this index of the slot of this number, where this tells what stands at each place
-abbrev pub location_held : List joined.Slot → (ℕ → Option Put) → ℕ → joined.Slot → ℕ → Location → List Held
-location_held slots stands number s index l = held_where slots number l.id (stands (location_place s index))
+-- what stands at the location with this index of the slot of this number, where this tells what
+-- stands at each place
+abbrev pub location_held : List joined.Slot → (ℕ → Option Put) → ℕ → joined.Slot → ℕ
+    → Location → List Held
+location_held slots stands number s index l =
+    held_where slots number l.id (stands (location_place s index))
 
 abbrev pub slot_held : List joined.Slot → (ℕ → Option Put) → ℕ → joined.Slot → List Held
-slot_held slots stands number s = each_numbered (location_held slots stands number s) 0 s.world.locations
+slot_held slots stands number s =
+    each_numbered (location_held slots stands number s) 0 s.world.locations
 
 -- what stands at the locations with an id, by slot and table order
 abbrev pub all_held : List joined.Slot → (ℕ → Option Put) → List Held
@@ -132,13 +143,15 @@ abbrev pub held_cmp : Held → Held → Ordering
 held_cmp a b = ordering_then (nat_cmp a.slot b.slot) (int_cmp a.location b.location)
 
 -- the same entries, ascending by slot and then by location
-pub record AreLocations (slots : List joined.Slot) (puts : List Put) (held : List Held) : Type 0 where
+pub record AreLocations (slots : List joined.Slot) (puts : List Put) (held : List Held)
+    : Type 0 where
   pub same : IsPermutation (all_held slots (what_stands puts)) held
   pub ascend : Ascend held_cmp held
 
 -- ---- the whole
 
-pub record SeedFile (joint : joined.Joint) (number : ℕ) (puts : List Put) (listed : List (List Spot)) (seed : Seed) : Type 0 where
+pub record SeedFile (joint : joined.Joint) (number : ℕ) (puts : List Put)
+    (listed : List (List Spot)) (seed : Seed) : Type 0 where
   pub seed_name : seed.seed_name ≡ decimal number
   pub teams : seed.teams ≡ joint.teams
   pub server : seed.server ≡ joint.room

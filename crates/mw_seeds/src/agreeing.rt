@@ -60,8 +60,9 @@ fn first_other(catalogs: &[Catalog], keys: &[Key], held: &[Held]) -> Option<Key>
 
 /// The placement that a seed file's entries are, where they agree with the tables.
 ///
-/// `OtherTables` at the first location, by slot and then by id, that has an entry in only one of the two, or whose item
-/// or flags aren't those of an item with an id of the receiver's world; `Memory` where memory ran out.
+/// `OtherTables` at the first location, by slot and then by id, that has an entry in only one of
+/// the two, or whose item or flags aren't those of an item with an id of the receiver's world;
+/// `Memory` where memory ran out.
 pub fn placement_in(
     alloc: Global,
     joint: &Joint,

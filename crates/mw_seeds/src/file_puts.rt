@@ -16,8 +16,8 @@ use mw_multidata::Held;
 use std::alloc::Global;
 use std::cmp::Ordering;
 
-/// Where the item of an entry stands in its receiver's world, if it has an id there and the entry's flags are those of its
-/// class.
+/// Where the item of an entry stands in its receiver's world, if it has an id there and the entry's
+/// flags are those of its class.
 pub(crate) fn index_of(catalogs: &[Catalog], held: &Held) -> Option<u32>
     ensures { result ≡ index_among held.now (catalog_at catalogs.now held.now.receiver) }
 {
@@ -115,8 +115,9 @@ fn push_slot(
     Ok(())
 }
 
-/// What the entries of a seed file put at the locations with an id, in ascending order of places: the item that an entry
-/// names, or the location's own filler where no entry names an item that fits.
+/// What the entries of a seed file put at the locations with an id, in ascending order of places:
+/// the item that an entry names, or the location's own filler where no entry names an item that
+/// fits.
 pub(crate) fn file_puts(
     alloc: Global,
     catalogs: &[Catalog],

@@ -1,4 +1,5 @@
-//! A joint's seed file: its making, whether one is right for the joint, and the lines of its playthrough.
+//! A joint's seed file: its making, whether one is right for the joint, and the lines of its
+//! playthrough.
 #![tactic(auto)]
 
 mod agreeing;

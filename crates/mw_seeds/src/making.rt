@@ -61,10 +61,11 @@ fn copy_spheres(alloc: Global, spheres: &[List<Spot>]) -> Result<SphereList, Mem
     Ok(copy)
 }
 
-/// The seed of joined tables, a seed's number, a placement and its spheres, as its file has it: the seed's name is the
-/// number in decimal; the teams and the settings are those of the players file; the games are the different games of the
-/// slots' worlds in byte order, each with the names of its items and of its locations with an id in byte order; each slot
-/// has its items to begin with, copies one after the other; the locations with an id hold what the placement puts there.
+/// The seed of joined tables, a seed's number, a placement and its spheres, as its file has it: the
+/// seed's name is the number in decimal; the teams and the settings are those of the players file;
+/// the games are the different games of the slots' worlds in byte order, each with the names of its
+/// items and of its locations with an id in byte order; each slot has its items to begin with,
+/// copies one after the other; the locations with an id hold what the placement puts there.
 /// `Memory` where memory ran out.
 pub fn seed_file(
     alloc: Global,

@@ -122,7 +122,8 @@ fn add_put(
     }
 }
 
-/// Adds the line of the location with this index, of the slot of this number, in the sphere of a number.
+/// Adds the line of the location with this index, of the slot of this number, in the sphere of a
+/// number.
 fn add_found(
     out: &mut String,
     slots: &[Slot],
@@ -199,8 +200,8 @@ fn add_lines(
     Ok(())
 }
 
-/// Adds the lines of a playthrough: for each entry its sphere's number from 1, who finds it where, for whom, and what.
-/// `Memory` where memory ran out; what was added then stays.
+/// Adds the lines of a playthrough: for each entry its sphere's number from 1, who finds it where,
+/// for whom, and what. `Memory` where memory ran out; what was added then stays.
 pub fn add_played(
     alloc: Global,
     out: &mut String,

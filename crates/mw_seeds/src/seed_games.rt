@@ -180,7 +180,8 @@ fn sorted_games(mut games: Vec<Game>) -> List<Game>
     List::from_vec(games)
 }
 
-/// The different games of the slots' worlds, each with the names of its items and of its locations with an id.
+/// The different games of the slots' worlds, each with the names of its items and of its locations
+/// with an id.
 pub(crate) fn games_of(alloc: Global, joint: &Joint) -> Result<List<Game>, Memory>
     ensures { IfOk result (AreGames joint.now.slots) }
 {
