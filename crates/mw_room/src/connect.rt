@@ -23,7 +23,7 @@ pub struct Player {
 }
 
 impl Model for Player {
-    ghost use Rattle.mw_protocol.specs.Packets as plain;
+    ghost use Rattle.mw_protocol.specs.Connecting as plain;
 
     ghost Value = { plain.Player };
 
