@@ -1,9 +1,8 @@
--- What a journal's records come to: the checks that they ask for, and the items that these give.
+-- Checks, and the items that they give.
 use Rattle.std.specs.Prelude.{ℕ, ℤ, negsuc, ◌/◌, ◌%◌, ◌==◌, ◌&&◌, ◌||◌, ◌++◌, ◌∷◌, [], List, Bool, Option, Some, None, false, map, filter, if◌then◌else◌}
 use Rattle.std.specs.Ordering.{int_eq}
 use Rattle.mw_model.specs.Seed.{Seed, Slot, StartItem, Held, slot_of, held_at}
 use Rattle.mw_model.specs.Items.{NetItem}
-use Rattle.mw_protocol.specs.Records.{Record, checks}
 
 -- a location of a slot, checked in a team
 pub record Check : Type 0 where
@@ -18,18 +17,10 @@ abbrev pub has_check : List Check → Check → Bool
 has_check [] check = false
 has_check (first ∷ others) check = same_check first check || has_check others check
 
--- the checks that a record asks for
+-- locations of a slot, checked in a team
 abbrev pub checks_at : ℕ → ℕ → List ℤ → List Check
 checks_at team slot [] = []
 checks_at team slot (location ∷ locations) = record { team = team; slot = slot; location = location } ∷ checks_at team slot locations
-
-abbrev pub asked_by : Record → List Check
-asked_by (checks team slot locations) = checks_at team slot locations
-
--- Asked: the checks that the records ask for, in order
-abbrev pub asked : List Record → List Check
-asked [] = []
-asked (r ∷ rs) = asked_by r ++ asked rs
 
 -- those of a list that aren't among the seen ones, each once, in order
 abbrev pub unseen : List Check → List Check → List Check
@@ -40,9 +31,12 @@ unseen seen (check ∷ others) = if has_check seen check then unseen seen others
 abbrev pub distinct : List Check → List Check
 distinct list = unseen [] list
 
--- Checked: the distinct checks, in journal order
-abbrev pub checked : List Record → List Check
-checked journal = distinct (asked journal)
+-- those of the checks that are of a team and slot
+abbrev pub locations_in : ℕ → ℕ → List Check → List ℤ
+locations_in team slot [] = []
+locations_in team slot (c ∷ cs) = if (c.team == team) && (c.slot == slot) then c.location ∷ locations_in team slot cs else locations_in team slot cs
+
+-- ---- what checks give
 
 -- a starting item is at location -2 of player 0
 abbrev pub start_item : StartItem → NetItem
@@ -55,6 +49,10 @@ start_items (Some slot) = map start_item slot.start
 abbrev pub found_item : Held → NetItem
 found_item h = record { item = h.item; location = h.location; player = h.slot; flags = h.flags }
 
+-- whether a slot gets what is for a receiver
+abbrev pub is_owner : Seed → ℕ → ℕ → Bool
+is_owner seed receiver slot = receiver == slot
+
 -- the item that a check gives to a slot of a team, if it does
 abbrev pub item_for : ℕ → ℕ → Check → Option Held → List NetItem
 item_for team slot check None = []
@@ -65,14 +63,14 @@ abbrev pub items_found : Seed → ℕ → ℕ → List Check → List NetItem
 items_found seed team slot [] = []
 items_found seed team slot (check ∷ others) = item_for team slot check (held_at seed check.slot check.location) ++ items_found seed team slot others
 
--- Received: the starting items, then the items of the distinct checked locations in journal order
-abbrev pub received : Seed → ℕ → ℕ → List Record → List NetItem
-received seed team slot journal = start_items (slot_of seed slot) ++ items_found seed team slot (checked journal)
+-- Received: the starting items, then the items of the distinct checks in journal order
+abbrev pub received_in : Seed → ℕ → ℕ → List Check → List NetItem
+received_in seed team slot checks = start_items (slot_of seed slot) ++ items_found seed team slot checks
 
 -- bit 4 of a mask keeps starting items, bit 2 items of the own world, bit 1 items of other worlds
 abbrev pub keeps : ℕ → ℕ → NetItem → Bool
 keeps mask slot item = if item.player == 0 then mask / 4 % 2 == 1 else (if item.player == slot then mask / 2 % 2 == 1 else mask % 2 == 1)
 
 -- View: what a mask keeps of what a slot received
-abbrev pub view : Seed → ℕ → ℕ → ℕ → List Record → List NetItem
-view seed mask team slot journal = filter (keeps mask slot) (received seed team slot journal)
+abbrev pub view_in : Seed → ℕ → ℕ → ℕ → List Check → List NetItem
+view_in seed mask team slot checks = filter (keeps mask slot) (received_in seed team slot checks)

@@ -1,11 +1,17 @@
 -- Rows of Room A beside the definitions: Ann has slot 1 and starts with item 5, Bob has slot 2.
-use Rattle.std.specs.Prelude.{ℕ, ℤ, pos, negsuc, ◌≡◌, ◌∷◌, [], Some, false, refl, codes}
+use Rattle.std.specs.Prelude.{ℕ, ℤ, pos, negsuc, ◌≡◌, ◌∷◌, [], List, Some, None, true, false, refl, codes}
 use Rattle.mw_model.specs.Items.{NetItem}
 use Rattle.mw_model.specs.Seed.{Seed, Held, RoomOptions}
-use Rattle.mw_protocol.specs.Records.{checks}
-use Rattle.mw_protocol.specs.Checks.{received, view}
-use Rattle.mw_protocol.specs.Messages.{received_items, room_update}
-use Rattle.mw_protocol.specs.Room.{Connection, new_locations, growth_owed}
+use Rattle.mw_protocol.specs.Asked.{received, view, checked}
+use Rattle.mw_protocol.specs.Checks.{Check}
+use Rattle.mw_protocol.specs.Connecting.{Member, connect_errors}
+use Rattle.mw_protocol.specs.Effects.{Effect, new_checks, effect_of, scouted}
+use Rattle.mw_protocol.specs.Messages.{ServerPacket, received_items, room_update, invalid_packet}
+use Rattle.mw_protocol.specs.Owed.{growth_owed, owed}
+use Rattle.mw_protocol.specs.Packets.{Connect, connect, sync, connect_update}
+use Rattle.mw_protocol.specs.Records.{Record, checks, release, collect}
+use Rattle.mw_protocol.specs.Standing.{Standing, start, standing}
+use Rattle.mw_protocol.specs.Words.{already_connected}
 
 abbrev pub held : ℕ → ℤ → ℤ → ℕ → ℕ → Held
 held slot location item receiver flags = record { slot = slot; location = location; item = item; receiver = receiver; flags = flags }
@@ -28,18 +34,28 @@ room_a = record {
   spheres = [];
 }
 
-abbrev pub ann : ℕ → Connection
-ann mask = record { team = 0; slot = 1; mask = mask }
+abbrev pub ann : ℕ → Member
+ann mask = record { team = 0; slot = 1; mask = mask; tags = codes "NoText" ∷ [] }
 
-abbrev pub bob : Connection
-bob = record { team = 0; slot = 2; mask = 7 }
+abbrev pub bob : Member
+bob = record { team = 0; slot = 2; mask = 7; tags = codes "NoText" ∷ [] }
+
+abbrev pub check_of : ℕ → ℤ → Check
+check_of slot location = record { team = 0; slot = slot; location = location }
+
+abbrev pub after : List Record → Standing
+after journal = standing room_a journal
+
+-- what records owe a member
+abbrev pub owed_by : List Record → Member → List ServerPacket
+owed_by records m = growth_owed false room_a start (after records) (Some m)
 
 -- numbers that are no location's and locations that stand twice are left out
-pub each_once : new_locations room_a [] 0 1 (pos 101 ∷ pos 101 ∷ pos 999 ∷ pos 101 ∷ []) ≡ pos 101 ∷ []
+pub each_once : new_checks room_a start 0 1 (pos 101 ∷ pos 101 ∷ pos 999 ∷ pos 101 ∷ []) ≡ check_of 1 (pos 101) ∷ []
 each_once = refl
 
 -- a repeated check records nothing
-pub none_twice : new_locations room_a (checks 0 1 (pos 101 ∷ []) ∷ []) 0 1 (pos 101 ∷ []) ≡ []
+pub none_twice : new_checks room_a (after (checks 0 1 (pos 101 ∷ []) ∷ [])) 0 1 (pos 101 ∷ []) ≡ []
 none_twice = refl
 
 -- the starting items come first, then items in the order of the checks
@@ -51,15 +67,53 @@ in_order = refl
 pub of_other_worlds : view room_a 1 0 1 (checks 0 2 (pos 201 ∷ []) ∷ checks 0 1 (pos 102 ∷ []) ∷ []) ≡ net_item (pos 9) (pos 201) 2 2 ∷ []
 of_other_worlds = refl
 
+-- a release asks for the slot's locations, a collect for those that hold its items, each under its finder
+pub released_and_collected : checked room_a (checks 0 1 (pos 102 ∷ []) ∷ release 0 1 ∷ collect 0 1 ∷ [])
+    ≡ check_of 1 (pos 102) ∷ check_of 1 (pos 101) ∷ check_of 2 (pos 201) ∷ []
+released_and_collected = refl
+
 -- Ann's 101 owes Bob his item at index 0
-pub item_reaches_the_other : growth_owed false room_a [] (checks 0 1 (pos 101 ∷ []) ∷ []) (Some bob) ≡ received_items 0 (net_item (pos 7) (pos 101) 1 1 ∷ []) ∷ []
+pub item_reaches_the_other : owed_by (checks 0 1 (pos 101 ∷ []) ∷ []) bob ≡ received_items 0 (net_item (pos 7) (pos 101) 1 1 ∷ []) ∷ []
 item_reaches_the_other = refl
 
 -- Ann's 102 owes her sessions the location and the item, whose index is the view's length before
-pub two_sessions_of_a_slot : growth_owed false room_a [] (checks 0 1 (pos 102 ∷ []) ∷ []) (Some (ann 7))
+pub two_sessions_of_a_slot : owed_by (checks 0 1 (pos 102 ∷ []) ∷ []) (ann 7)
     ≡ room_update (pos 102 ∷ []) 1 ∷ received_items 1 (net_item (pos 8) (pos 102) 1 0 ∷ []) ∷ []
 two_sessions_of_a_slot = refl
 
 -- without own items in the mask the location alone
-pub mask_without_own_items : growth_owed false room_a [] (checks 0 1 (pos 102 ∷ []) ∷ []) (Some (ann 1)) ≡ room_update (pos 102 ∷ []) 1 ∷ []
+pub mask_without_own_items : owed_by (checks 0 1 (pos 102 ∷ []) ∷ []) (ann 1) ≡ room_update (pos 102 ∷ []) 1 ∷ []
 mask_without_own_items = refl
+
+-- Ann's scouting gives what stands at her own locations, with the receiver as player
+pub scouted_once : scouted room_a (ann 7) (pos 201 ∷ pos 101 ∷ pos 101 ∷ []) ≡ net_item (pos 7) (pos 101) 2 1 ∷ []
+scouted_once = refl
+
+-- a session that plays a slot can't connect again
+pub not_twice : (c : Connect) → (effect_of room_a start (Some (ann 7)) (connect c)).answers ≡ invalid_packet already_connected ∷ []
+not_twice c = refl
+
+abbrev pub cat : Connect
+cat = record {
+  name = codes "Cat";
+  password = Some (codes "no");
+  game = Some (codes "G");
+  version = record { major = pos 0; minor = pos 5; build = pos 0 };
+  items_handling = Some (pos 2);
+  tags = Some (codes "NoText" ∷ []);
+}
+
+abbrev pub locked : Seed
+locked = record {
+  seed_name = room_a.seed_name;
+  teams = room_a.teams;
+  server = record { password = codes "pw"; hint_cost = 10; location_check_points = 1; release = 2; collect = 2; remaining = 2 };
+  games = room_a.games;
+  slots = room_a.slots;
+  locations = room_a.locations;
+  spheres = room_a.spheres;
+}
+
+-- all refusals that apply, in their order
+pub refused_connect : connect_errors locked cat ≡ codes "InvalidPassword" ∷ codes "InvalidSlot" ∷ codes "InvalidItemsHandling" ∷ []
+refused_connect = refl

@@ -1,6 +1,14 @@
+pub mod Asked
 pub mod Checks
+pub mod Connecting
+pub mod Effects
 pub mod Examples
 pub mod Messages
+pub mod Owed
+pub mod Packages
 pub mod Packets
+pub mod Players
 pub mod Records
-pub mod Room
+pub mod Rooms
+pub mod Standing
+pub mod Words

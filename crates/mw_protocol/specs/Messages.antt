@@ -1,9 +1,10 @@
 -- What a room tells a session, and its JSON, after Archipelago's network protocol.
-use Rattle.std.specs.Prelude.{ℕ, ℤ, pos, ◌∷◌, [], List, Bool, codes, decimal, map}
+use Rattle.std.specs.Prelude.{ℕ, ℤ, pos, ◌∷◌, [], List, Bool, Option, Some, None, codes, decimal, map}
 use Rattle.mw_model.specs.Items.{NetItem}
-use Rattle.mw_model.specs.Json.{Json, flag, whole, words, many, members, Items, no_items, item, Members, no_members, member}
+use Rattle.mw_model.specs.Json.{Json, null, flag, whole, words, many, members, Items, no_items, item, Members, no_members, member}
 use Rattle.mw_model.specs.Spelling.{spelling}
 use Rattle.mw_model.specs.Trees.{items_of, put_member, text_json, id_json}
+use Rattle.mw_protocol.specs.Packets.{Bad, BadKind, bad_cmd, bad_arguments}
 
 -- a game, and the checksum of its names
 pub record GameSum : Type 0 where
@@ -47,6 +48,14 @@ pub data ServerPacket : Type 0 where
   received_items : ℕ → List NetItem → ServerPacket
   -- the slot's new locations, and its points
   room_update : List ℤ → ℕ → ServerPacket
+  -- why a Connect is refused
+  connection_refused : List (List ℕ) → ServerPacket
+  -- what stands at locations, each item with its receiver as player
+  location_info : List NetItem → ServerPacket
+  -- the names of games, as an object
+  data_package : Json → ServerPacket
+  -- what a client sent that is no packet, or that can't be done
+  invalid_packet : Bad → ServerPacket
 
 -- ---- JSON
 
@@ -139,11 +148,45 @@ room_update_json locations points =
     (member (codes "cmd") (words (codes "RoomUpdate"))
     (member (codes "hint_points") (whole (pos points)) no_members)))
 
+abbrev pub connection_refused_json : List (List ℕ) → Json
+connection_refused_json errors =
+    members (member (codes "cmd") (words (codes "ConnectionRefused"))
+    (member (codes "errors") (many (items_of (map text_json errors))) no_members))
+
+abbrev pub location_info_json : List NetItem → Json
+location_info_json items =
+    members (member (codes "cmd") (words (codes "LocationInfo"))
+    (member (codes "locations") (many (items_of (map item_json items))) no_members))
+
+abbrev pub data_package_json : Json → Json
+data_package_json content =
+    members (member (codes "cmd") (words (codes "DataPackage"))
+    (member (codes "data") content no_members))
+
+abbrev pub text_or_null : Option (List ℕ) → Json
+text_or_null None = null
+text_or_null (Some s) = words s
+
+abbrev pub kind_text : BadKind → List ℕ
+kind_text bad_cmd = codes "cmd"
+kind_text bad_arguments = codes "arguments"
+
+abbrev pub invalid_packet_json : Bad → Json
+invalid_packet_json b =
+    members (member (codes "cmd") (words (codes "InvalidPacket"))
+    (member (codes "original_cmd") (text_or_null b.cmd)
+    (member (codes "text") (words b.why)
+    (member (codes "type") (words (kind_text b.kind)) no_members))))
+
 abbrev pub packet_json : ServerPacket → Json
 packet_json (room_info r) = room_info_json r
 packet_json (connected c) = connected_json c
 packet_json (received_items index items) = received_items_json index items
 packet_json (room_update locations points) = room_update_json locations points
+packet_json (connection_refused errors) = connection_refused_json errors
+packet_json (location_info items) = location_info_json items
+packet_json (data_package content) = data_package_json content
+packet_json (invalid_packet bad) = invalid_packet_json bad
 
 -- a message is the list of its packets
 abbrev pub message_json : List ServerPacket → Json

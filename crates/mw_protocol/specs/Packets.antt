@@ -1,8 +1,7 @@
--- What a client asks for, after Archipelago's network protocol, and when a Connect is refused.
-use Rattle.std.specs.Prelude.{ℕ, ℤ, pos, ◌+◌, ◌==◌, ◌&&◌, ◌||◌, ◌++◌, ◌∷◌, [], List, Bool, Option, Some, None, true, false, not, codes, bytes_eq, int_lt, is_some, length, unwrap_or, if◌then◌else◌}
-use Rattle.std.specs.Ordering.{int_eq}
-use Rattle.mw_model.specs.Seed.{Seed, Slot, slot_of}
-use Rattle.mw_model.specs.Texts.{has_text}
+-- What a client asks for, after Archipelago's network protocol.
+use Rattle.std.specs.Prelude.{ℕ, ℤ, List, Option}
+use Rattle.mw_model.specs.Json.{Members}
+use Rattle.mw_model.specs.Sets.{SetPacket}
 
 pub record Version : Type 0 where
   pub major : ℤ
@@ -18,76 +17,62 @@ pub record Connect : Type 0 where
   pub items_handling : Option ℤ
   pub tags : Option (List (List ℕ))
 
+-- a session wants other items, or has other tags
+pub record ConnectUpdate : Type 0 where
+  pub items_handling : Option ℕ
+  pub tags : Option (List (List ℕ))
+
+-- the hint of a location of a finder gets another status, where one is given
+pub record UpdateHint : Type 0 where
+  pub player : ℤ
+  pub location : ℤ
+  pub status : Option ℕ
+
+-- a message for those whose game, slot or tag is among these, with further members
+pub record Bounce : Type 0 where
+  pub games : Option (List (List ℕ))
+  pub tags : Option (List (List ℕ))
+  pub slots : Option (List ℤ)
+  pub further : Members
+
 pub data Packet : Type 0 where
   connect : Connect → Packet
+  connect_update : ConnectUpdate → Packet
   -- the whole list of items again
   sync : Packet
   -- locations of the session's own slot are checked
   location_checks : List ℤ → Packet
+  -- what stands at locations of the session's own slot, and whether hints of them are made: 0, 1 or 2
+  location_scouts : List ℤ → ℕ → Packet
+  update_hint : UpdateHint → Packet
+  -- the session's slot has this status
+  status_update : ℕ → Packet
+  -- a text to all, or a command
+  say : List ℕ → Packet
+  -- the names of these games, or of all
+  get_data_package : Option (List (List ℕ)) → Packet
+  bounce : Bounce → Packet
+  -- what these keys of the data storage hold, with further members
+  get : List (List ℕ) → Members → Packet
+  change : SetPacket → Packet
+  -- changes of these keys are told to the session
+  set_notify : List (List ℕ) → Packet
 
--- ---- who is named
+-- ---- what is no packet
 
-pub record Player : Type 0 where
-  pub team : ℕ
-  pub slot : ℕ
+pub data BadKind : Type 0 where
+  -- the message is no list of packets, or the packet has no command that there is
+  bad_cmd : BadKind
+  -- a member is missing, or of another kind
+  bad_arguments : BadKind
 
--- the team whose name for a slot this is, from a team on
-abbrev pub team_named : List ℕ → ℕ → List (List ℕ) → Option ℕ
-team_named name team [] = None
-team_named name team (first ∷ others) = if bytes_eq first name then Some team else team_named name (team + 1) others
+-- why, with the command where there is one
+pub record Bad : Type 0 where
+  pub kind : BadKind
+  pub cmd : Option (List ℕ)
+  pub why : List ℕ
 
-abbrev pub player_or : Option ℕ → ℕ → Option Player → Option Player
-player_or None slot others = others
-player_or (Some team) slot others = Some record { team = team; slot = slot }
-
--- the player of a name, from a slot on
-abbrev pub player_among : List ℕ → ℕ → List Slot → Option Player
-player_among name number [] = None
-player_among name number (slot ∷ slots) = player_or (team_named name 0 slot.names) number (player_among name (number + 1) slots)
-
-abbrev pub player_named : Seed → List ℕ → Option Player
-player_named seed name = player_among name 1 seed.slots
-
--- ---- refusals of a Connect, in their order
-
-abbrev pub text_or_empty : Option (List ℕ) → List ℕ
-text_or_empty t = unwrap_or t []
-
-abbrev pub has_tag : Option (List (List ℕ)) → List ℕ → Bool
-has_tag tags tag = has_text (unwrap_or tags []) tag
-
--- it may look on without a game
-abbrev pub looks_on : Option (List ℕ) → Option (List (List ℕ)) → Bool
-looks_on game tags = (length (text_or_empty game) == 0) && (has_tag tags (codes "Tracker") || has_tag tags (codes "TextOnly"))
-
-abbrev pub is_game_of : Option (List ℕ) → Option (List (List ℕ)) → Option Slot → Bool
-is_game_of game tags None = true
-is_game_of game tags (Some slot) = bytes_eq slot.game (text_or_empty game) || looks_on game tags
-
-abbrev pub slot_played : Seed → Option Player → Option Slot
-slot_played seed None = None
-slot_played seed (Some p) = slot_of seed p.slot
-
--- before version 0.4.0
-abbrev pub is_old : Version → Bool
-is_old v = int_lt v.major (pos 0) || (int_eq v.major (pos 0) && (int_lt v.minor (pos 4) || (int_eq v.minor (pos 4) && int_lt v.build (pos 0))))
-
--- the masks 0, 1, 3, 5 and 7, and 0 where none is given
-abbrev pub is_mask : ℤ → Bool
-is_mask m = int_eq m (pos 0) || int_eq m (pos 1) || int_eq m (pos 3) || int_eq m (pos 5) || int_eq m (pos 7)
-
-abbrev pub error_where : Bool → List ℕ → List (List ℕ)
-error_where true text = text ∷ []
-error_where false text = []
-
--- a password that is set has to be the one given
-abbrev pub is_wrong_password : Seed → Option (List ℕ) → Bool
-is_wrong_password seed password = not (length seed.server.password == 0) && not (bytes_eq seed.server.password (text_or_empty password))
-
-abbrev pub connect_errors : Seed → Connect → List (List ℕ)
-connect_errors seed c =
-    error_where (is_wrong_password seed c.password) (codes "InvalidPassword")
-    ++ error_where (not (is_some (player_named seed c.name))) (codes "InvalidSlot")
-    ++ error_where (not (is_game_of c.game c.tags (slot_played seed (player_named seed c.name)))) (codes "InvalidGame")
-    ++ error_where (is_old c.version) (codes "IncompatibleVersion")
-    ++ error_where (not (is_mask (unwrap_or c.items_handling (pos 0)))) (codes "InvalidItemsHandling")
+-- an element of a message
+pub data Inbound : Type 0 where
+  good : Packet → Inbound
+  wrong : Bad → Inbound
