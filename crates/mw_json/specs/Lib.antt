@@ -4,6 +4,8 @@ pub mod Parts
 pub mod Paths
 pub mod Readers
 pub mod Reading
+pub mod Sets
 pub mod Settings
+pub mod TreeCode
 pub mod Valid
 pub mod View

@@ -19,6 +19,12 @@ pub trait Seen {
     ghost seen: { Self → Plain };
 }
 
+impl Seen for Tree {
+    ghost Plain = { Json };
+
+    ghost seen = { view };
+}
+
 impl<T: Seen> Seen for Values<T> {
     ghost Plain = { List T.Plain };
 
