@@ -1,3 +1,4 @@
+pub mod Kept
 pub mod OnlyPacket
 pub mod PacketsOf
 pub mod View

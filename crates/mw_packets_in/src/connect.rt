@@ -4,13 +4,56 @@ ghost use Rattle.mw_json.specs.Grammar.{Gives, GivesBy};
 ghost use Rattle.mw_packets_in.specs.PacketsOf.{connect_at, version_at};
 ghost use Rattle.mw_packets_in.specs.View.{packet_view};
 
-use crate::packet::{Packet, Version};
+use crate::packet::Packet;
 use crate::parts::{text_in, texts_in, whole_in};
 use crate::whole::holds_not_whole;
+use mw_base::{List, Text};
 use mw_json::{
     Kind, Member, Refusal, Tree, field_if, field_in, field_or, null_or, object_of, refuse,
 };
 use std::alloc::Global;
+use std::marker::Model;
+
+/// The version that a client speaks, each number from -2^63 to 2^64 - 1.
+#[derive(Clone, Copy, Debug, PartialEq, Eq)]
+pub struct Version {
+    /// The first number.
+    pub major: i128,
+    /// The second number.
+    pub minor: i128,
+    /// The third number.
+    pub build: i128,
+}
+
+impl Model for Version {
+    ghost use Rattle.mw_protocol.specs.Packets as plain;
+
+    ghost Value = { plain.Version };
+
+    ghost view = { λ v. record { major = v.major; minor = v.minor; build = v.build } };
+
+    ghost inverse = { λ v. record { major = v.major; minor = v.minor; build = v.build } };
+}
+
+/// What a session changes about itself.
+#[derive(Debug, Drop)]
+pub struct ConnectUpdate {
+    /// Which items the session wants to hear of: 0, 1, 3, 5 or 7; as before where it is absent.
+    pub items_handling: Option<u8>,
+    /// What kind of client it is; as before where it is absent.
+    pub tags: Option<List<Text>>,
+}
+
+impl Model for ConnectUpdate {
+    ghost use Rattle.mw_protocol.specs.Packets as plain;
+    ghost use Rattle.mw_packets_in.specs.Kept.{HasMask};
+
+    ghost Value = { plain.ConnectUpdate };
+
+    ghost view = { λ u. record { items_handling = u.items_handling; tags = u.tags } };
+
+    ghost invariant = { λ u. HasMask u.items_handling };
+}
 
 /// A version: an object with three whole numbers, in which all numbers are whole.
 #[tactic(auto, unfolding(crate::specs::PacketsOf::version_at))]

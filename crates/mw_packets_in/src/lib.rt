@@ -1,13 +1,26 @@
 //! What a client asks for, read from a message's text.
 #![tactic(auto)]
 
+mod bad;
 mod connect;
+mod hints;
+mod inbound;
+mod locations;
 mod message;
 mod packet;
 mod parts;
+mod status;
+mod storage;
 mod tags;
 mod whole;
 
+pub use bad::{Bad, BadKind};
+pub use connect::{ConnectUpdate, Version};
+pub use hints::UpdateHint;
+pub use inbound::Inbound;
+pub use locations::LocationScouts;
 pub use message::only_packet;
-pub use packet::{Packet, Version};
+pub use packet::Packet;
+pub use status::StatusUpdate;
+pub use storage::{Bounce, Get};
 pub use tags::has_tag;

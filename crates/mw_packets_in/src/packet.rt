@@ -1,26 +1,10 @@
+use crate::connect::{ConnectUpdate, Version};
+use crate::hints::UpdateHint;
+use crate::locations::LocationScouts;
+use crate::status::StatusUpdate;
+use crate::storage::{Bounce, Get};
 use mw_base::{List, Text};
-use std::marker::Model;
-
-/// The version that a client speaks, each number from -2^63 to 2^64 - 1.
-#[derive(Clone, Copy, Debug, PartialEq, Eq)]
-pub struct Version {
-    /// The first number.
-    pub major: i128,
-    /// The second number.
-    pub minor: i128,
-    /// The third number.
-    pub build: i128,
-}
-
-impl Model for Version {
-    ghost use Rattle.mw_protocol.specs.Packets as plain;
-
-    ghost Value = { plain.Version };
-
-    ghost view = { λ v. record { major = v.major; minor = v.minor; build = v.build } };
-
-    ghost inverse = { λ v. record { major = v.major; minor = v.minor; build = v.build } };
-}
+use mw_json::SetPacket;
 
 /// What a client asks for, after Archipelago's network protocol. Numbers are from -2^63 to 2^64 - 1.
 #[derive(Debug, Drop)]
@@ -40,11 +24,40 @@ pub enum Packet {
         /// What kind of client it is; none where it is absent.
         tags: Option<List<Text>>,
     },
+    /// The session wants to hear of other items, or is another kind of client.
+    ConnectUpdate(ConnectUpdate),
     /// The whole list of items again.
     Sync,
     /// Locations of the session's own slot are checked.
     LocationChecks {
         /// Their numbers, some of which may be no location's.
         locations: List<i128>,
+    },
+    /// What stands at locations of the session's own slot is asked for.
+    LocationScouts(LocationScouts),
+    /// A hint gets another status.
+    UpdateHint(UpdateHint),
+    /// The session's slot has a status.
+    StatusUpdate(StatusUpdate),
+    /// A text to all, or a command.
+    Say {
+        /// The text.
+        text: Text,
+    },
+    /// The names of games are asked for.
+    GetDataPackage {
+        /// The games; all where it is absent.
+        games: Option<List<Text>>,
+    },
+    /// A message for other clients.
+    Bounce(Bounce),
+    /// Values of the data storage are asked for.
+    Get(Get),
+    /// A value of the data storage is changed.
+    Change(SetPacket),
+    /// Changes of values are to be told to the session.
+    SetNotify {
+        /// Their keys.
+        keys: List<Text>,
     },
 }

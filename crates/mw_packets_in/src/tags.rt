@@ -1,6 +1,6 @@
 ghost use Rattle.std.specs.Prelude.{◌≡◌};
 ghost use Rattle.mw_model.specs.Texts.{has_text as has_text_lem};
-ghost use Rattle.mw_protocol.specs.Packets.{has_tag as has_tag_lem};
+ghost use Rattle.mw_protocol.specs.Connecting.{has_tag as has_tag_lem};
 
 use mw_base::{List, Text};
 

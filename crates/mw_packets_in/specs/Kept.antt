@@ -1,0 +1,40 @@
+-- What the packets of clients keep.
+use Rattle.std.specs.Prelude.{ℕ, pos, ◌==◌, ◌||◌, List, [], ◌∷◌, Bool, Option, IfSome, IsTrue, codes}
+use Rattle.mw_model.specs.Json.{Members}
+use Rattle.mw_model.specs.Passed.{AreFurther}
+use Rattle.mw_protocol.specs.Connecting.{is_mask}
+use Rattle.mw_protocol.specs.Packets.{Bounce}
+
+-- unspecified, no priority, avoid, priority
+abbrev pub is_hint_status : ℕ → Bool
+is_hint_status status = (status == 0) || (status == 10) || (status == 20) || (status == 30)
+
+-- unknown, connected, ready, playing, goal
+abbrev pub is_client_status : ℕ → Bool
+is_client_status status = (status == 0) || (status == 5) || (status == 10) || (status == 20) || (status == 30)
+
+-- the mask, where there is one, is a mask
+abbrev pub HasMask : Option ℕ → Type 0
+HasMask mask = IfSome mask (λ m. IsTrue (is_mask (pos m)))
+
+abbrev pub HasHintStatus : Option ℕ → Type 0
+HasHintStatus status = IfSome status (λ s. IsTrue (is_hint_status s))
+
+-- ---- members that a packet has of its own
+
+abbrev pub bounce_names : List (List ℕ)
+bounce_names = codes "cmd" ∷ codes "games" ∷ codes "tags" ∷ codes "slots" ∷ []
+
+abbrev pub get_names : List (List ℕ)
+get_names = codes "cmd" ∷ codes "keys" ∷ []
+
+-- the keys that are asked for, and what comes back with their values
+pub record Get : Type 0 where
+  pub keys : List (List ℕ)
+  pub further : Members
+
+abbrev pub IsBounce : Bounce → Type 0
+IsBounce bounce = AreFurther bounce_names bounce.further
+
+abbrev pub IsGet : Get → Type 0
+IsGet get = AreFurther get_names get.further
