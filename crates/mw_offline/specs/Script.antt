@@ -1,25 +1,29 @@
 -- A script: the commands of its lines, or the line at which it is refused.
 use Rattle.std.specs.Prelude.{◌≡◌, ℕ, pos, ◌+◌, ◌==◌, ◌&&◌, ◌||◌, ◌++◌, ◌∷◌, [], List, Bool, Option, Some, None, true, false, not, codes, length, take, nat_le, is_some, unwrap_or, if◌then◌else◌, Result, Ok, Err}
 use Rattle.std.specs.Ordering.{int_eq}
-use Rattle.mw_model.specs.Json.{Json, depth}
 use Rattle.mw_model.specs.Seed.{Seed}
 use Rattle.mw_protocol.specs.Connecting.{has_tag}
-use Rattle.mw_protocol.specs.Packets.{Packet, Connect, connect, connect_update, sync, location_checks, location_scouts, update_hint, status_update, say, get_data_package, bounce, get, change, set_notify}
+use Rattle.mw_protocol.specs.Packets.{Packet, Connect, connect, connect_update, sync, location_checks, location_scouts, update_hint, status_update, say, get_data_package, bounce, get, change, set_notify, Inbound, good, wrong}
 use Rattle.mw_protocol.specs.Room.{made_by}
-use Rattle.mw_json.specs.Reading.{reading, max_depth}
-use Rattle.mw_packets_in.specs.OnlyPacket.{sole_packet}
+use Rattle.mw_packets_in.specs.PacketsOf.{packets_of}
 use Rattle.mw_offline.specs.Commands.{Command, opens, sends, takes}
 use Rattle.mw_offline.specs.Lines.{Line, nothing, open_line, text_line, take_line, lost_line, commit_line, crash_line, line_of, lines_of, ended_lines}
 
 -- ---- the packet of a message
 
-abbrev pub packet_read : Option Json → Option Packet
-packet_read None = None
-packet_read (Some j) = if nat_le (depth j) max_depth then sole_packet j else None
+abbrev pub sole : Inbound → Option Packet
+sole (good packet) = Some packet
+sole (wrong bad) = None
+
+-- where there is just one element, its packet
+abbrev pub only : List Inbound → Option Packet
+only [] = None
+only (first ∷ []) = sole first
+only (first ∷ (second ∷ others)) = None
 
 -- the packet of a message that is a list of just one
 abbrev pub message_packet : List ℕ → Option Packet
-message_packet message = packet_read (reading message)
+message_packet message = only (packets_of message)
 
 -- ---- built lines
 

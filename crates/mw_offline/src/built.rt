@@ -2,18 +2,18 @@ ghost use Rattle.std.specs.Prelude.{◌≡◌, ◌&&◌, ◌++◌, ◌∷◌, []
 ghost use Rattle.std.specs.Option.{option_to_list};
 ghost use Rattle.std.specs.Ordering.{int_eq};
 ghost use Rattle.mw_protocol.specs.Room.{made_by};
-ghost use Rattle.mw_packets_in.specs.View.{packet_view};
+ghost use Rattle.mw_packets_in.specs.View.{packet_view, inbound_view};
 ghost use Rattle.mw_offline.specs.Commands.{command_view};
 ghost use Rattle.mw_offline.specs.Gives.{GivesBuilt, IsAdded};
 ghost use Rattle.mw_offline.specs.Lines.{line_of as line_of_lem};
-ghost use Rattle.mw_offline.specs.Script.{message_packet, connected, connected_by, HaveSame, is_built as is_built_lem, built_packet, built_line};
+ghost use Rattle.mw_offline.specs.Script.{only as only_lem, message_packet, connected, connected_by, HaveSame, is_built as is_built_lem, built_packet, built_line};
 
 use crate::command::Command;
 use crate::line::{Line, line_of};
 use crate::sessions::{add_session, has_session};
-use mw_base::{List, Memory};
+use mw_base::{List, Memory, Text};
 use mw_multidata::Multidata;
-use mw_packets_in::{Packet, has_tag, only_packet};
+use mw_packets_in::{Inbound, Packet, has_tag, packets_of};
 use mw_room::connection_made;
 use std::alloc::Global;
 use std::collections::BTreeSet;
@@ -38,12 +38,26 @@ impl From<Memory> for Unbuilt {
     }
 }
 
+/// The packet, where there is just one element.
+fn only(found: List<Inbound>) -> Option<Packet>
+    ensures { option_map packet_view result ≡ only_lem (map inbound_view found) }
+{
+    let mut found = found.into_vec();
+    if found.len() != 1 {
+        return None;
+    }
+    match found.pop() {
+        Some(Inbound::Good(packet)) => Some(packet),
+        _ => None,
+    }
+}
+
 /// The packet of a message that is a list of just one.
-#[tactic(auto, using(crate::proofs::Messages::packet_is))]
 fn packet_in(alloc: Global, message: &str) -> Result<Option<Packet>, Memory>
     ensures { IfOk result (λ p. option_map packet_view p ≡ message_packet message.now) }
 {
-    only_packet(alloc, message)
+    let text = Text::of(alloc, message)?;
+    Ok(only(packets_of(alloc, &text)?))
 }
 
 /// Whether the room accepts a packet as the first Connect of a session.

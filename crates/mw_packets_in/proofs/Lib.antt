@@ -1,1 +1,3 @@
-pub mod Sole
+pub mod Kept
+pub mod Others
+pub mod Passed

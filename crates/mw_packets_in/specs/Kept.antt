@@ -1,9 +1,10 @@
 -- What the packets of clients keep.
-use Rattle.std.specs.Prelude.{ℕ, pos, ◌==◌, ◌||◌, List, [], ◌∷◌, Bool, Option, IfSome, IsTrue, codes}
-use Rattle.mw_model.specs.Json.{Members}
+use Rattle.std.specs.Prelude.{ℕ, ℤ, pos, ◌==◌, ◌≤◌, ◌||◌, List, [], ◌∷◌, Bool, Option, IfSome, IsTrue, codes}
+use Rattle.mw_model.specs.Json.{Json, Members, depth, members_depth}
 use Rattle.mw_model.specs.Passed.{AreFurther}
 use Rattle.mw_protocol.specs.Connecting.{is_mask}
 use Rattle.mw_protocol.specs.Packets.{Bounce}
+use Rattle.mw_json.specs.Valid.{IsValid, MembersAreValid}
 
 -- unspecified, no priority, avoid, priority
 abbrev pub is_hint_status : ℕ → Bool
@@ -19,6 +20,11 @@ HasMask mask = IfSome mask (λ m. IsTrue (is_mask (pos m)))
 
 abbrev pub HasHintStatus : Option ℕ → Type 0
 HasHintStatus status = IfSome status (λ s. IsTrue (is_hint_status s))
+
+-- what stands at locations is asked for, and whether hints are made: 0, 1 or 2
+pub record LocationScouts : Type 0 where
+  pub locations : List ℤ
+  pub create_as_hint : ℕ
 
 -- ---- members that a packet has of its own
 
@@ -38,3 +44,14 @@ IsBounce bounce = AreFurther bounce_names bounce.further
 
 abbrev pub IsGet : Get → Type 0
 IsGet get = AreFurther get_names get.further
+
+-- ---- what is read
+
+-- it stands in a text, at most so deep
+pub record IsRead (most : ℕ) (j : Json) : Type 0 where
+  pub valid : IsValid j
+  pub shallow : depth j ≤ most
+
+pub record AreRead (most : ℕ) (ms : Members) : Type 0 where
+  pub valid : MembersAreValid ms
+  pub shallow : members_depth ms ≤ most

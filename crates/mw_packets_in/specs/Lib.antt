@@ -1,5 +1,8 @@
+pub mod Examples
+pub mod Fields
 pub mod Kept
-pub mod OnlyPacket
+pub mod Own
 pub mod PacketsOf
+pub mod Rows
 pub mod View
 pub mod Whole

@@ -1,12 +1,12 @@
 ghost use Rattle.std.specs.Prelude.{◌≡◌};
 ghost use Rattle.mw_json.specs.View.{view, members_view};
 ghost use Rattle.mw_json.specs.Grammar.{Gives, GivesBy};
-ghost use Rattle.mw_packets_in.specs.PacketsOf.{connect_at, version_at};
+ghost use Rattle.mw_packets_in.specs.Rows.{connect_at, connect_update_at, get_data_package_at, say_at, version_at};
 ghost use Rattle.mw_protocol.specs.Packets.{connect};
 ghost use Rattle.mw_packets_in.specs.View.{packet_view};
 
 use crate::packet::Packet;
-use crate::parts::{text_in, texts_in, whole_in};
+use crate::parts::{mask_in, text_in, texts_in, whole_in};
 use crate::whole::holds_not_whole;
 use mw_base::{List, Text};
 use mw_json::{
@@ -89,7 +89,7 @@ impl Model for ConnectUpdate {
 }
 
 /// A version: an object with three whole numbers, in which all numbers are whole.
-#[tactic(auto, unfolding(crate::specs::PacketsOf::version_at))]
+#[tactic(auto, unfolding(crate::specs::Rows::version_at))]
 fn version_of(alloc: Global, tree: &Tree) -> Result<Version, Refusal>
     ensures { Gives result (version_at (view tree.now)) }
 {
@@ -108,7 +108,7 @@ fn version_of(alloc: Global, tree: &Tree) -> Result<Version, Refusal>
 }
 
 /// A Connect's members.
-#[tactic(auto, unfolding(crate::specs::PacketsOf::connect_at))]
+#[tactic(auto, unfolding(crate::specs::Rows::connect_at))]
 fn fields_of(alloc: Global, members: &[Member]) -> Result<Connect, Refusal>
     ensures { GivesBy connect result (connect_at (members_view members.now)) }
 {
@@ -138,4 +138,35 @@ pub(crate) fn connect_of(alloc: Global, members: &[Member]) -> Result<Packet, Re
 {
     let fields = fields_of(alloc, members)?;
     Ok(Packet::Connect(fields))
+}
+
+/// The members of a ConnectUpdate.
+#[tactic(auto, unfolding(crate::specs::Rows::connect_update_at))]
+pub(crate) fn connect_update_of(alloc: Global, members: &[Member]) -> Result<Packet, Refusal>
+    ensures { GivesBy packet_view result (connect_update_at (members_view members.now)) }
+{
+    let items_handling = field_if(alloc, members, "items_handling", mask_in)?;
+    let tags = field_if(alloc, members, "tags", texts_in)?;
+    Ok(Packet::ConnectUpdate(ConnectUpdate {
+        items_handling,
+        tags,
+    }))
+}
+
+/// The members of a Say.
+#[tactic(auto, unfolding(crate::specs::Rows::say_at))]
+pub(crate) fn say_of(alloc: Global, members: &[Member]) -> Result<Packet, Refusal>
+    ensures { GivesBy packet_view result (say_at (members_view members.now)) }
+{
+    let text = field_in(alloc, members, "text", text_in)?;
+    Ok(Packet::Say { text })
+}
+
+/// The members of a GetDataPackage.
+#[tactic(auto, unfolding(crate::specs::Rows::get_data_package_at))]
+pub(crate) fn get_data_package_of(alloc: Global, members: &[Member]) -> Result<Packet, Refusal>
+    ensures { GivesBy packet_view result (get_data_package_at (members_view members.now)) }
+{
+    let games = field_if(alloc, members, "games", texts_in)?;
+    Ok(Packet::GetDataPackage { games })
 }

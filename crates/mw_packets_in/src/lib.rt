@@ -3,15 +3,19 @@
 
 mod bad;
 mod connect;
+mod further;
 mod hints;
 mod inbound;
 mod locations;
 mod message;
+mod operations;
 mod packet;
 mod parts;
+mod row;
 mod status;
 mod storage;
 mod tags;
+mod told;
 mod whole;
 
 pub use bad::{Bad, BadKind};
@@ -19,7 +23,7 @@ pub use connect::{Connect, ConnectUpdate, Version};
 pub use hints::UpdateHint;
 pub use inbound::Inbound;
 pub use locations::LocationScouts;
-pub use message::only_packet;
+pub use message::packets_of;
 pub use packet::Packet;
 pub use status::StatusUpdate;
 pub use storage::{Bounce, Get};

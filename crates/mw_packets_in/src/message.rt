@@ -1,86 +1,146 @@
-ghost use Rattle.std.specs.Prelude.{◌≡◌, IfOk, option_map};
-ghost use Rattle.mw_json.specs.View.{view, members_view};
-ghost use Rattle.mw_json.specs.Grammar.{GivesBy};
-ghost use Rattle.mw_packets_in.specs.OnlyPacket.{IsOnlyPacket, sole_at, sole_packet};
-ghost use Rattle.mw_packets_in.specs.PacketsOf.{checks_at, packet_at, packet_named};
-ghost use Rattle.mw_packets_in.specs.View.{packet_view};
+ghost use Rattle.std.specs.Prelude.{◌≡◌, ◌∷◌, [], All, IfOk, map};
+ghost use Rattle.mw_model.specs.Json.{find_member, many, members};
+ghost use Rattle.mw_json.specs.View.{view, items_view, members_view};
+ghost use Rattle.mw_packets_in.specs.Kept.{AreRead, IsRead};
+ghost use Rattle.mw_packets_in.specs.PacketsOf.{all_bad as all_bad_lem, each_inbound, inbound_named, inbound_of as inbound_of_lem, location_named, message_of as message_of_lem, packets_of as packets_of_lem, storage_named};
+ghost use Rattle.mw_packets_in.specs.View.{inbound_view};
 
-use crate::connect::connect_of;
+use crate::bad::BadKind;
+use crate::connect::{connect_of, connect_update_of, get_data_package_of, say_of};
+use crate::hints::update_hint_of;
+use crate::inbound::Inbound;
+use crate::locations::{checks_of, scouts_of};
 use crate::packet::Packet;
-use crate::parts::{text_in, wholes_in};
-use mw_base::Memory;
-use mw_json::{
-    JsonError, Kind, Member, Refusal, Tree, field_in, list_of, object_of, read_text, refuse,
-};
+use crate::status::status_update_of;
+use crate::storage::{bounce_of, get_of, set_notify_of, set_of};
+use crate::told::{bad, told, unnamed};
+use mw_base::{List, Memory, Text};
+use mw_json::{JsonError, Member, Tree, find, read_text};
 use std::alloc::Global;
 
-/// The members of LocationChecks.
-#[tactic(auto, unfolding(crate::specs::PacketsOf::checks_at))]
-fn checks_of(alloc: Global, members: &[Member]) -> Result<Packet, Refusal>
-    ensures { GivesBy packet_view result (checks_at (members_view members.now)) }
+/// Messages between clients, and the data storage.
+fn storage_by(alloc: Global, cmd: &str, members: &[Member]) -> Result<Inbound, Memory>
+    requires { AreRead 62 (members_view members.now) }
+    ensures { IfOk result (λ i. inbound_view i ≡ storage_named cmd.now (members_view members.now)) }
 {
-    let locations = field_in(alloc, members, "locations", wholes_in)?;
-    Ok(Packet::LocationChecks { locations })
+    match cmd {
+        "Bounce" => told(alloc, cmd, bounce_of(alloc, members)),
+        "Get" => told(alloc, cmd, get_of(alloc, members)),
+        "Set" => told(alloc, cmd, set_of(alloc, members)),
+        "SetNotify" => told(alloc, cmd, set_notify_of(alloc, members)),
+        _ => bad(alloc, BadKind::Cmd, cmd, Text::of(alloc, "unknown cmd")?),
+    }
 }
 
-/// The packet of a command.
-fn packet_by(alloc: Global, cmd: &str, members: &[Member]) -> Result<Packet, Refusal>
-    ensures { GivesBy packet_view result (packet_named cmd.now (members_view members.now)) }
+/// Locations, hints and statuses.
+fn location_by(alloc: Global, cmd: &str, members: &[Member]) -> Result<Inbound, Memory>
+    requires { AreRead 62 (members_view members.now) }
+    ensures { IfOk result (λ i. inbound_view i ≡ location_named cmd.now (members_view members.now)) }
 {
-    if cmd == "Connect" {
-        return connect_of(alloc, members);
+    match cmd {
+        "LocationChecks" => told(alloc, cmd, checks_of(alloc, members)),
+        "LocationScouts" => told(alloc, cmd, scouts_of(alloc, members)),
+        "UpdateHint" => told(alloc, cmd, update_hint_of(alloc, members)),
+        "StatusUpdate" => told(alloc, cmd, status_update_of(alloc, members)),
+        _ => storage_by(alloc, cmd, members),
     }
-    if cmd == "Sync" {
-        return Ok(Packet::Sync);
-    }
-    if cmd == "LocationChecks" {
-        return checks_of(alloc, members);
-    }
-    refuse(alloc, Kind::WrongKind)
 }
 
-/// A packet.
-#[tactic(auto, unfolding(crate::specs::PacketsOf::packet_at))]
-fn packet_of(alloc: Global, tree: &Tree) -> Result<Packet, Refusal>
-    ensures { GivesBy packet_view result (packet_at (view tree.now)) }
+/// An object's members, by the row of its command.
+fn inbound_by(alloc: Global, cmd: &str, members: &[Member]) -> Result<Inbound, Memory>
+    requires { AreRead 62 (members_view members.now) }
+    ensures { IfOk result (λ i. inbound_view i ≡ inbound_named cmd.now (members_view members.now)) }
 {
-    let members = object_of(alloc, tree)?;
-    let cmd = field_in(alloc, members, "cmd", text_in)?;
-    packet_by(alloc, cmd.as_str(), members)
+    match cmd {
+        "Connect" => told(alloc, cmd, connect_of(alloc, members)),
+        "ConnectUpdate" => told(alloc, cmd, connect_update_of(alloc, members)),
+        "Sync" => Ok(Inbound::Good(Packet::Sync)),
+        "Say" => told(alloc, cmd, say_of(alloc, members)),
+        "GetDataPackage" => told(alloc, cmd, get_data_package_of(alloc, members)),
+        _ => location_by(alloc, cmd, members),
+    }
 }
 
-/// The only packet of a message.
-#[tactic(auto, using(crate::proofs::Sole::no_sole), unfolding(crate::specs::OnlyPacket::sole_at))]
-fn sole_of(alloc: Global, tree: &Tree) -> Result<Packet, Refusal>
-    ensures { GivesBy packet_view result (sole_at (view tree.now)) }
+/// An element of a message that is an object.
+fn object_inbound(alloc: Global, parts: &[Member]) -> Result<Inbound, Memory>
+    requires { IsRead 63 (members (members_view parts.now)) }
+    ensures { IfOk result (λ i. inbound_view i ≡ inbound_of_lem (members (members_view parts.now))) }
 {
-    let items = list_of(alloc, tree)?;
-    if items.len() == 1 {
-        packet_of(alloc, &items[0])
+    match find(parts, "cmd") {
+        Some(Tree::Words(cmd)) => inbound_by(alloc, cmd.as_str(), parts),
+        _ => unnamed(alloc, "no cmd"),
+    }
+}
+
+/// An element of a message.
+fn inbound_of(alloc: Global, tree: &Tree) -> Result<Inbound, Memory>
+    requires { IsRead 63 (view tree.now) }
+    ensures { IfOk result (λ i. inbound_view i ≡ inbound_of_lem (view tree.now)) }
+{
+    match tree {
+        Tree::Members(parts) => object_inbound(alloc, parts.as_slice()),
+        _ => unnamed(alloc, "no cmd"),
+    }
+}
+
+/// The elements of a message.
+fn inbounds(alloc: Global, items: &[Tree]) -> Result<List<Inbound>, Memory>
+    requires { All (λ t. IsRead 63 (view t)) items.now }
+    ensures { IfOk result (λ l. map inbound_view l ≡ each_inbound (items_view items.now)) }
+{
+    let mut found = List::with_capacity(alloc, items.len())?;
+    for item in items {
+        found.push(inbound_of(alloc, item)?)?;
+    }
+    Ok(found)
+}
+
+/// What stands in the place of a message that is no list of packets.
+fn all_bad(alloc: Global, why: &str) -> Result<List<Inbound>, Memory>
+    ensures { IfOk result (λ l. map inbound_view l ≡ all_bad_lem why.now) }
+{
+    let mut found = List::new(alloc);
+    found.push(unnamed(alloc, why)?)?;
+    Ok(found)
+}
+
+const MAX_PACKETS: usize = 1024;
+
+/// The packets of a message that is a list.
+#[tactic(auto, using(mw_json::proofs::Trees::as_many))]
+fn list_inbounds(alloc: Global, items: &[Tree]) -> Result<List<Inbound>, Memory>
+    requires { IsRead 64 (many (items_view items.now)) }
+    ensures { IfOk result (λ l. map inbound_view l ≡ message_of_lem (many (items_view items.now))) }
+{
+    if items.len() <= MAX_PACKETS {
+        inbounds(alloc, items)
     } else {
-        refuse(alloc, Kind::WrongKind)
+        all_bad(alloc, "more than 1024 packets")
     }
 }
 
-fn packet_in(alloc: Global, tree: &Tree) -> Result<Option<Packet>, Memory>
-    ensures { IfOk result (λ p. option_map packet_view p ≡ sole_packet (view tree.now)) }
+/// The packets of a message that is read.
+fn message_of(alloc: Global, tree: &Tree) -> Result<List<Inbound>, Memory>
+    requires { IsRead 64 (view tree.now) }
+    ensures { IfOk result (λ l. map inbound_view l ≡ message_of_lem (view tree.now)) }
 {
-    match sole_of(alloc, tree) {
-        Ok(packet) => Ok(Some(packet)),
-        Err(Refusal::Memory) => Err(Memory),
-        Err(Refusal::Named { .. }) => Ok(None),
+    match tree {
+        Tree::Many(items) => list_inbounds(alloc, items.as_slice()),
+        _ => all_bad(alloc, "no JSON list"),
     }
 }
 
-/// The packet of a message that holds just one, where the text is such a message; none where it
-/// is no list of one element, or that element is no packet. Memory is its only error.
-pub fn only_packet(alloc: Global, text: &str) -> Result<Option<Packet>, Memory>
-    ensures { IfOk result (λ p. IsOnlyPacket text.now (option_map packet_view p)) }
+/// The packets of a client's message, in order, and what stands in the place of each element that
+/// is none. A text that is no JSON list of at most 1,024 elements is one bad packet, as is JSON
+/// that nests deeper than 64. `Memory` is its only error.
+pub fn packets_of(alloc: Global, text: &Text) -> Result<List<Inbound>, Memory>
+    ensures { IfOk result (λ l. map inbound_view l ≡ packets_of_lem text.now) }
 {
+    let text = text.as_str();
     match read_text(alloc, text.as_bytes()) {
-        Ok(tree) => packet_in(alloc, &tree),
+        Ok(tree) => message_of(alloc, &tree),
         Err(JsonError::Memory) => Err(Memory),
-        Err(JsonError::NoJson) => Ok(None),
-        Err(JsonError::TooDeep) => Ok(None),
+        Err(JsonError::NoJson) => all_bad(alloc, "no JSON list"),
+        Err(JsonError::TooDeep) => all_bad(alloc, "no JSON list"),
     }
 }

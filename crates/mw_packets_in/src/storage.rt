@@ -1,5 +1,18 @@
+ghost use Rattle.std.specs.Prelude.{◌≡◌};
+ghost use Rattle.mw_json.specs.View.{view, members_view};
+ghost use Rattle.mw_json.specs.Grammar.{GivesBy};
+ghost use Rattle.mw_packets_in.specs.Kept.{AreRead};
+ghost use Rattle.mw_packets_in.specs.Rows.{bounce_at, get_at, set_at, set_notify_at};
+ghost use Rattle.mw_packets_in.specs.View.{packet_view};
+
+use crate::further::further_of;
+use crate::operations::operations_field;
+use crate::packet::Packet;
+use crate::parts::{flag_in, text_in, texts_in, value_in, wholes_in};
+use crate::row::Row;
 use mw_base::{List, Text};
-use mw_json::Member;
+use mw_json::{Member, Refusal, SetPacket, Tree, field_if, field_in, field_or, field_or_seen};
+use std::alloc::Global;
 use std::marker::Model;
 
 /// A message for the clients whose game, slot or tag is among these.
@@ -62,4 +75,62 @@ impl Model for Get {
     ghost view = { λ g. record { keys = g.keys; further = members_view g.further } };
 
     ghost invariant = { λ g. AreFurther get_names (members_view g.further) };
+}
+
+/// The members of a Bounce.
+#[tactic(auto, using(crate::proofs::Passed::bounce_kept), unfolding(crate::specs::Rows::bounce_at))]
+pub(crate) fn bounce_of(alloc: Global, members: &[Member]) -> Result<Packet, Refusal>
+    requires { AreRead 62 (members_view members.now) }
+    ensures { GivesBy packet_view result (bounce_at (members_view members.now)) }
+{
+    let games = field_if(alloc, members, "games", texts_in)?;
+    let tags = field_if(alloc, members, "tags", texts_in)?;
+    let slots = field_if(alloc, members, "slots", wholes_in)?;
+    let further = further_of(alloc, Row::Bounce, members)?;
+    Ok(Packet::Bounce(Bounce {
+        games,
+        tags,
+        slots,
+        further,
+    }))
+}
+
+/// The members of a Get.
+#[tactic(auto, using(crate::proofs::Passed::get_kept), unfolding(crate::specs::Rows::get_at))]
+pub(crate) fn get_of(alloc: Global, members: &[Member]) -> Result<Packet, Refusal>
+    requires { AreRead 62 (members_view members.now) }
+    ensures { GivesBy packet_view result (get_at (members_view members.now)) }
+{
+    let keys = field_in(alloc, members, "keys", texts_in)?;
+    let further = further_of(alloc, Row::Get, members)?;
+    Ok(Packet::Get(Get { keys, further }))
+}
+
+/// The members of a Set.
+#[tactic(auto, unfolding(crate::specs::Rows::set_at))]
+pub(crate) fn set_of(alloc: Global, members: &[Member]) -> Result<Packet, Refusal>
+    requires { AreRead 62 (members_view members.now) }
+    ensures { GivesBy packet_view result (set_at (members_view members.now)) }
+{
+    let key = field_in(alloc, members, "key", text_in)?;
+    let default = field_or_seen(alloc, members, "default", Tree::Whole(0), value_in)?;
+    let want_reply = field_or(alloc, members, "want_reply", false, flag_in)?;
+    let operations = operations_field(alloc, members)?;
+    let further = further_of(alloc, Row::Set, members)?;
+    Ok(Packet::Change(SetPacket {
+        key,
+        default,
+        want_reply,
+        operations,
+        further,
+    }))
+}
+
+/// The members of a SetNotify.
+#[tactic(auto, unfolding(crate::specs::Rows::set_notify_at))]
+pub(crate) fn set_notify_of(alloc: Global, members: &[Member]) -> Result<Packet, Refusal>
+    ensures { GivesBy packet_view result (set_notify_at (members_view members.now)) }
+{
+    let keys = field_in(alloc, members, "keys", texts_in)?;
+    Ok(Packet::SetNotify { keys })
 }

@@ -29,8 +29,9 @@ fn some_item(items: &[Tree]) -> bool
     false
 }
 
+/// Whether such a number stands in one of these members' values.
 #[cycle(not_whole)]
-fn some_member(members: &[Member]) -> bool
+pub(crate) fn some_member(members: &[Member]) -> bool
     ensures { result ≡ members_have_not_whole (members_view members.now) }
 {
     for member in members {

@@ -1,0 +1,8 @@
+use Rattle.std.proofs.Common.{rules, codes, refl}
+use Rattle.mw_json.specs.Grammar.{number_at}
+use Rattle.mw_json.specs.View.{members_view}
+use Rattle.mw_packets_in.proofs.Kept.{hint_choice_kept}
+use Rattle.mw_packets_in.proofs.locations.scouts_of.Goals as goal
+
+pub invariant_of-result : goal.invariant_of-result
+invariant_of-result c = hint_choice_kept c.in_ok-create_as_hint.create_as_hint (members_view c.args.members.now) (c.in_ok-create_as_hint.ensures (number_at 0 2) (codes "create_as_hint") 0 refl refl (search rules))

@@ -1,0 +1,117 @@
+ghost use Rattle.std.specs.Prelude.{◌≡◌, IfOk};
+ghost use Rattle.mw_model.specs.Texts.{has_text};
+ghost use Rattle.mw_json.specs.Grammar.{GivesBy, refused, under};
+ghost use Rattle.mw_json.specs.View.{member_view, members_view};
+ghost use Rattle.mw_json.specs.declared.refusal.Kind.TheVariants.{NotWhole};
+ghost use Rattle.mw_json.specs.declared.refusal.Step.TheVariants.{Name};
+ghost use Rattle.mw_packets_in.specs.Fields.{further_at, others};
+ghost use Rattle.mw_json.specs.Sets.{set_names};
+ghost use Rattle.mw_packets_in.specs.Kept.{bounce_names, get_names};
+ghost use Rattle.mw_packets_in.specs.Own.{label_of, own_names};
+
+use crate::row::Row;
+use crate::whole::some_member;
+use mw_base::{List, Memory, Text};
+use mw_json::{Kind, Member, Refusal, Step, copy, named};
+use std::alloc::Global;
+
+fn is_bounce_name(name: &str) -> bool
+    ensures { result ≡ has_text bounce_names name.now }
+{
+    "cmd" == name || "games" == name || "tags" == name || "slots" == name
+}
+
+fn is_get_name(name: &str) -> bool
+    ensures { result ≡ has_text get_names name.now }
+{
+    "cmd" == name || "keys" == name
+}
+
+fn is_set_name(name: &str) -> bool
+    ensures { result ≡ has_text set_names name.now }
+{
+    "cmd" == name
+        || "key" == name
+        || "default" == name
+        || "want_reply" == name
+        || "operations" == name
+}
+
+/// Whether a row has a member of this name, or it is the command.
+fn is_own(row: Row, name: &str) -> bool
+    ensures { result ≡ has_text (own_names row) name.now }
+{
+    match row {
+        Row::Bounce => is_bounce_name(name),
+        Row::Get => is_get_name(name),
+        Row::Set => is_set_name(name),
+    }
+}
+
+/// The name under which a row's further members are refused.
+fn label(row: Row) -> &'static str
+    ensures { result.now ≡ label_of row }
+{
+    match row {
+        Row::Bounce => "data",
+        Row::Get => "keys",
+        Row::Set => "operations",
+    }
+}
+
+/// A copy of a member.
+fn copy_member(alloc: Global, member: &Member) -> Result<Member, Memory>
+    ensures { IfOk result (λ m. member_view m ≡ member_view member.now) }
+{
+    let name = Text::of(alloc, member.name.as_str())?;
+    let value = copy(alloc, &member.value)?;
+    Ok(named(name, value))
+}
+
+/// Whether a row has this member.
+fn is_own_member(row: Row, member: &Member) -> bool
+    ensures { result ≡ has_text (own_names row) (member_view member.now).0 }
+{
+    is_own(row, member.name.as_str())
+}
+
+/// Copies of the members that a row doesn't have.
+fn others_of(alloc: Global, row: Row, members: &[Member]) -> Result<List<Member>, Memory>
+    ensures { IfOk result (λ ms. members_view ms ≡ others (own_names row) (members_view members.now)) }
+{
+    let mut found = List::new(alloc);
+    for member in members {
+        if is_own_member(row, member) {
+            continue;
+        }
+        found.push(copy_member(alloc, member)?)?;
+    }
+    Ok(found)
+}
+
+/// The refusal of a number that isn't whole under a name.
+fn refuse_under(alloc: Global, name: &str) -> Result<List<Member>, Refusal>
+    ensures { GivesBy members_view result (under (Name name.now) (refused NotWhole)) }
+{
+    let mut path = List::new(alloc);
+    path.push(Step::Name(Text::of(alloc, name)?))?;
+    Err(Refusal::Named {
+        kind: Kind::NotWhole,
+        path,
+    })
+}
+
+/// Copies of a packet's further members, in which all numbers are whole.
+pub(crate) fn further_of(
+    alloc: Global,
+    row: Row,
+    members: &[Member],
+) -> Result<List<Member>, Refusal>
+    ensures { GivesBy members_view result (further_at (label_of row) (own_names row) (members_view members.now)) }
+{
+    let found = others_of(alloc, row, members)?;
+    if some_member(found.as_slice()) {
+        return refuse_under(alloc, label(row));
+    }
+    Ok(found)
+}
