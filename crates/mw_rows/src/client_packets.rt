@@ -97,7 +97,10 @@ fn each_command_is_read(rt: HostRuntime) -> Result<(), Fail> {
 fn other_texts_are_no_packets(rt: HostRuntime) -> Result<(), Fail> {
     for text in ["", "7", r#"{"cmd":"Sync"}"#, r#"[{"cmd":"Sync"}"#] {
         let found = packets_in(rt.alloc(), text)?;
-        assert!(rt; is_bad(&found, BadKind::Cmd, None, "no JSON list"), "{text}");
+        assert!(rt;
+            is_bad(&found, BadKind::Cmd, None, "no JSON list"),
+            "{text}"
+        );
     }
     for text in ["[7]", "[[]]", "[{}]", r#"[{"cmd":null}]"#] {
         let found = packets_in(rt.alloc(), text)?;
@@ -111,18 +114,57 @@ fn other_texts_are_no_packets(rt: HostRuntime) -> Result<(), Fail> {
 #[test]
 fn a_bad_member_is_named(rt: HostRuntime) -> Result<(), Fail> {
     for (text, cmd, why) in [
-        (r#"[{"cmd":"LocationChecks"}]"#, "LocationChecks", "arguments: locations"),
-        (r#"[{"cmd":"LocationChecks","locations":[1.0]}]"#, "LocationChecks", "arguments: locations"),
-        (r#"[{"cmd":"Connect","name":"Ann","version":{"major":0,"minor":5,"build":0,"more":[0.5]}}]"#, "Connect", "arguments: version"),
-        (r#"[{"cmd":"Connect","name":"Ann","version":{"major":0,"minor":5,"build":0},"tags":null}]"#, "Connect", "arguments: tags"),
-        (r#"[{"cmd":"ConnectUpdate","items_handling":2,"tags":7}]"#, "ConnectUpdate", "arguments: items_handling"),
-        (r#"[{"cmd":"StatusUpdate","status":7}]"#, "StatusUpdate", "arguments: status"),
-        (r#"[{"cmd":"Bounce","data":{"time":0.5}}]"#, "Bounce", "arguments: data"),
-        (r#"[{"cmd":"Get","keys":["k"],"n":0.5}]"#, "Get", "arguments: keys"),
-        (r#"[{"cmd":"Set","key":"k","default":0,"operations":[{"operation":"replace","value":1.5}]}]"#, "Set", "arguments: operations"),
+        (
+            r#"[{"cmd":"LocationChecks"}]"#,
+            "LocationChecks",
+            "arguments: locations",
+        ),
+        (
+            r#"[{"cmd":"LocationChecks","locations":[1.0]}]"#,
+            "LocationChecks",
+            "arguments: locations",
+        ),
+        (
+            r#"[{"cmd":"Connect","name":"Ann","version":{"major":0,"minor":5,"build":0,"more":[0.5]}}]"#,
+            "Connect",
+            "arguments: version",
+        ),
+        (
+            r#"[{"cmd":"Connect","name":"Ann","version":{"major":0,"minor":5,"build":0},"tags":null}]"#,
+            "Connect",
+            "arguments: tags",
+        ),
+        (
+            r#"[{"cmd":"ConnectUpdate","items_handling":2,"tags":7}]"#,
+            "ConnectUpdate",
+            "arguments: items_handling",
+        ),
+        (
+            r#"[{"cmd":"StatusUpdate","status":7}]"#,
+            "StatusUpdate",
+            "arguments: status",
+        ),
+        (
+            r#"[{"cmd":"Bounce","data":{"time":0.5}}]"#,
+            "Bounce",
+            "arguments: data",
+        ),
+        (
+            r#"[{"cmd":"Get","keys":["k"],"n":0.5}]"#,
+            "Get",
+            "arguments: keys",
+        ),
+        (
+            r#"[{"cmd":"Set","key":"k","default":0,"operations":[{"operation":"replace","value":1.5}]}]"#,
+            "Set",
+            "arguments: operations",
+        ),
     ] {
         let found = packets_in(rt.alloc(), text)?;
-        assert!(rt; is_bad(&found, BadKind::Arguments, Some(cmd), why), "{text}");
+        assert!(rt;
+            is_bad(&found, BadKind::Arguments, Some(cmd), why),
+            "{text}"
+        );
     }
     Ok(())
 }

@@ -51,6 +51,9 @@ fn a_package_has_the_wanted_games(rt: HostRuntime) -> Result<(), Fail> {
     let mut names = List::new(rt.alloc());
     names.push(Text::of(rt.alloc(), "F")?)?;
     let none = package(rt.alloc(), &tables, &Some(names))?;
-    assert_eq!(rt; compact_text(rt.alloc(), &none)?.as_str(), r#"{"games":{}}"#);
+    assert_eq!(rt;
+        compact_text(rt.alloc(), &none)?.as_str(),
+        r#"{"games":{}}"#
+    );
     Ok(())
 }
