@@ -1,5 +1,5 @@
 -- What `drive` reads and puts.
-use Rattle.std.proofs.Common.{◌≡◌, ◌⊎◌, ◌∙◌, ℕ, List, Option, Result, Err, refl, sym, ap, subst, inl, inr}
+use Rattle.std.proofs.Common.{◌≡◌, ◌⊎◌, ◌∙◌, ℕ, List, Option, Result, Err, Bool, refl, sym, ap, inl, inr}
 use Rattle.std.specs.Prelude.{IfErr, IsErrAnd}
 use Rattle.std.specs.Io.KnownBytes.{Appends}
 use Rattle.mw_edges.specs.Causes.{PutsFront}
@@ -28,60 +28,61 @@ halt_late : (halt : Halt) → (halt_stop halt ≡ Fault) ⊎ (halt_stop halt ≡
 halt_late halted.Fault = inl refl
 halt_late halted.Memory = inr refl
 
--- commands that stop have put some of their text
-pub halt_left : {T : Type 0} (why : Stop DriveCause → Type 0) (nothing some : Type 0) (answer : Result T (Stop DriveCause)) (halt : Halt) → some → IsErrAnd answer (λ e. e ≡ halt_stop halt) → IfErr answer (HasLeft why nothing some)
-halt_left why nothing some answer halt h is = passed_exit (HasLeft why nothing some) answer (halt_stop halt) (left_some why nothing some (halt_stop halt) (halt_late halt) h) is
-
 -- a source that fails is a fault, and a script that is refused is none
 pub halt_fault : (halt : Halt) → halt_stop halt ≡ Fault → halt ≡ halted.Fault
 halt_fault halted.Fault e = refl
 halt_fault halted.Memory e = cc
+
+-- commands that stop have put some of their text
+pub halt_left : {T : Type 0} (why : Stop DriveCause → Type 0) (nothing some failed : Type 0) (answer : Result T (Stop DriveCause)) (halt : Halt) → some → (halt ≡ halted.Fault → failed) → IsErrAnd answer (λ e. e ≡ halt_stop halt) → IfErr answer (HasLeft why nothing some failed)
+halt_left why nothing some failed answer halt h rose is =
+    passed_exit (HasLeft why nothing some failed) answer (halt_stop halt) (left_some why nothing some failed (halt_stop halt) (halt_late halt) h (λ e. rose (halt_fault halt e))) is
 
 pub script_late : (e : ScriptError) → script_stop e ≡ Fault → ⊥
 script_late error.Memory e = cc
 script_late (error.Refused line) e = cc
 script_late (error.NotBuilt line) e = cc
 
-file_refused : (file : Option (Option (List ℕ))) (stop : Stop SeedCause) → IsSeedStopped file stop → IsSeedRefused file (stop_with SeedFile stop)
-file_refused file Fault h = tt
-file_refused file Memory h = tt
-file_refused file (Refused cause) h = h
+file_refused : (file : Option (Option (List ℕ))) (may_fail : Bool) (stop : Stop SeedCause) → IsSeedStopped file may_fail stop → IsSeedRefused file may_fail (stop_with SeedFile stop)
+file_refused file may_fail Fault h = h
+file_refused file may_fail Memory h = tt
+file_refused file may_fail (Refused cause) h = h
 
 -- a seed file that gives no seed gives none of one team
-pub refused_seed : {T : Type 0} (file : Option (Option (List ℕ))) (answer : Result T (Stop DriveCause)) (stop : Stop SeedCause) → IsSeedStopped file stop → IsErrAnd answer (λ e. e ≡ stop_with SeedFile stop) → IfErr answer (IsSeedRefused file)
-refused_seed file answer stop h is = passed_exit (IsSeedRefused file) answer (stop_with SeedFile stop) (file_refused file stop h) is
+pub refused_seed : {T : Type 0} (file : Option (Option (List ℕ))) (may_fail : Bool) (answer : Result T (Stop DriveCause)) (stop : Stop SeedCause) → IsSeedStopped file may_fail stop → IsErrAnd answer (λ e. e ≡ stop_with SeedFile stop) → IfErr answer (IsSeedRefused file may_fail)
+refused_seed file may_fail answer stop h is = passed_exit (IsSeedRefused file may_fail) answer (stop_with SeedFile stop) (file_refused file may_fail stop h) is
 
-module _ {S : Type 0} (left : S → Option (List ℕ)) (file : Option (Option (List ℕ))) (before : S) where
+module _ {S : Type 0} (left : S → Option (List ℕ)) (file : Option (Option (List ℕ))) (may_fail : Bool) (before : S) where
   -- the source isn't touched before the seed file stands
-  seed_cause : (stop : Stop DriveCause) → IsSeedRefused file stop → HasDriveCause left file before before stop
-  seed_cause Fault h = inl refl
+  seed_cause : (stop : Stop DriveCause) → IsSeedRefused file may_fail stop → HasDriveCause left file may_fail before before stop
+  seed_cause Fault h = inl (h, refl)
   seed_cause Memory h = tt
   seed_cause (Refused (SeedFile cause)) h = (h, refl)
   seed_cause (Refused SeedFileNotBuilt) h = (h, refl)
   seed_cause (Refused (Script line)) h = absurd h
   seed_cause (Refused (LineNotBuilt line)) h = absurd h
 
-  pub seed_exit : {T : Type 0} (answer : Result T (Stop DriveCause)) (stop : Stop DriveCause) → IsSeedRefused file stop → IsErrAnd answer (λ e. e ≡ stop) → IfErr answer (HasDriveCause left file before before)
-  seed_exit answer stop h is = passed_exit (HasDriveCause left file before before) answer stop (seed_cause stop h) is
+  pub seed_exit : {T : Type 0} (answer : Result T (Stop DriveCause)) (stop : Stop DriveCause) → IsSeedRefused file may_fail stop → IsErrAnd answer (λ e. e ≡ stop) → IfErr answer (HasDriveCause left file may_fail before before)
+  seed_exit answer stop h is = passed_exit (HasDriveCause left file may_fail before before) answer stop (seed_cause stop h) is
 
   module _ (after : S) (seed : Seed) (has : HasSeed file seed) where
-    halt_by : (halt : Halt) → HasDriveCause left file before after (halt_stop halt)
+    halt_by : (halt : Halt) → HasDriveCause left file may_fail before after (halt_stop halt)
     halt_by halted.Fault = inr (seed, has)
     halt_by halted.Memory = tt
 
     -- a source that fails
-    pub halt_cause : {T : Type 0} (answer : Result T (Stop DriveCause)) (halt : Halt) → IsErrAnd answer (λ e. e ≡ halt_stop halt) → IfErr answer (HasDriveCause left file before after)
-    halt_cause answer halt is = passed_exit (HasDriveCause left file before after) answer (halt_stop halt) (halt_by halt) is
+    pub halt_cause : {T : Type 0} (answer : Result T (Stop DriveCause)) (halt : Halt) → IsErrAnd answer (λ e. e ≡ halt_stop halt) → IfErr answer (HasDriveCause left file may_fail before after)
+    halt_cause answer halt is = passed_exit (HasDriveCause left file may_fail before after) answer (halt_stop halt) (halt_by halt) is
 
     module _ (bytes script : List ℕ) (same : bytes ≡ script) (r : IsRead (left before) (left after) script) where
-      script_by : (e : ScriptError) → GivesScript (Err e) (script_of seed bytes) → HasDriveCause left file before after (script_stop e)
+      script_by : (e : ScriptError) → GivesScript (Err e) (script_of seed bytes) → HasDriveCause left file may_fail before after (script_stop e)
       script_by error.Memory h = tt
       script_by (error.Refused line) h = record { seed = seed; has_seed = has; script = script; is_read = r; judged = ap (script_of seed) (sym same) ∙ h }
       script_by (error.NotBuilt line) h = record { seed = seed; has_seed = has; script = script; is_read = r; judged = ap (script_of seed) (sym same) ∙ h }
 
       -- a script that is refused
-      pub script_cause : {T : Type 0} (answer : Result T (Stop DriveCause)) (e : ScriptError) → GivesScript (Err e) (script_of seed bytes) → IsErrAnd answer (λ s. s ≡ script_stop e) → IfErr answer (HasDriveCause left file before after)
-      script_cause answer e h is = passed_exit (HasDriveCause left file before after) answer (script_stop e) (script_by e h) is
+      pub script_cause : {T : Type 0} (answer : Result T (Stop DriveCause)) (e : ScriptError) → GivesScript (Err e) (script_of seed bytes) → IsErrAnd answer (λ s. s ≡ script_stop e) → IfErr answer (HasDriveCause left file may_fail before after)
+      script_cause answer e h is = passed_exit (HasDriveCause left file may_fail before after) answer (script_stop e) (script_by e h) is
 
 -- the text of commands that are ready
 text_read : (file : Option (Option (List ℕ))) (before after : Option (List ℕ)) (seed : Seed) (cs : List Command) (room : Room) → room ≡ empty_room seed → IsReady file before after seed cs → TextRead file before after (drive_text room cs)

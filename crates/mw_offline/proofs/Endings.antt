@@ -1,9 +1,9 @@
 -- How a command ends, whatever its own causes are.
-use Rattle.std.proofs.Common.{◌≡◌, ◌⊎◌, ℕ, List, Option, Result, Ok, Err, refl, sym, subst, ◌∙◌, inl, inr}
+use Rattle.std.proofs.Common.{◌≡◌, ◌⊎◌, ℕ, List, Result, Ok, Err, refl, sym, ap, subst, ◌∙◌, inl, inr}
 use Rattle.std.specs.Prelude.{IfErr, IsErrAnd, OnErr, OnOk}
 use Rattle.std.proofs.lemmas.Result.{err_from_is_err_and}
 use Rattle.std.specs.Io.KnownBytes.{Keeps}
-use Rattle.mw_offline.specs.Ends.{Told, stop_with, Ended, HasLeft, Stops, Ends}
+use Rattle.mw_offline.specs.Ends.{Told, stop_with, Ended, HasLeft, Ends}
 use Rattle.mw_offline.specs.declared.stop.Stop.{Stop}
 use Rattle.mw_offline.specs.declared.stop.Stop.TheVariants.{Fault, Memory, Refused}
 
@@ -36,39 +36,39 @@ memory_late {C = C} answer h e = let same : Memory ≡ Fault = fault_passed answ
 pub fault_exit : {T C D : Type 0} (cause_of : C → D) (answer : Result T (Stop D)) (stop : Stop C) → IsErrAnd answer (λ e. e ≡ stop_with cause_of stop) → answer ≡ Err Fault → stop ≡ Fault
 fault_exit cause_of answer stop h e = fault_with cause_of stop (fault_passed answer (stop_with cause_of stop) h e)
 
-module _ {C : Type 0} (why : Stop C → Type 0) (nothing some : Type 0) where
+module _ {C : Type 0} (why : Stop C → Type 0) (nothing some failed : Type 0) where
   -- nothing was touched before a reading failed or what was read was refused
-  pub left_before : (stop : Stop C) → why stop → nothing → HasLeft why nothing some stop
+  pub left_before : (stop : Stop C) → why stop → nothing → HasLeft why nothing some failed stop
   left_before Fault h k = inl (h, k)
   left_before Memory h k = inl k
   left_before (Refused cause) h k = (h, k)
 
   -- some was done before a device failed or memory ran out
-  pub left_some : (stop : Stop C) → (stop ≡ Fault) ⊎ (stop ≡ Memory) → some → HasLeft why nothing some stop
-  left_some stop (inl e) h = subst (HasLeft why nothing some) (sym e) (inr h)
-  left_some stop (inr e) h = subst (HasLeft why nothing some) (sym e) (inr h)
+  pub left_some : (stop : Stop C) → (stop ≡ Fault) ⊎ (stop ≡ Memory) → some → (stop ≡ Fault → failed) → HasLeft why nothing some failed stop
+  left_some stop (inl e) h f = subst (HasLeft why nothing some failed) (sym e) (inr (h, f e))
+  left_some stop (inr e) h f = subst (HasLeft why nothing some failed) (sym e) (inr h)
 
-  pub left_exit : {T : Type 0} (answer : Result T (Stop C)) (stop : Stop C) → why stop → nothing → IsErrAnd answer (λ e. e ≡ stop) → IfErr answer (HasLeft why nothing some)
-  left_exit answer stop h k is = passed_exit (HasLeft why nothing some) answer stop (left_before stop h k) is
+  pub left_exit : {T : Type 0} (answer : Result T (Stop C)) (stop : Stop C) → why stop → nothing → IsErrAnd answer (λ e. e ≡ stop) → IfErr answer (HasLeft why nothing some failed)
+  left_exit answer stop h k is = passed_exit (HasLeft why nothing some failed) answer stop (left_before stop h k) is
 
-  pub left_late : {T P : Type 0} (answer : Result T (Stop C)) → IfErr answer (λ stop. (stop ≡ Fault) ⊎ (stop ≡ Memory)) → OnErr answer P → (P → some) → IfErr answer (HasLeft why nothing some)
-  left_late (Ok x) late p f = tt
-  left_late (Err stop) late p f = left_some stop late (f p)
+  pub left_late : {T P : Type 0} (answer : Result T (Stop C)) → IfErr answer (λ stop. (stop ≡ Fault) ⊎ (stop ≡ Memory)) → OnErr answer P → (answer ≡ Err Fault → failed) → (P → some) → IfErr answer (HasLeft why nothing some failed)
+  left_late (Ok x) late p rose f = tt
+  left_late (Err stop) late p rose f = left_some stop late (f p) (λ e. rose (ap Err e))
 
-  at_memory : (stop : Stop C) → HasLeft why nothing some stop → nothing ⊎ some
+  at_memory : (stop : Stop C) → HasLeft why nothing some failed stop → nothing ⊎ some
   at_memory Fault (inl h) = inl h.1
-  at_memory Fault (inr h) = inr h
+  at_memory Fault (inr h) = inr h.0
   at_memory Memory h = h
   at_memory (Refused cause) h = inl h.1
 
-  named_left : (stop named : Stop C) → (named ≡ stop) ⊎ (named ≡ Memory) → HasLeft why nothing some stop → HasLeft why nothing some named
-  named_left stop named (inl e) h = subst (HasLeft why nothing some) (sym e) h
-  named_left stop named (inr e) h = subst (HasLeft why nothing some) (sym e) (at_memory stop h)
+  named_left : (stop named : Stop C) → (named ≡ stop) ⊎ (named ≡ Memory) → HasLeft why nothing some failed stop → HasLeft why nothing some failed named
+  named_left stop named (inl e) h = subst (HasLeft why nothing some failed) (sym e) h
+  named_left stop named (inr e) h = subst (HasLeft why nothing some failed) (sym e) (at_memory stop h)
 
   module _ (status_of : C → ℕ) (line_of : C → List ℕ) (done : Type 0) (status : ℕ) (told : Told) where
     -- a command that did all, or left what it may where it stopped, ends as it says
     pub ends : {T : Type 0} (outcome : Result T (Stop C)) → OnOk outcome (status ≡ 0) → OnOk outcome (Keeps told.old told.new) → IfErr outcome (λ stop. Ended status_of line_of stop status told)
-        → OnOk outcome done → IfErr outcome (HasLeft why nothing some) → Ends status_of line_of why nothing some done status told
+        → OnOk outcome done → IfErr outcome (HasLeft why nothing some failed) → Ends status_of line_of why nothing some failed done status told
     ends (Ok x) zero kept ended all left = inl (zero, all, kept)
     ends (Err stop) zero kept ended all left =
         inr (ended.named, record { is_status = ended.is_status; left = named_left stop ended.named ended.is left; line = ended.line })

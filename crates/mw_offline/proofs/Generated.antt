@@ -1,5 +1,5 @@
 -- What `generate` makes.
-use Rattle.std.proofs.Common.{◌≡◌, ◌≢◌, ◌⊎◌, ◌≤◌, ◌<◌, ◌==◌, ℕ, List, [], ◌∷◌, Bool, true, false, Result, Ok, All, filter, flat_map, map, get_or, inl, inr, refl, sym, ap, subst, ◌∙◌, arith}
+use Rattle.std.proofs.Common.{◌≡◌, ◌≤◌, ◌<◌, ◌==◌, ℕ, List, [], ◌∷◌, Bool, true, false, Result, Ok, All, filter, flat_map, map, get_or, inl, inr, refl, sym, ap, subst, ◌∙◌, arith}
 use Rattle.std.specs.Prelude.{IfErr, IsErrAnd}
 use Rattle.std.specs.List.{range_with_len}
 use Rattle.std.proofs.lemmas.Bool.{cases_lt}
@@ -105,9 +105,9 @@ module _ (joined : Joint → Type 0) (unjoined : Stop TableCause → Type 0) (wa
     text_for bytes text made = record { joint = joint; is_joined = is_joined; made = made }
 
 -- tables that aren't read
-pub table_cause : {T : Type 0} (files : Files) (wanted : Wanted) (answer : Result T (Stop GenerateCause)) (stop : Stop TableCause) → HasTableCause files wanted.players stop → IsErrAnd answer (λ e. e ≡ stop_with Tables stop)
-    → IfErr answer (HasGenerateCause files wanted)
-table_cause files wanted answer stop h is = unjoined_for (JointIn files wanted.players) (HasTableCause files wanted.players) wanted answer stop h is
+pub table_cause : {T : Type 0} (files : Files) (may_fail : Bool) (wanted : Wanted) (answer : Result T (Stop GenerateCause)) (stop : Stop TableCause) → HasTableCause files may_fail wanted.players stop → IsErrAnd answer (λ e. e ≡ stop_with Tables stop)
+    → IfErr answer (HasGenerateCause files may_fail wanted)
+table_cause files may_fail wanted answer stop h is = unjoined_for (JointIn files wanted.players) (HasTableCause files may_fail wanted.players) wanted answer stop h is
 
 module _ (files : Files) (wanted : Wanted) (players : Players) (worlds : List World) (t : TablesOf files wanted.players players worlds) where
   abbrev joined_so : Joint → Type 0
@@ -119,10 +119,10 @@ module _ (files : Files) (wanted : Wanted) (players : Players) (worlds : List Wo
   refused_there : (error : GenerateError) → IsRefusedFor joined_so wanted error → IsRefusedFor (JointIn files wanted.players) wanted error
   refused_there error h = record { joint = h.joint; is_joined = joint_in files wanted.players players worlds t h.joint h.is_joined; is = h.is }
 
-  pub generate_cause : (stop : Stop GenerateCause) → IsUntextFor joined_so (AreUnjoined worlds players) wanted stop → HasGenerateCause files wanted stop
-  generate_cause Fault h = absurd h
-  generate_cause Memory h = tt
-  generate_cause (Refused (Tables cause)) h = unjoined_cause files wanted.players players worlds t (Refused cause) h
-  generate_cause (Refused (NotBeatable slot)) h = refused_there (refused.NotBeatable slot) h
-  generate_cause (Refused (TooManyItems have room)) h = refused_there (refused.TooManyItems have room) h
-  generate_cause (Refused (Exhausted tries)) h = (h.0, refused_there refused.Exhausted h.1)
+  pub generate_cause : (may_fail : Bool) (stop : Stop GenerateCause) → IsUntextFor joined_so (AreUnjoined worlds players) wanted stop → HasGenerateCause files may_fail wanted stop
+  generate_cause may_fail Fault h = absurd h
+  generate_cause may_fail Memory h = tt
+  generate_cause may_fail (Refused (Tables cause)) h = unjoined_cause files wanted.players players worlds t may_fail (Refused cause) h
+  generate_cause may_fail (Refused (NotBeatable slot)) h = refused_there (refused.NotBeatable slot) h
+  generate_cause may_fail (Refused (TooManyItems have room)) h = refused_there (refused.TooManyItems have room) h
+  generate_cause may_fail (Refused (Exhausted tries)) h = (h.0, refused_there refused.Exhausted h.1)

@@ -10,6 +10,7 @@ pub mod Puts
 pub mod Steps
 pub mod Texts
 pub mod Walks
+pub mod Unread
 pub mod Reading
 pub mod TableCauses
 pub mod Counted

@@ -1,5 +1,5 @@
 -- Two runs of `generate` on the same files come to one thing.
-use Rattle.std.proofs.Common.{◌≡◌, ◌⊎◌, ◌<◌, ◌≤◌, ◌++◌, ◌-◌, ℕ, List, [], ◌∷◌, Bool, false, length, Option, Some, None, Result, Ok, Err, map, inl, inr, refl, sym, ap, ap₂, subst, ◌∙◌, arith}
+use Rattle.std.proofs.Common.{◌≡◌, ◌<◌, ◌++◌, ◌-◌, ℕ, List, [], ◌∷◌, length, Option, Some, None, Result, Ok, inl, inr, sym, ap, ap₂, subst, ◌∙◌, arith}
 use Rattle.std.proofs.lemmas.Bool.{cases_lt}
 use Rattle.mw_edges.specs.Folders.{GivesFile}
 use Rattle.mw_edges.specs.declared.folder.FileRead.TheVariants.{Whole}
@@ -7,7 +7,7 @@ use Rattle.mw_json.specs.Files.{FileOf}
 use Rattle.mw_json.specs.Grammar.{Breach}
 use Rattle.mw_json.specs.Reading.{IsReading, reading}
 use Rattle.mw_model.specs.Json.{Json, depth}
-use Rattle.mw_model.specs.Seed.{Seed, Spot}
+use Rattle.mw_model.specs.Seed.{Spot}
 use Rattle.mw_multi.specs.World.{World}
 use Rattle.mw_multi.specs.Players.{Players}
 use Rattle.mw_multi.specs.Files.{world_files}
@@ -15,7 +15,7 @@ use Rattle.mw_multi.specs.Joint.{Joint}
 use Rattle.mw_multi.specs.JointOf.{joint_of}
 use Rattle.mw_multi.specs.Placement.{Put, what_stands}
 use Rattle.mw_multidata.specs.Written.{seed_text}
-use Rattle.mw_fill.specs.Fill.{Outcome, filled, stuck}
+use Rattle.mw_fill.specs.Fill.{filled, stuck}
 use Rattle.mw_fill.specs.Try.{lists_of, placement_of}
 use Rattle.mw_fill.specs.Generated.{IsFirst}
 use Rattle.mw_fill.proofs.Determined.{has_one_outcome}
@@ -29,7 +29,7 @@ use Rattle.mw_seeds.proofs.OneFile.{one_file}
 use Rattle.mw_tables.specs.WorldOf.{world_at}
 use Rattle.mw_tables.specs.PlayersOf.{players_at}
 use Rattle.mw_offline.specs.Tables.{Files, world_limit, max_table_file, max_world_files, WorldsOf, JointIn}
-use Rattle.mw_offline.specs.Generating.{Wanted, generated_line, IsMade, Generates, GeneratedText}
+use Rattle.mw_offline.specs.Generating.{generated_line, IsMade, Generates}
 use Rattle.mw_offline.specs.Laws.{AreTold, GenerateIsOne}
 
 -- ---- files

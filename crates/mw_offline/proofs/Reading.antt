@@ -1,5 +1,6 @@
 -- Files that are read one after another.
-use Rattle.std.proofs.Common.{◌≡◌, ◌⊎◌, inl, inr, ℕ, suc, ◌-◌, List, [], ◌∷◌, length, Ok, sym, subst, ap, ◌∙◌}
+use Rattle.std.proofs.Common.{◌≡◌, ◌⊎◌, inl, inr, ℕ, suc, ◌-◌, List, [], ◌∷◌, length, Ok, Bool, sym, subst, ap, ◌∙◌}
+use Rattle.std.specs.Prelude.{IsTrue}
 use Rattle.mw_edges.specs.Folders.{GivesFile}
 use Rattle.mw_edges.specs.declared.folder.FileRead.TheVariants.{Whole}
 use Rattle.mw_multi.specs.World.{World}
@@ -12,41 +13,43 @@ use Rattle.mw_offline.specs.declared.stop.Stop.{Stop}
 use Rattle.mw_offline.specs.declared.stop.Stop.TheVariants.{Fault, Memory, Refused}
 use Rattle.mw_offline.specs.declared.table_cause.TableCause.{TableCause}
 use Rattle.mw_offline.specs.declared.table_cause.TableCause.TheVariants.{TooLong, File, Joined}
+use Rattle.mw_offline.proofs.Unread.{worlds_before}
 
 -- ---- causes
 
 -- no reading of files stops since tables can't be joined
-worlds_unjoined : (files : Files) (left : ℕ) (names : List (List ℕ)) (refusal : JointRefusal) → AreWorldsStopped files left names (Refused (Joined refusal)) → ⊥
-worlds_unjoined files left [] refusal h = h
-worlds_unjoined files left (name ∷ names) refusal (inl (inl h)) = h
-worlds_unjoined files left (name ∷ names) refusal (inl (inr h)) = h.2
-worlds_unjoined files left (name ∷ names) refusal (inr h) = worlds_unjoined files (left - length h.0) names refusal h.4
+worlds_unjoined : (files : Files) (may_fail : Bool) (left : ℕ) (names : List (List ℕ)) (refusal : JointRefusal) → AreWorldsStopped files may_fail left names (Refused (Joined refusal)) → ⊥
+worlds_unjoined files may_fail left [] refusal h = h
+worlds_unjoined files may_fail left (name ∷ names) refusal (inl (inl h)) = h
+worlds_unjoined files may_fail left (name ∷ names) refusal (inl (inr h)) = h.2
+worlds_unjoined files may_fail left (name ∷ names) refusal (inr h) = worlds_unjoined files may_fail (left - length h.0) names refusal h.4
 
-tables_unjoined : (files : Files) (name : List ℕ) (refusal : JointRefusal) → AreTablesStopped files name (Refused (Joined refusal)) → ⊥
-tables_unjoined files name refusal (inl (inl h)) = h
-tables_unjoined files name refusal (inl (inr h)) = h.2
-tables_unjoined files name refusal (inr h) = worlds_unjoined files _ _ refusal h.4
+tables_unjoined : (files : Files) (may_fail : Bool) (name : List ℕ) (refusal : JointRefusal) → AreTablesStopped files may_fail name (Refused (Joined refusal)) → ⊥
+tables_unjoined files may_fail name refusal (inl (inl h)) = h
+tables_unjoined files may_fail name refusal (inl (inr h)) = h.2
+tables_unjoined files may_fail name refusal (inr h) = worlds_unjoined files may_fail _ _ refusal h.4
 
 -- why files give no tables is why there is no joint
-pub stopped_cause : (files : Files) (name : List ℕ) (stop : Stop TableCause) → AreTablesStopped files name stop → HasTableCause files name stop
-stopped_cause files name Fault h = h
-stopped_cause files name Memory h = tt
-stopped_cause files name (Refused (TooLong file)) h = h
-stopped_cause files name (Refused (File file kind path)) h = h
-stopped_cause files name (Refused (Joined refusal)) h = absurd (tables_unjoined files name refusal h)
+pub stopped_cause : (files : Files) (may_fail : Bool) (name : List ℕ) (stop : Stop TableCause) → AreTablesStopped files may_fail name stop → HasTableCause files may_fail name stop
+stopped_cause files may_fail name Fault h = h
+stopped_cause files may_fail name Memory h = tt
+stopped_cause files may_fail name (Refused (TooLong file)) h = h
+stopped_cause files may_fail name (Refused (File file kind path)) h = h
+stopped_cause files may_fail name (Refused (Joined refusal)) h = absurd (tables_unjoined files may_fail name refusal h)
 
-pub unread_cause : (files : Files) (name : List ℕ) (stop : Stop TableCause) → (stop ≡ Memory) ⊎ AreTablesStopped files name stop → HasTableCause files name stop
-unread_cause files name stop (inl e) = subst (HasTableCause files name) (sym e) tt
-unread_cause files name stop (inr h) = stopped_cause files name stop h
+pub unread_cause : (files : Files) (may_fail : Bool) (name : List ℕ) (stop : Stop TableCause) → (stop ≡ Memory) ⊎ AreTablesStopped files may_fail name stop → HasTableCause files may_fail name stop
+unread_cause files may_fail name stop (inl e) = subst (HasTableCause files may_fail name) (sym e) tt
+unread_cause files may_fail name stop (inr h) = stopped_cause files may_fail name stop h
 
 -- the same of the world files that players name, which were read after their file
-pub worlds_cause : (files later : Files) (name bytes : List ℕ) (players : Players) (names : List (List ℕ)) (stop : Stop TableCause) → ((n : List ℕ) → later n ≡ files n) → names ≡ world_files players
-    → GivesFile (files name) max_table_file (Whole bytes) → PlayersOf bytes (Ok players) → (stop ≡ Memory) ⊎ AreWorldsStopped later max_world_files names stop → HasTableCause files name stop
-worlds_cause files later name bytes players names stop same named file is (inl e) = unread_cause files name stop (inl e)
-worlds_cause files later name bytes players names stop same named file is (inr h) =
+pub worlds_cause : (files later : Files) (may_fail may_later : Bool) (name bytes : List ℕ) (players : Players) (names : List (List ℕ)) (stop : Stop TableCause) → ((n : List ℕ) → later n ≡ files n) → (IsTrue may_later → IsTrue may_fail)
+    → names ≡ world_files players → GivesFile (files name) max_table_file (Whole bytes) → PlayersOf bytes (Ok players) → (stop ≡ Memory) ⊎ AreWorldsStopped later may_later max_world_files names stop → HasTableCause files may_fail name stop
+worlds_cause files later may_fail may_later name bytes players names stop same sound named file is (inl e) = unread_cause files may_fail name stop (inl e)
+worlds_cause files later may_fail may_later name bytes players names stop same sound named file is (inr h) =
+    let before : AreWorldsStopped later may_fail max_world_files names stop = worlds_before may_later may_fail sound later max_world_files names stop h in
     let there : later ≡ files = λ i n. same n i in
-    let of_names : AreWorldsStopped later max_world_files (world_files players) stop = subst (λ ns. AreWorldsStopped later max_world_files ns stop) named h in
-    unread_cause files name stop (inr (inr (bytes, players, file, is, subst (λ (fs : Files). AreWorldsStopped fs max_world_files (world_files players) stop) there of_names)))
+    let of_names : AreWorldsStopped later may_fail max_world_files (world_files players) stop = subst (λ ns. AreWorldsStopped later may_fail max_world_files ns stop) named before in
+    unread_cause files may_fail name stop (inr (inr (bytes, players, file, is, subst (λ (fs : Files). AreWorldsStopped fs may_fail max_world_files (world_files players) stop) there of_names)))
 
 -- ---- as many worlds as files
 

@@ -1,5 +1,5 @@
 -- Why a seed file gives no seed.
-use Rattle.std.proofs.Common.{◌≤◌, ℕ, List, length, Option, Some, None, Err, sym, subst, arith}
+use Rattle.std.proofs.Common.{◌≤◌, ℕ, List, length, Option, Some, None, Err, Bool, false, inl, inr, sym, subst, arith}
 use Rattle.mw_json.specs.Grammar.{Breach}
 use Rattle.mw_multidata.specs.SeedOf.{SeedOf}
 use Rattle.mw_offline.specs.SeedFiles.{IsFile, IsBadFile, IsSeedStopped, max_seed_file}
@@ -17,8 +17,9 @@ bad_file : (told : Option (Option (List ℕ))) (bytes : List ℕ) (breach : Brea
 bad_file told bytes breach f (read, is, refused) = (bytes, f, subst (λ b. SeedOf b (Err breach)) is.0 refused)
 
 -- what the bytes of a file don't give the file doesn't
-pub unread_seed : (told : Option (Option (List ℕ))) (bytes : List ℕ) (stop : Stop SeedCause) → IsFile told bytes → IsSeedStopped (Some (Some bytes)) stop → IsSeedStopped told stop
-unread_seed told bytes Fault f h = tt
-unread_seed told bytes Memory f h = tt
-unread_seed told bytes (Refused (File kind path)) f h = bad_file told bytes record { kind = kind; path = path } f h
-unread_seed told bytes (Refused TooLong) f h = absurd (omega (arith, h, short told bytes f))
+pub unread_seed : (told : Option (Option (List ℕ))) (may_fail : Bool) (bytes : List ℕ) (stop : Stop SeedCause) → IsFile told bytes → IsSeedStopped (Some (Some bytes)) false stop → IsSeedStopped told may_fail stop
+unread_seed told may_fail bytes Fault f (inl none) = cc
+unread_seed told may_fail bytes Fault f (inr never) = cc
+unread_seed told may_fail bytes Memory f h = tt
+unread_seed told may_fail bytes (Refused (File kind path)) f h = bad_file told bytes record { kind = kind; path = path } f h
+unread_seed told may_fail bytes (Refused TooLong) f h = absurd (omega (arith, h, short told bytes f))

@@ -1,5 +1,5 @@
 -- Causes of tables that are a part of a command.
-use Rattle.std.proofs.Common.{◌≡◌, ◌≢◌, ℕ, List, Result, Ok, Err, sym, subst}
+use Rattle.std.proofs.Common.{◌≡◌, ◌≢◌, ℕ, List, Result, Ok, Err, Bool}
 use Rattle.std.specs.Prelude.{IfErr, IsErrAnd}
 use Rattle.mw_multi.specs.World.{World}
 use Rattle.mw_multi.specs.Players.{Players}
@@ -38,12 +38,12 @@ unjoined_exit worlds players answer refusal h is =
 
 module _ (files : Files) (name : List ℕ) (players : Players) (worlds : List World) (t : TablesOf files name players worlds) where
   -- tables that aren't joined give no joint
-  pub unjoined_cause : (stop : Stop TableCause) → AreUnjoined worlds players stop → HasTableCause files name stop
-  unjoined_cause Fault h = absurd h
-  unjoined_cause Memory h = tt
-  unjoined_cause (Refused (TooLong file)) h = absurd h
-  unjoined_cause (Refused (File file kind path)) h = absurd h
-  unjoined_cause (Refused (Joined refusal)) h = (players, worlds, t, h)
+  pub unjoined_cause : (may_fail : Bool) (stop : Stop TableCause) → AreUnjoined worlds players stop → HasTableCause files may_fail name stop
+  unjoined_cause may_fail Fault h = absurd h
+  unjoined_cause may_fail Memory h = tt
+  unjoined_cause may_fail (Refused (TooLong file)) h = absurd h
+  unjoined_cause may_fail (Refused (File file kind path)) h = absurd h
+  unjoined_cause may_fail (Refused (Joined refusal)) h = (players, worlds, t, h)
 
   -- those that are give theirs
   pub joint_in : (joint : Joint) → joint_of worlds players ≡ Ok joint → JointIn files name joint

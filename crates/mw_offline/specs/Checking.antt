@@ -1,8 +1,9 @@
 -- What `check` finds and prints, and how it ends.
-use Rattle.std.specs.Prelude.{◌≡◌, ◌⊎◌, ◌++◌, ◌+◌, ℕ, List, Option, codes, decimal, length, ⊤}
+use Rattle.std.specs.Prelude.{◌≡◌, ◌⊎◌, ◌++◌, ◌+◌, ℕ, List, Option, Bool, codes, decimal, length, ⊤}
 use Rattle.std.specs.Fmt.{signed_decimal}
 use Rattle.std.specs.Io.KnownBytes.{Keeps, Appends}
-use Rattle.mw_edges.specs.Causes.{PutsFront}
+use Rattle.mw_edges.specs.Causes.{PutsFront, Rose}
+use Rattle.mw_edges.specs.Folders.{MayBeUnread}
 use Rattle.mw_model.specs.Seed.{Seed, Spot}
 use Rattle.mw_multi.specs.Joint.{Joint}
 use Rattle.mw_multi.specs.Placement.{Put, what_stands}
@@ -41,10 +42,12 @@ pub record IsRightText (joint : Joint) (seed : Seed) (text : List ℕ) : Type 0 
   pub right : IsRight joint seed puts
   pub played : List (List Spot)
   pub is_playthrough : IsPlaythrough joint puts seed.spheres played
-  pub printed : text ≡ right_line (length seed.spheres) ++ played_lines joint.slots (what_stands puts) 1 played
+  pub printed : text ≡ right_line (length seed.spheres)
+      ++ played_lines joint.slots (what_stands puts) 1 played
 
 -- the same of a joint that is so, and of the seed that a file stands for
-pub record IsTextFor (joined : Joint → Type 0) (file : Option (Option (List ℕ))) (text : List ℕ) : Type 0 where
+pub record IsTextFor (joined : Joint → Type 0) (file : Option (Option (List ℕ))) (text : List ℕ)
+    : Type 0 where
   pub joint : Joint
   pub is_joined : joined joint
   pub seed : Seed
@@ -62,28 +65,39 @@ abbrev pub IsJoinedBut : (Joint → Type 0) → Type 0 → Type 0
 IsJoinedBut joined wrong = (joint : Joint) × joined joint × wrong
 
 -- the seed that the file stands for isn't right for it
-pub record IsWrongFor (joined : Joint → Type 0) (file : Option (Option (List ℕ))) (refusal : SeedRefusal) : Type 0 where
+pub record IsWrongFor (joined : Joint → Type 0) (file : Option (Option (List ℕ)))
+    (refusal : SeedRefusal) : Type 0 where
   pub joint : Joint
   pub is_joined : joined joint
   pub seed : Seed
   pub seed_in : SeedIn file seed
   pub wrong : IsNotRight joint seed refusal
 
--- why there is no text for a joint that is so, where these stops say why there is no such joint: the seed file is read only
--- where there is one, and judged against it only where it stands for a seed
-abbrev pub IsUntextFor : (Joint → Type 0) → (Stop TableCause → Type 0) → Option (Option (List ℕ)) → Stop CheckCause → Type 0
-IsUntextFor joined unjoined file Fault = unjoined Fault ⊎ IsJoinedBut joined ⊤
-IsUntextFor joined unjoined file Memory = ⊤
-IsUntextFor joined unjoined file (Refused (Tables cause)) = unjoined (Refused cause)
-IsUntextFor joined unjoined file (Refused (SeedFile cause)) = IsJoinedBut joined (IsSeedStopped file (Refused cause))
-IsUntextFor joined unjoined file (Refused (OtherTables slot location)) = IsWrongFor joined file (found.OtherTables slot location)
-IsUntextFor joined unjoined file (Refused (GoalMissed slot)) = IsWrongFor joined file (found.GoalMissed slot)
-IsUntextFor joined unjoined file (Refused (Wrong sphere place)) = IsWrongFor joined file (found.Wrong sphere place)
-IsUntextFor joined unjoined file (Refused (Missing sphere place)) = IsWrongFor joined file (found.Missing sphere place)
+-- why there is no text for a joint that is so, where these stops say why there is no such joint:
+-- the seed file is read only where there is one, and judged against it only where it stands for a
+-- seed
+abbrev pub IsUntextFor : (Joint → Type 0) → (Stop TableCause → Type 0) → Option (Option (List ℕ))
+    → Bool → Stop CheckCause → Type 0
+IsUntextFor joined unjoined file may_fail Fault =
+    unjoined Fault ⊎ IsJoinedBut joined (MayBeUnread file may_fail)
+IsUntextFor joined unjoined file may_fail Memory = ⊤
+IsUntextFor joined unjoined file may_fail (Refused (Tables cause)) = unjoined (Refused cause)
+IsUntextFor joined unjoined file may_fail (Refused (SeedFile cause)) =
+    IsJoinedBut joined (IsSeedStopped file may_fail (Refused cause))
+IsUntextFor joined unjoined file may_fail (Refused (OtherTables slot location)) =
+    IsWrongFor joined file (found.OtherTables slot location)
+IsUntextFor joined unjoined file may_fail (Refused (GoalMissed slot)) =
+    IsWrongFor joined file (found.GoalMissed slot)
+IsUntextFor joined unjoined file may_fail (Refused (Wrong sphere place)) =
+    IsWrongFor joined file (found.Wrong sphere place)
+IsUntextFor joined unjoined file may_fail (Refused (Missing sphere place)) =
+    IsWrongFor joined file (found.Missing sphere place)
 
 -- the same of the tables that a players file names, and a seed file
-abbrev pub HasCheckCause : Files → Asked → Stop CheckCause → Type 0
-HasCheckCause files asked stop = IsUntextFor (JointIn files asked.players) (HasTableCause files asked.players) (files asked.multidata) stop
+abbrev pub HasCheckCause : Files → Bool → Asked → Stop CheckCause → Type 0
+HasCheckCause files may_fail asked stop =
+    IsUntextFor (JointIn files asked.players) (HasTableCause files may_fail asked.players)
+    (files asked.multidata) may_fail stop
 
 -- what isn't right with a seed file, as a stop
 abbrev pub wrong_stop : SeedRefusal → Stop CheckCause
@@ -105,15 +119,21 @@ check_status (Missing sphere place) = 1
 
 -- a location in a sphere, which counts from 0
 abbrev pub place_text : ℕ → Spot → List ℕ
-place_text sphere place = decimal (sphere + 1) ++ (codes ": slot " ++ (decimal place.slot ++ (codes " location " ++ (decimal place.index ++ codes "\n"))))
+place_text sphere place =
+    decimal (sphere + 1)
+    ++ (codes ": slot "
+    ++ (decimal place.slot ++ (codes " location " ++ (decimal place.index ++ codes "\n"))))
 
 abbrev pub check_line : CheckCause → List ℕ
 check_line (Tables cause) = table_line cause
 check_line (SeedFile cause) = seed_line cause
-check_line (OtherTables slot location) = codes "check failed: other tables at slot " ++ (decimal slot ++ (codes " location " ++ (signed_decimal location ++ codes "\n")))
+check_line (OtherTables slot location) =
+    codes "check failed: other tables at slot "
+    ++ (decimal slot ++ (codes " location " ++ (signed_decimal location ++ codes "\n")))
 check_line (GoalMissed slot) = codes "check failed: goal of slot " ++ decimal slot ++ codes "\n"
 check_line (Wrong sphere place) = codes "check failed: wrong in sphere " ++ place_text sphere place
-check_line (Missing sphere place) = codes "check failed: missing in sphere " ++ place_text sphere place
+check_line (Missing sphere place) =
+    codes "check failed: missing in sphere " ++ place_text sphere place
 
 -- ---- ends
 
@@ -125,10 +145,12 @@ pub record PrintsChecked (files : Files) (asked : Asked) (old new : Option (List
 
 -- a front of its text was put
 abbrev pub PutsFrontOfChecked : Files → Asked → Option (List ℕ) → Option (List ℕ) → Type 0
-PutsFrontOfChecked files asked old new = (text : List ℕ) × CheckedText files asked text × PutsFront old new text
+PutsFrontOfChecked files asked old new =
+    (text : List ℕ) × CheckedText files asked text × PutsFront old new text
 
--- how `check` ended with a status
-abbrev pub CheckEnds : ℕ → Files → Asked → Option (List ℕ) → Option (List ℕ) → Told → Type 0
-CheckEnds status files asked old new told =
-    Ends check_status check_line (HasCheckCause files asked) (Keeps old new) (PutsFrontOfChecked files asked old new)
-    (PrintsChecked files asked old new) status told
+-- how `check` ended with a status, with what the out sink held and how often it failed
+abbrev pub CheckEnds : ℕ → Files → Bool → Asked → Told → Told → Type 0
+CheckEnds status files may_fail asked out told =
+    Ends check_status check_line (HasCheckCause files may_fail asked) (Keeps out.old out.new)
+    (PutsFrontOfChecked files asked out.old out.new) (Rose out.before out.now)
+    (PrintsChecked files asked out.old out.new) status told

@@ -1,7 +1,8 @@
 -- How `drive` ends.
-use Rattle.std.specs.Prelude.{◌≡◌, ◌<◌, ◌≤◌, ◌⊎◌, ◌++◌, ℕ, List, length, Option, Ok, Err, codes, decimal, ⊤}
+use Rattle.std.specs.Prelude.{◌≡◌, ◌<◌, ◌≤◌, ◌⊎◌, ◌++◌, ℕ, List, length, Option, Ok, Err, Bool, codes, decimal, ⊤}
 use Rattle.std.specs.Io.KnownBytes.{Consumes, IsAtEnd, Keeps, Appends}
-use Rattle.mw_edges.specs.Causes.{PutsFront}
+use Rattle.mw_edges.specs.Causes.{PutsFront, Rose}
+use Rattle.mw_edges.specs.Folders.{MayBeUnread}
 use Rattle.mw_model.specs.Seed.{Seed}
 use Rattle.mw_protocol.specs.Room.{empty_room}
 use Rattle.mw_multidata.specs.SeedOf.{SeedOf}
@@ -92,23 +93,29 @@ script_stop (error.Refused line) = Refused (Script line)
 script_stop (error.NotBuilt line) = Refused (LineNotBuilt line)
 
 -- why a seed file gives no seed of one team
-abbrev pub IsSeedRefused : Option (Option (List ℕ)) → Stop DriveCause → Type 0
-IsSeedRefused file Fault = ⊤
-IsSeedRefused file Memory = ⊤
-IsSeedRefused file (Refused (SeedFile cause)) = IsSeedStopped file (Refused cause)
-IsSeedRefused file (Refused SeedFileNotBuilt) = HasManyTeams file
-IsSeedRefused file (Refused (Script line)) = ⊥
-IsSeedRefused file (Refused (LineNotBuilt line)) = ⊥
+abbrev pub IsSeedRefused : Option (Option (List ℕ)) → Bool → Stop DriveCause → Type 0
+IsSeedRefused file may_fail Fault = MayBeUnread file may_fail
+IsSeedRefused file may_fail Memory = ⊤
+IsSeedRefused file may_fail (Refused (SeedFile cause)) = IsSeedStopped file may_fail (Refused cause)
+IsSeedRefused file may_fail (Refused SeedFileNotBuilt) = HasManyTeams file
+IsSeedRefused file may_fail (Refused (Script line)) = ⊥
+IsSeedRefused file may_fail (Refused (LineNotBuilt line)) = ⊥
 
--- why nothing is run, as far as what was read says, the source being this one before and after, and telling what is left so:
--- where the seed file gives no seed it isn't touched
-abbrev pub HasDriveCause : {S : Type 0} → (S → Option (List ℕ)) → Option (Option (List ℕ)) → S → S → Stop DriveCause → Type 0
-HasDriveCause left file before after Fault = (after ≡ before) ⊎ ((seed : Seed) × HasSeed file seed)
-HasDriveCause left file before after Memory = ⊤
-HasDriveCause left file before after (Refused (SeedFile cause)) = IsSeedStopped file (Refused cause) × (after ≡ before)
-HasDriveCause left file before after (Refused SeedFileNotBuilt) = HasManyTeams file × (after ≡ before)
-HasDriveCause left file before after (Refused (Script line)) = IsBadScript file (left before) (left after) (refused line)
-HasDriveCause left file before after (Refused (LineNotBuilt line)) = IsBadScript file (left before) (left after) (not_built line)
+-- why nothing is run, the source being this one before and after, and telling what is left so: where
+-- the seed file gives no seed it isn't touched
+abbrev pub HasDriveCause : {S : Type 0} → (S → Option (List ℕ)) → Option (Option (List ℕ)) → Bool
+    → S → S → Stop DriveCause → Type 0
+HasDriveCause left file may_fail before after Fault =
+    (MayBeUnread file may_fail × (after ≡ before)) ⊎ ((seed : Seed) × HasSeed file seed)
+HasDriveCause left file may_fail before after Memory = ⊤
+HasDriveCause left file may_fail before after (Refused (SeedFile cause)) =
+    IsSeedStopped file may_fail (Refused cause) × (after ≡ before)
+HasDriveCause left file may_fail before after (Refused SeedFileNotBuilt) =
+    HasManyTeams file × (after ≡ before)
+HasDriveCause left file may_fail before after (Refused (Script line)) =
+    IsBadScript file (left before) (left after) (refused line)
+HasDriveCause left file may_fail before after (Refused (LineNotBuilt line)) =
+    IsBadScript file (left before) (left after) (not_built line)
 
 abbrev pub drive_status : DriveCause → ℕ
 drive_status cause = 7
@@ -133,8 +140,11 @@ pub record PutsSome (file : Option (Option (List ℕ))) (before after old new : 
   pub read : TextRead file before after text
   pub put : PutsFront old new text
 
--- how `drive` ended with a status, the source being this one before and after, and telling what is left so
-abbrev pub DriveEnds : {S : Type 0} → (S → Option (List ℕ)) → ℕ → Option (Option (List ℕ)) → S → S → Option (List ℕ) → Option (List ℕ) → Told → Type 0
-DriveEnds left status file before after old new told =
-    Ends drive_status drive_line (HasDriveCause left file before after) (Keeps old new)
-    (PutsSome file (left before) (left after) old new) (Drives file (left before) (left after) old new) status told
+-- how `drive` ended with a status, the source being this one before and after, and telling what is
+-- left so, with what the out sink held and how often it failed
+abbrev pub DriveEnds : {S : Type 0} → (S → Option (List ℕ)) → ℕ → Option (Option (List ℕ)) → Bool
+    → S → S → Told → Told → Type 0
+DriveEnds left status file may_fail before after out told =
+    Ends drive_status drive_line (HasDriveCause left file may_fail before after)
+    (Keeps out.old out.new) (PutsSome file (left before) (left after) out.old out.new)
+    (Rose out.before out.now) (Drives file (left before) (left after) out.old out.new) status told

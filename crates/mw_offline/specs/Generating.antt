@@ -1,5 +1,5 @@
 -- What `generate` writes and prints, and how it ends.
-use Rattle.std.specs.Prelude.{◌≡◌, ◌≢◌, ◌⊎◌, ◌++◌, ℕ, List, Option, codes, decimal, length, ⊤}
+use Rattle.std.specs.Prelude.{◌≡◌, ◌≢◌, ◌⊎◌, ◌++◌, ℕ, List, Option, Bool, codes, decimal, length, ⊤}
 use Rattle.std.specs.Io.KnownBytes.{Keeps, Appends}
 use Rattle.mw_edges.specs.Causes.{PutsFront, Rose}
 use Rattle.mw_edges.specs.Folders.{IsWritten}
@@ -25,7 +25,8 @@ use Rattle.mw_offline.specs.declared.generate_cause.GenerateCause.{GenerateCause
 use Rattle.mw_offline.specs.declared.generate_cause.GenerateCause.TheVariants.{Tables, NotBeatable, TooManyItems, Exhausted}
 use Rattle.mw_offline.specs.declared.generate_command.GenerateWords.{GenerateWords}
 
--- the players file, the seed file that is to be written, the seed's number, and how many tries there are
+-- the players file, the seed file that is to be written, the seed's number, and how many tries
+-- there are
 pub record Wanted : Type 0 where
   pub players : List ℕ
   pub out_name : List ℕ
@@ -34,27 +35,43 @@ pub record Wanted : Type 0 where
 
 -- the same of the words of `generate`
 abbrev pub wanted_in : GenerateWords → Wanted
-wanted_in words = record { players = words.players; out_name = words.out_name; seed = words.seed; tries = words.tries }
+wanted_in words = record {
+  players = words.players;
+  out_name = words.out_name;
+  seed = words.seed;
+  tries = words.tries;
+}
 
--- what a folder's files were before and after, and how often it had refused a write
+-- what a folder's files were before and after, whether its reads might fail, and how often it had
+-- refused a write
 pub record Wrote : Type 0 where
   pub before : Files
   pub after : Files
+  pub may_fail : Bool
   pub refused_before : ℕ
   pub refused_after : ℕ
 
 -- the same of a folder, before and after, which holds and counts so
-abbrev pub wrote_by : {F : Type 0} → (F → Files) → (F → ℕ) → F → F → Wrote
-wrote_by holds refusals old new = record { before = holds old; after = holds new; refused_before = refusals old; refused_after = refusals new }
+abbrev pub wrote_by : {F : Type 0} → (F → Files) → (F → Bool) → (F → ℕ) → F → F → Wrote
+wrote_by holds may_fail refusals old new = record {
+  before = holds old;
+  after = holds new;
+  may_fail = may_fail old;
+  refused_before = refusals old;
+  refused_after = refusals new;
+}
 
 -- ---- the file and the text
 
 abbrev pub generated_line : ℕ → ℕ → ℕ → List ℕ
-generated_line seed stream spheres = codes "seed " ++ decimal seed ++ codes " try " ++ decimal stream ++ codes " spheres " ++ decimal spheres ++ codes "\n"
+generated_line seed stream spheres =
+    codes "seed " ++ decimal seed ++ codes " try " ++ decimal stream ++ codes " spheres "
+    ++ decimal spheres ++ codes "\n"
 
--- the placement can be beaten, as its spheres show, which the file has; the text has its playthrough, of which no entry can
--- be left out
-pub record IsMade (joint : Joint) (seed stream : ℕ) (placement : List Put) (bytes text : List ℕ) : Type 0 where
+-- the placement can be beaten, as its spheres show, which the file has; the text has its
+-- playthrough, of which no entry can be left out
+pub record IsMade (joint : Joint) (seed stream : ℕ) (placement : List Put) (bytes text : List ℕ)
+    : Type 0 where
   pub kept : IsJoint joint
   pub beatable : IsBeatable joint (placement_table joint placement)
   pub spheres : List (List Spot)
@@ -66,9 +83,11 @@ pub record IsMade (joint : Joint) (seed stream : ℕ) (placement : List Put) (by
   pub file : Seed
   pub is_file : SeedFile joint seed placement spheres file
   pub written : bytes ≡ seed_text file
-  pub printed : text ≡ generated_line seed stream (length spheres) ++ played_lines joint.slots (what_stands placement) 1 played
+  pub printed : text ≡ generated_line seed stream (length spheres)
+      ++ played_lines joint.slots (what_stands placement) 1 played
 
--- each goal holds with everything in hand, there is room for all copies, and it is made of the first try's placement
+-- each goal holds with everything in hand, there is room for all copies, and it is made of the
+-- first try's placement
 pub record Generates (joint : Joint) (seed tries : ℕ) (bytes text : List ℕ) : Type 0 where
   pub can : CanBeTried joint
   pub stream : ℕ
@@ -77,7 +96,8 @@ pub record Generates (joint : Joint) (seed tries : ℕ) (bytes text : List ℕ) 
   pub made : IsMade joint seed stream placement bytes text
 
 -- the same of a joint that is so
-pub record IsTextFor (joined : Joint → Type 0) (wanted : Wanted) (bytes text : List ℕ) : Type 0 where
+pub record IsTextFor (joined : Joint → Type 0) (wanted : Wanted) (bytes text : List ℕ)
+    : Type 0 where
   pub joint : Joint
   pub is_joined : joined joint
   pub made : Generates joint wanted.seed wanted.tries bytes text
@@ -89,23 +109,31 @@ GeneratedText files wanted bytes text = IsTextFor (JointIn files wanted.players)
 -- ---- why there is none
 
 -- a joint that is so is refused
-pub record IsRefusedFor (joined : Joint → Type 0) (wanted : Wanted) (refusal : GenerateError) : Type 0 where
+pub record IsRefusedFor (joined : Joint → Type 0) (wanted : Wanted) (refusal : GenerateError)
+    : Type 0 where
   pub joint : Joint
   pub is_joined : joined joint
   pub is : IsRefused joint wanted.seed wanted.tries refusal
 
--- why there is no seed file for a joint that is so, where these stops say why there is no such joint
-abbrev pub IsUntextFor : (Joint → Type 0) → (Stop TableCause → Type 0) → Wanted → Stop GenerateCause → Type 0
+-- why there is no seed file for a joint that is so, where these stops say why there is no such
+-- joint
+abbrev pub IsUntextFor : (Joint → Type 0) → (Stop TableCause → Type 0) → Wanted
+    → Stop GenerateCause → Type 0
 IsUntextFor joined unjoined wanted Fault = unjoined Fault
 IsUntextFor joined unjoined wanted Memory = ⊤
 IsUntextFor joined unjoined wanted (Refused (Tables cause)) = unjoined (Refused cause)
-IsUntextFor joined unjoined wanted (Refused (NotBeatable slot)) = IsRefusedFor joined wanted (refused.NotBeatable slot)
-IsUntextFor joined unjoined wanted (Refused (TooManyItems have room)) = IsRefusedFor joined wanted (refused.TooManyItems have room)
-IsUntextFor joined unjoined wanted (Refused (Exhausted tries)) = (tries ≡ wanted.tries) × IsRefusedFor joined wanted refused.Exhausted
+IsUntextFor joined unjoined wanted (Refused (NotBeatable slot)) =
+    IsRefusedFor joined wanted (refused.NotBeatable slot)
+IsUntextFor joined unjoined wanted (Refused (TooManyItems have room)) =
+    IsRefusedFor joined wanted (refused.TooManyItems have room)
+IsUntextFor joined unjoined wanted (Refused (Exhausted tries)) =
+    (tries ≡ wanted.tries) × IsRefusedFor joined wanted refused.Exhausted
 
 -- the same of the tables that a players file names
-abbrev pub HasGenerateCause : Files → Wanted → Stop GenerateCause → Type 0
-HasGenerateCause files wanted stop = IsUntextFor (JointIn files wanted.players) (HasTableCause files wanted.players) wanted stop
+abbrev pub HasGenerateCause : Files → Bool → Wanted → Stop GenerateCause → Type 0
+HasGenerateCause files may_fail wanted stop =
+    IsUntextFor (JointIn files wanted.players) (HasTableCause files may_fail wanted.players) wanted
+    stop
 
 -- a refusal of so many tries as a stop
 abbrev pub generate_stop : ℕ → GenerateError → Stop GenerateCause
@@ -125,7 +153,8 @@ generate_status (Exhausted tries) = 4
 abbrev pub generate_line : GenerateCause → List ℕ
 generate_line (Tables cause) = table_line cause
 generate_line (NotBeatable slot) = codes "not beatable: slot " ++ decimal slot ++ codes "\n"
-generate_line (TooManyItems have room) = codes "too many items: " ++ decimal have ++ codes " for " ++ decimal room ++ codes " places\n"
+generate_line (TooManyItems have room) =
+    codes "too many items: " ++ decimal have ++ codes " for " ++ decimal room ++ codes " places\n"
 generate_line (Exhausted tries) = codes "exhausted after " ++ decimal tries ++ codes " tries\n"
 
 -- ---- ends
@@ -146,13 +175,15 @@ pub record Untouched (wrote : Wrote) (old new : Option (List ℕ)) : Type 0 wher
 abbrev pub HasFile : Wrote → List ℕ → List ℕ → Type 0
 HasFile wrote name bytes = IsWritten (wrote.before name) (wrote.after name) bytes
 
--- the due seed file is written and a front of the text is put; or the write was refused, and nothing is put
+-- the due seed file is written and a front of the text is put; or the write was refused, and
+-- nothing is put
 pub record WritesSome (wrote : Wrote) (wanted : Wanted) (old new : Option (List ℕ)) : Type 0 where
   pub bytes : List ℕ
   pub text : List ℕ
   pub generated : GeneratedText wrote.before wanted bytes text
   pub others : SameBut wanted.out_name wrote.before wrote.after
-  pub left : (HasFile wrote wanted.out_name bytes × PutsFront old new text) ⊎ (Rose wrote.refused_before wrote.refused_after × Keeps old new)
+  pub left : (HasFile wrote wanted.out_name bytes × PutsFront old new text)
+      ⊎ (Rose wrote.refused_before wrote.refused_after × Keeps old new)
 
 -- the seed file was written, and just the text was put
 pub record IsGenerated (wrote : Wrote) (wanted : Wanted) (old new : Option (List ℕ)) : Type 0 where
@@ -163,8 +194,13 @@ pub record IsGenerated (wrote : Wrote) (wanted : Wanted) (old new : Option (List
   pub written : HasFile wrote wanted.out_name bytes
   pub put : Appends old new text
 
--- how `generate` ended with a status
-abbrev pub GenerateEnds : ℕ → Wrote → Wanted → Option (List ℕ) → Option (List ℕ) → Told → Type 0
-GenerateEnds status wrote wanted old new told =
-    Ends generate_status generate_line (HasGenerateCause wrote.before wanted) (Untouched wrote old new) (WritesSome wrote wanted old new)
-    (IsGenerated wrote wanted old new) status told
+-- the out sink failed, or the folder refused the write
+abbrev pub HasFailed : Wrote → Told → Type 0
+HasFailed wrote out = Rose out.before out.now ⊎ Rose wrote.refused_before wrote.refused_after
+
+-- how `generate` ended with a status, with what the out sink held and how often it failed
+abbrev pub GenerateEnds : ℕ → Wrote → Wanted → Told → Told → Type 0
+GenerateEnds status wrote wanted out told =
+    Ends generate_status generate_line (HasGenerateCause wrote.before wrote.may_fail wanted)
+    (Untouched wrote out.old out.new) (WritesSome wrote wanted out.old out.new)
+    (HasFailed wrote out) (IsGenerated wrote wanted out.old out.new) status told

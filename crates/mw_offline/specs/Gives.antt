@@ -21,7 +21,8 @@ IsAdded None before after = ⊥
 IsAdded (Some cs) before after = after ≡ before ++ cs
 
 -- the commands of a script, or its refusal, unless memory ran out
-abbrev pub GivesScript : Result (List code.Command) ScriptError → Result (List Command) ScriptRefusal → Type 0
+abbrev pub GivesScript : Result (List code.Command) ScriptError
+    → Result (List Command) ScriptRefusal → Type 0
 GivesScript (Ok commands) outcome = outcome ≡ Ok (map command_view commands)
 GivesScript (Err Memory) outcome = Unit {0}
 GivesScript (Err (Refused line)) outcome = outcome ≡ Err (refused line)

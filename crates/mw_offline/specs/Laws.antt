@@ -7,7 +7,10 @@ use Rattle.mw_offline.specs.Generating.{Wanted, GeneratedText}
 abbrev pub AreTold : Files → Type 0
 AreTold files = (name : List ℕ) → (told : Option (List ℕ)) × (files name ≡ Some told)
 
--- of the same files, the same number and as many tries, `generate` makes one seed file and prints one text
+-- of the same files, the same number and as many tries, `generate` makes one seed file and prints
+-- one text
 abbrev pub GenerateIsOne : Type 0
-GenerateIsOne = (files : Files) (wanted : Wanted) (bytes text others other : List ℕ) → AreTold files
-    → GeneratedText files wanted bytes text → GeneratedText files wanted others other → (bytes ≡ others) × (text ≡ other)
+GenerateIsOne =
+    (files : Files) (wanted : Wanted) (bytes text others other : List ℕ) → AreTold files
+    → GeneratedText files wanted bytes text → GeneratedText files wanted others other
+    → (bytes ≡ others) × (text ≡ other)

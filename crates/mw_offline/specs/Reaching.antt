@@ -1,7 +1,7 @@
 -- What `reach` prints, and how it ends.
-use Rattle.std.specs.Prelude.{◌≡◌, ◌++◌, ℕ, zero, suc, ◌+◌, List, [], ◌∷◌, Option, codes, decimal, length}
+use Rattle.std.specs.Prelude.{◌≡◌, ◌++◌, ℕ, zero, suc, ◌+◌, List, [], ◌∷◌, Option, Bool, codes, decimal, length}
 use Rattle.std.specs.Io.KnownBytes.{Keeps, Appends}
-use Rattle.mw_edges.specs.Causes.{PutsFront}
+use Rattle.mw_edges.specs.Causes.{PutsFront, Rose}
 use Rattle.mw_rules.specs.Holds.{Places, bag_of}
 use Rattle.mw_multi.specs.Joint.{Slot, Joint}
 use Rattle.mw_multi.specs.Steps.{steps_of, location_place}
@@ -35,16 +35,20 @@ location_count s = length s.world.locations
 abbrev pub reached_in : Slot → Places → ℕ
 reached_in s w = reached_from w (location_place s 0) (location_count s)
 
--- a slot's line: its number, its name in the first team, and how many of its locations are reached, of all of them
+-- a slot's line: its number, its name in the first team, and how many of its locations are reached,
+-- of all of them
 abbrev pub count_line : ℕ → Slot → ℕ → ℕ → List ℕ
 count_line number s start all =
-    decimal number ++ codes " " ++ first_name s ++ codes " start " ++ decimal start ++ codes " of " ++ decimal (location_count s)
+    decimal number ++ codes " " ++ first_name s ++ codes " start " ++ decimal start ++ codes " of "
+    ++ decimal (location_count s)
     ++ codes " all " ++ decimal all ++ codes " of " ++ decimal (location_count s) ++ codes "\n"
 
 -- a line for each slot, the first of which has this number
 abbrev pub slot_lines : ℕ → List Slot → Places → Places → List ℕ
 slot_lines number [] start all = []
-slot_lines number (s ∷ ss) start all = count_line number s (reached_in s start) (reached_in s all) ++ slot_lines (number + 1) ss start all
+slot_lines number (s ∷ ss) start all =
+    count_line number s (reached_in s start) (reached_in s all)
+    ++ slot_lines (number + 1) ss start all
 
 -- what each slot reaches with what all begin with, and with all that the pools have too
 pub record ReachLines (joint : Joint) (text : List ℕ) : Type 0 where
@@ -70,10 +74,12 @@ pub record Prints (files : Files) (name : List ℕ) (old new : Option (List ℕ)
 
 -- a front of its text was put
 abbrev pub PutsFrontOfReach : Files → List ℕ → Option (List ℕ) → Option (List ℕ) → Type 0
-PutsFrontOfReach files name old new = (text : List ℕ) × ReachText files name text × PutsFront old new text
+PutsFrontOfReach files name old new =
+    (text : List ℕ) × ReachText files name text × PutsFront old new text
 
--- how `reach` ended with a status
-abbrev pub ReachEnds : ℕ → Files → List ℕ → Option (List ℕ) → Option (List ℕ) → Told → Type 0
-ReachEnds status files name old new told =
-    Ends table_status table_line (HasTableCause files name) (Keeps old new) (PutsFrontOfReach files name old new)
-    (Prints files name old new) status told
+-- how `reach` ended with a status, with what the out sink held and how often it failed
+abbrev pub ReachEnds : ℕ → Files → Bool → List ℕ → Told → Told → Type 0
+ReachEnds status files may_fail name out told =
+    Ends table_status table_line (HasTableCause files may_fail name) (Keeps out.old out.new)
+    (PutsFrontOfReach files name out.old out.new) (Rose out.before out.now)
+    (Prints files name out.old out.new) status told

@@ -1,6 +1,6 @@
 -- Seed files that are read.
-use Rattle.std.specs.Prelude.{◌++◌, ℕ, List, Option, Ok, Err, codes, ⊤}
-use Rattle.mw_edges.specs.Folders.{GivesFile}
+use Rattle.std.specs.Prelude.{◌++◌, ℕ, List, Option, Ok, Err, Bool, codes, ⊤}
+use Rattle.mw_edges.specs.Folders.{GivesFile, MayBeUnread}
 use Rattle.mw_edges.specs.declared.folder.FileRead.TheVariants.{Whole, Longer}
 use Rattle.mw_json.specs.Grammar.{Breach}
 use Rattle.mw_json.specs.Paths.{kind_text, path_text}
@@ -33,12 +33,13 @@ pub record SeedIn (file : Option (Option (List ℕ))) (seed : Seed) : Type 0 whe
   pub is_file : IsFile file bytes
   pub is : SeedOf bytes (Ok seed)
 
--- why a seed file gives no seed, as far as what was read says
-abbrev pub IsSeedStopped : Option (Option (List ℕ)) → Stop SeedCause → Type 0
-IsSeedStopped file Fault = ⊤
-IsSeedStopped file Memory = ⊤
-IsSeedStopped file (Refused (File kind path)) = IsBadFile file record { kind = kind; path = path }
-IsSeedStopped file (Refused TooLong) = IsLongFile file
+-- why a seed file gives no seed, of a folder that may fail so
+abbrev pub IsSeedStopped : Option (Option (List ℕ)) → Bool → Stop SeedCause → Type 0
+IsSeedStopped file may_fail Fault = MayBeUnread file may_fail
+IsSeedStopped file may_fail Memory = ⊤
+IsSeedStopped file may_fail (Refused (File kind path)) =
+    IsBadFile file record { kind = kind; path = path }
+IsSeedStopped file may_fail (Refused TooLong) = IsLongFile file
 
 -- ---- statuses and lines
 
@@ -46,5 +47,6 @@ abbrev pub seed_status : SeedCause → ℕ
 seed_status cause = 7
 
 abbrev pub seed_line : SeedCause → List ℕ
-seed_line (File kind path) = codes "multidata refused: " ++ kind_text kind ++ codes " " ++ path_text path ++ codes "\n"
+seed_line (File kind path) =
+    codes "multidata refused: " ++ kind_text kind ++ codes " " ++ path_text path ++ codes "\n"
 seed_line TooLong = codes "multidata refused: TooLong /\n"

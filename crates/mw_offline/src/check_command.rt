@@ -75,7 +75,8 @@ fn text_for<F: Folder>(
         (F.holds folder.old name.now) (string_bytes t)) }
     ensures err { IfErr result
         (IsUntextFor (λ joint. joint_of tables.now.worlds tables.now.players ≡ Ok joint)
-        (AreUnjoined tables.now.worlds tables.now.players) (F.holds folder.old name.now)) }
+        (AreUnjoined tables.now.worlds tables.now.players) (F.holds folder.old name.now)
+        (F.may_fail folder.old)) }
     ensures fault { result ≡ Err Stop.Fault → Rose (F.faults folder.old) (F.faults folder.new) }
     ensures later { F.faults folder.old ≤ F.faults folder.new }
     ensures same { (n : List ℕ) → F.holds folder.new n ≡ F.holds folder.old n }
@@ -87,7 +88,7 @@ fn text_for<F: Folder>(
 }
 
 /// Reads the tables and the seed file, and gives the text.
-#[tactic(auto, using(crate::proofs::Checked::checked_text, crate::proofs::Checked::check_cause, crate::proofs::Checked::table_cause))]
+#[tactic(auto, using(crate::proofs::Checked::checked_text))]
 fn prepare<F: Folder>(
     alloc: Global,
     words: &CheckWords,
@@ -95,7 +96,8 @@ fn prepare<F: Folder>(
 ) -> Result<String, Stop<CheckCause>>
     ensures ok { IfOk result
         (λ t. CheckedText (F.holds folder.old) (asked_in words.now) (string_bytes t)) }
-    ensures err { IfErr result (HasCheckCause (F.holds folder.old) (asked_in words.now)) }
+    ensures err { IfErr result
+        (HasCheckCause (F.holds folder.old) (F.may_fail folder.old) (asked_in words.now)) }
     ensures fault { result ≡ Err Stop.Fault → Rose (F.faults folder.old) (F.faults folder.new) }
     ensures later { F.faults folder.old ≤ F.faults folder.new }
     ensures same { (n : List ℕ) → F.holds folder.new n ≡ F.holds folder.old n }
@@ -112,11 +114,14 @@ fn print_checked<F: Folder, O: Sink>(
     out: &mut O,
 ) -> Result<(), Stop<CheckCause>>
     ensures done { OnOk result
-        (PrintsChecked (F.holds folder.old) (asked_in words.now) (O.held out.old) (O.held out.new)) }
-    ensures left { IfErr result (HasLeft (HasCheckCause (F.holds folder.old) (asked_in words.now))
+        (PrintsChecked (F.holds folder.old) (asked_in words.now) (O.held out.old)
+        (O.held out.new)) }
+    ensures left { IfErr result
+        (HasLeft (HasCheckCause (F.holds folder.old) (F.may_fail folder.old) (asked_in words.now))
         (Keeps (O.held out.old) (O.held out.new))
         (PutsFrontOfChecked (F.holds folder.old) (asked_in words.now) (O.held out.old)
-        (O.held out.new))) }
+        (O.held out.new))
+        (Rose (O.faults out.old) (O.faults out.new))) }
     ensures fault { result ≡ Err Stop.Fault
         → Rose (F.faults folder.old) (F.faults folder.new)
         ⊎ Rose (O.faults out.old) (O.faults out.new) }
@@ -126,13 +131,15 @@ fn print_checked<F: Folder, O: Sink>(
     put_text(out, text.as_str())
 }
 
-/// Checks that a seed file is of the tables, that its placement reaches each goal, and that its spheres are those of the
-/// placement, and prints how many spheres there are and the playthrough.
+/// Checks that a seed file is of the tables, that its placement reaches each goal, and that its
+/// spheres are those of the placement, and prints how many spheres there are and the playthrough.
 ///
-/// The status is 0 where all is right; 1 where the file's locations, items or flags aren't those of the tables, a goal isn't
-/// reached or a sphere is wrong; 3 where a players file, a world file or their joint is refused; 5 where the folder or the
-/// out sink failed; 6 where memory ran out; 7 where the seed file is refused, which is read only where the tables are joined.
-/// With a status other than 0 the error sink gets that status's line, or a front of it where it refuses. No file changes.
+/// The status is 0 where all is right; 1 where the file's locations, items or flags aren't those of
+/// the tables, a goal isn't reached or a sphere is wrong; 3 where a players file, a world file or
+/// their joint is refused; 5 where the folder or the out sink failed; 6 where memory ran out; 7
+/// where the seed file is refused, which is read only where the tables are joined. With a status
+/// other than 0 the error sink gets that status's line, or a front of it where it refuses. No file
+/// changes.
 pub fn cmd_check<F: Folder, O: Sink, E: Sink>(
     alloc: Global,
     words: &CheckWords,
@@ -140,8 +147,8 @@ pub fn cmd_check<F: Folder, O: Sink, E: Sink>(
     out: &mut O,
     err: &mut E,
 ) -> u8
-    ensures ends { CheckEnds result (F.holds folder.old) (asked_in words.now) (O.held out.old)
-        (O.held out.new)
+    ensures ends { CheckEnds result (F.holds folder.old) (F.may_fail folder.old)
+        (asked_in words.now) (told_by O.held O.faults out.old out.new)
         (told_by E.held E.refusals err.old err.new) }
     ensures fault { result ≡ 5
         → Rose (F.faults folder.old) (F.faults folder.new)

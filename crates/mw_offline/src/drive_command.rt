@@ -43,7 +43,8 @@ fn read_team<F: Folder>(
     name: &Text,
 ) -> Result<Multidata, Stop<DriveCause>>
     ensures ok { IfOk result (HasSeed (F.holds folder.old name.now)) }
-    ensures err { IfErr result (IsSeedRefused (F.holds folder.old name.now)) }
+    ensures err { IfErr result
+        (IsSeedRefused (F.holds folder.old name.now) (F.may_fail folder.old)) }
     ensures fault { result ≡ Err Stop.Fault → Rose (F.faults folder.old) (F.faults folder.new) }
     ensures later { F.faults folder.old ≤ F.faults folder.new }
     ensures same { (n : List ℕ) → F.holds folder.new n ≡ F.holds folder.old n }
@@ -78,7 +79,8 @@ fn prepare<F: Folder, S: Source>(
         × IsReady (F.holds folder.old words.now.multidata) (S.left input.old)
         (S.left input.new) seed (map command_view r.commands)) }
     ensures err { IfErr result
-        (HasDriveCause S.left (F.holds folder.old words.now.multidata) input.old input.new) }
+        (HasDriveCause S.left (F.holds folder.old words.now.multidata) (F.may_fail folder.old)
+        input.old input.new) }
     ensures fault { result ≡ Err Stop.Fault
         → Rose (F.faults folder.old) (F.faults folder.new)
         ⊎ Rose (S.faults input.old) (S.faults input.new) }
@@ -104,10 +106,12 @@ fn drive<F: Folder, S: Source, O: Sink>(
     ensures done { OnOk result (Drives (F.holds folder.old words.now.multidata) (S.left input.old)
         (S.left input.new) (O.held out.old) (O.held out.new)) }
     ensures left { IfErr result
-        (HasLeft (HasDriveCause S.left (F.holds folder.old words.now.multidata) input.old input.new)
+        (HasLeft (HasDriveCause S.left (F.holds folder.old words.now.multidata)
+        (F.may_fail folder.old) input.old input.new)
         (Keeps (O.held out.old) (O.held out.new))
         (PutsSome (F.holds folder.old words.now.multidata) (S.left input.old) (S.left input.new)
-        (O.held out.old) (O.held out.new))) }
+        (O.held out.old) (O.held out.new))
+        (Rose (O.faults out.old) (O.faults out.new))) }
     ensures fault { result ≡ Err Stop.Fault → Rose (F.faults folder.old) (F.faults folder.new)
         ⊎ (Rose (S.faults input.old) (S.faults input.new)
         ⊎ Rose (O.faults out.old) (O.faults out.new)) }
@@ -133,8 +137,8 @@ pub fn cmd_drive<F: Folder, S: Source, O: Sink, E: Sink>(
     err: &mut E,
 ) -> u8
     ensures ends { DriveEnds S.left result
-        (F.holds folder.old words.now.multidata) input.old input.new
-        (O.held out.old) (O.held out.new) (told_by E.held E.refusals err.old err.new) }
+        (F.holds folder.old words.now.multidata) (F.may_fail folder.old) input.old input.new
+        (told_by O.held O.faults out.old out.new) (told_by E.held E.refusals err.old err.new) }
     ensures fault { result ≡ 5 → Rose (F.faults folder.old) (F.faults folder.new)
         ⊎ (Rose (S.faults input.old) (S.faults input.new)
         ⊎ Rose (O.faults out.old) (O.faults out.new)) }

@@ -6,7 +6,7 @@ ghost use Rattle.mw_multi.specs.Files.{world_files};
 ghost use Rattle.mw_multi.specs.JointOf.{joint_of};
 ghost use Rattle.mw_offline.specs.Ends.{HasLeft, told_by};
 ghost use Rattle.mw_offline.specs.Tables.{AreUnjoined};
-ghost use Rattle.mw_offline.specs.Generating.{wanted_in, wrote_by, IsTextFor, IsUntextFor, GeneratedText, HasGenerateCause, IsGenerated, Untouched, WritesSome, GenerateEnds};
+ghost use Rattle.mw_offline.specs.Generating.{wanted_in, wrote_by, IsTextFor, IsUntextFor, GeneratedText, HasGenerateCause, IsGenerated, Untouched, WritesSome, HasFailed, GenerateEnds};
 
 use crate::generate_cause::{GenerateCause, refusal_stop};
 use crate::generating::{Made, make};
@@ -64,7 +64,8 @@ fn prepare<F: Folder>(
     requires tries { (1 ≤ words.now.tries) × (words.now.tries ≤ 1000) }
     ensures ok { IfOk result (λ m. GeneratedText (F.holds folder.old) (wanted_in words.now) m.bytes
         (string_bytes m.text)) }
-    ensures err { IfErr result (HasGenerateCause (F.holds folder.old) (wanted_in words.now)) }
+    ensures err { IfErr result
+        (HasGenerateCause (F.holds folder.old) (F.may_fail folder.old) (wanted_in words.now)) }
     ensures fault { result ≡ Err Stop.Fault → Rose (F.faults folder.old) (F.faults folder.new) }
     ensures later { F.faults folder.old ≤ F.faults folder.new }
     ensures same { (n : List ℕ) → F.holds folder.new n ≡ F.holds folder.old n }
@@ -104,14 +105,19 @@ fn write_and_print<F: Folder, O: Sink>(
     out: &mut O,
 ) -> Result<(), Stop<GenerateCause>>
     requires tries { (1 ≤ words.now.tries) × (words.now.tries ≤ 1000) }
-    ensures done { OnOk result (IsGenerated (wrote_by F.holds F.refusals folder.old folder.new)
+    ensures done { OnOk result
+        (IsGenerated (wrote_by F.holds F.may_fail F.refusals folder.old folder.new)
         (wanted_in words.now) (O.held out.old) (O.held out.new)) }
     ensures left { IfErr result
-        (HasLeft (HasGenerateCause (F.holds folder.old) (wanted_in words.now))
-        (Untouched (wrote_by F.holds F.refusals folder.old folder.new) (O.held out.old)
+        (HasLeft (HasGenerateCause (F.holds folder.old) (F.may_fail folder.old)
+        (wanted_in words.now))
+        (Untouched (wrote_by F.holds F.may_fail F.refusals folder.old folder.new) (O.held out.old)
         (O.held out.new))
-        (WritesSome (wrote_by F.holds F.refusals folder.old folder.new) (wanted_in words.now)
-        (O.held out.old) (O.held out.new))) }
+        (WritesSome (wrote_by F.holds F.may_fail F.refusals folder.old folder.new)
+        (wanted_in words.now)
+        (O.held out.old) (O.held out.new))
+        (HasFailed (wrote_by F.holds F.may_fail F.refusals folder.old folder.new)
+        (told_by O.held O.faults out.old out.new))) }
     ensures fault { result ≡ Err Stop.Fault
         → Rose (F.faults folder.old) (F.faults folder.new)
         ⊎ Rose (O.faults out.old) (O.faults out.new) }
@@ -121,14 +127,15 @@ fn write_and_print<F: Folder, O: Sink>(
     put_text(out, made.text.as_str())
 }
 
-/// Writes the seed file of the first of so many tries that gives a placement, and prints the try's number, how many
-/// spheres there are, and the playthrough. Tries are from 1 to 1,000.
+/// Writes the seed file of the first of so many tries that gives a placement, and prints the try's
+/// number, how many spheres there are, and the playthrough. Tries are from 1 to 1,000.
 ///
-/// The status is 0 where all is done; 3 where a file or the joint is refused, where a goal can't be met with everything
-/// in hand, or where there are more items than locations; 4 where each try is stuck; 5 where the folder or the out sink
-/// failed; 6 where memory ran out. With 3 or 4 no file is touched; with 5 or 6 the named file is as it was or holds the
-/// seed file, or the folder refused to write it and it holds what that left. With a status other than 0 the error sink
-/// gets that status's line, or a front of it where it refuses.
+/// The status is 0 where all is done; 3 where a file or the joint is refused, where a goal can't be
+/// met with everything in hand, or where there are more items than locations; 4 where each try is
+/// stuck; 5 where the folder or the out sink failed; 6 where memory ran out. With 3 or 4 no file is
+/// touched; with 5 or 6 the named file is as it was or holds the seed file, or the folder refused
+/// to write it and it holds what that left. With a status other than 0 the error sink gets that
+/// status's line, or a front of it where it refuses.
 pub fn cmd_generate<F: Folder, O: Sink, E: Sink>(
     alloc: Global,
     words: &GenerateWords,
@@ -137,9 +144,9 @@ pub fn cmd_generate<F: Folder, O: Sink, E: Sink>(
     err: &mut E,
 ) -> u8
     requires tries { (1 ≤ words.now.tries) × (words.now.tries ≤ 1000) }
-    ensures ends { GenerateEnds result (wrote_by F.holds F.refusals folder.old folder.new)
-        (wanted_in words.now)
-        (O.held out.old) (O.held out.new) (told_by E.held E.refusals err.old err.new) }
+    ensures ends { GenerateEnds result
+        (wrote_by F.holds F.may_fail F.refusals folder.old folder.new) (wanted_in words.now)
+        (told_by O.held O.faults out.old out.new) (told_by E.held E.refusals err.old err.new) }
     ensures fault { result ≡ 5
         → Rose (F.faults folder.old) (F.faults folder.new)
         ⊎ Rose (O.faults out.old) (O.faults out.new) }

@@ -31,7 +31,8 @@ fn text_of<F: Folder>(
 ) -> Result<String, Stop<TableCause>>
     ensures ok { IfOk result
         (λ t. ReachText (F.holds folder.old) words.now.players (string_bytes t)) }
-    ensures err { IfErr result (HasTableCause (F.holds folder.old) words.now.players) }
+    ensures err { IfErr result
+        (HasTableCause (F.holds folder.old) (F.may_fail folder.old) words.now.players) }
     ensures fault { result ≡ Err Stop.Fault → Rose (F.faults folder.old) (F.faults folder.new) }
     ensures later { F.faults folder.old ≤ F.faults folder.new }
     ensures same { (n : List ℕ) → F.holds folder.new n ≡ F.holds folder.old n }
@@ -50,9 +51,12 @@ fn print_reach<F: Folder, O: Sink>(
 ) -> Result<(), Stop<TableCause>>
     ensures done { OnOk result (Prints (F.holds folder.old) words.now.players (O.held out.old)
         (O.held out.new)) }
-    ensures left { IfErr result (HasLeft (HasTableCause (F.holds folder.old) words.now.players)
+    ensures left { IfErr result
+        (HasLeft (HasTableCause (F.holds folder.old) (F.may_fail folder.old) words.now.players)
         (Keeps (O.held out.old) (O.held out.new))
-        (PutsFrontOfReach (F.holds folder.old) words.now.players (O.held out.old) (O.held out.new))) }
+        (PutsFrontOfReach (F.holds folder.old) words.now.players (O.held out.old)
+        (O.held out.new))
+        (Rose (O.faults out.old) (O.faults out.new))) }
     ensures fault { result ≡ Err Stop.Fault
         → Rose (F.faults folder.old) (F.faults folder.new)
         ⊎ Rose (O.faults out.old) (O.faults out.new) }
@@ -62,11 +66,12 @@ fn print_reach<F: Folder, O: Sink>(
     put_text(out, text.as_str())
 }
 
-/// Prints how much each slot reaches: with what it starts with and the events alone, and with all pool items too.
+/// Prints how much each slot reaches: with what it starts with and the events alone, and with all
+/// pool items too.
 ///
-/// The status is 0 where all is done; 3 where a file or the joint is refused; 5 where the folder or the out sink failed;
-/// 6 where memory ran out. With a status other than 0 the error sink gets that status's line, or a front of it where it
-/// refuses.
+/// The status is 0 where all is done; 3 where a file or the joint is refused; 5 where the folder or
+/// the out sink failed; 6 where memory ran out. With a status other than 0 the error sink gets that
+/// status's line, or a front of it where it refuses.
 pub fn cmd_reach<F: Folder, O: Sink, E: Sink>(
     alloc: Global,
     words: &ReachWords,
@@ -74,8 +79,8 @@ pub fn cmd_reach<F: Folder, O: Sink, E: Sink>(
     out: &mut O,
     err: &mut E,
 ) -> u8
-    ensures ends { ReachEnds result (F.holds folder.old) words.now.players (O.held out.old)
-        (O.held out.new)
+    ensures ends { ReachEnds result (F.holds folder.old) (F.may_fail folder.old)
+        words.now.players (told_by O.held O.faults out.old out.new)
         (told_by E.held E.refusals err.old err.new) }
     ensures fault { result ≡ 5
         → Rose (F.faults folder.old) (F.faults folder.new)

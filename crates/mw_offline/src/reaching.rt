@@ -62,7 +62,8 @@ fn add_line(
     Ok(())
 }
 
-/// The lines of slots of which so many locations are reached in the beginning, and these in the end.
+/// The lines of slots of which so many locations are reached in the beginning, and these in the
+/// end.
 fn lines_of(
     alloc: Global,
     joint: &Joint,

@@ -1,5 +1,5 @@
 //! Reads a seed file.
-ghost use Rattle.std.specs.Prelude.{◌≡◌, ◌≤◌, ◌≢◌, IfOk, IfErr, ℕ, List, Ok, Some, length};
+ghost use Rattle.std.specs.Prelude.{◌≡◌, ◌≤◌, ◌≢◌, IfOk, IfErr, ℕ, List, Ok, Some, false, length};
 ghost use Rattle.mw_edges.specs.Causes.{Rose};
 ghost use Rattle.mw_multidata.specs.SeedOf.{SeedOf};
 ghost use Rattle.mw_offline.specs.SeedFiles.{IsFile, SeedIn, IsSeedStopped, max_seed_file};
@@ -21,7 +21,8 @@ fn read_bytes<F: Folder>(
     name: &Text,
 ) -> Result<Bytes, Stop<SeedCause>>
     ensures ok { IfOk result (IsFile (F.holds folder.old name.now)) }
-    ensures err { IfErr result (IsSeedStopped (F.holds folder.old name.now)) }
+    ensures err { IfErr result
+        (IsSeedStopped (F.holds folder.old name.now) (F.may_fail folder.old)) }
     ensures fault { result ≡ Err Stop.Fault → Rose (F.faults folder.old) (F.faults folder.new) }
     ensures later { F.faults folder.old ≤ F.faults folder.new }
     ensures same { (n : List ℕ) → F.holds folder.new n ≡ F.holds folder.old n }
@@ -40,7 +41,7 @@ fn read_bytes<F: Folder>(
 fn seed_of(alloc: Global, bytes: &[u8]) -> Result<Multidata, Stop<SeedCause>>
     requires { length bytes.now ≤ max_seed_file }
     ensures ok { IfOk result (λ m. SeedOf bytes.now (Ok m)) }
-    ensures err { IfErr result (IsSeedStopped (Some (Some bytes.now))) }
+    ensures err { IfErr result (IsSeedStopped (Some (Some bytes.now)) false) }
     ensures fault { result ≢ Err Stop.Fault }
 {
     match read(alloc, bytes) {
@@ -60,7 +61,8 @@ pub(crate) fn read_seed<F: Folder>(
     name: &Text,
 ) -> Result<Multidata, Stop<SeedCause>>
     ensures ok { IfOk result (SeedIn (F.holds folder.old name.now)) }
-    ensures err { IfErr result (IsSeedStopped (F.holds folder.old name.now)) }
+    ensures err { IfErr result
+        (IsSeedStopped (F.holds folder.old name.now) (F.may_fail folder.old)) }
     ensures fault { result ≡ Err Stop.Fault → Rose (F.faults folder.old) (F.faults folder.new) }
     ensures later { F.faults folder.old ≤ F.faults folder.new }
     ensures same { (n : List ℕ) → F.holds folder.new n ≡ F.holds folder.old n }

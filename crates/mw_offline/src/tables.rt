@@ -1,4 +1,4 @@
-ghost use Rattle.std.specs.Prelude.{◌≡◌, ◌≢◌, ◌⊎◌, ◌≤◌, ℕ, List, Ok, IfOk, IfErr, length};
+ghost use Rattle.std.specs.Prelude.{◌≡◌, ◌≢◌, ◌⊎◌, ◌≤◌, ℕ, List, Ok, IfOk, IfErr, IsTrue, length};
 ghost use Rattle.mw_edges.specs.Causes.{Rose};
 ghost use Rattle.mw_edges.specs.Folders.{GivesFile};
 ghost use Rattle.mw_edges.specs.declared.folder.FileRead.TheVariants.{Whole};
@@ -56,10 +56,12 @@ fn read_table<F: Folder>(
     limit: u64,
 ) -> Result<Bytes, Stop<TableCause>>
     ensures ok { IfOk result (λ b. GivesFile (F.holds folder.old name.now) limit (Whole b)) }
-    ensures err { IfErr result (IsUnread (F.holds folder.old name.now) limit name.now) }
+    ensures err { IfErr result
+        (IsUnread (F.holds folder.old name.now) (F.may_fail folder.old) limit name.now) }
     ensures fault { result ≡ Err Stop.Fault → Rose (F.faults folder.old) (F.faults folder.new) }
     ensures later { F.faults folder.old ≤ F.faults folder.new }
     ensures same { (n : List ℕ) → F.holds folder.new n ≡ F.holds folder.old n }
+    ensures sound { IsTrue (F.may_fail folder.new) → IsTrue (F.may_fail folder.old) }
     ensures unrefused { F.refusals folder.new ≡ F.refusals folder.old }
 {
     match folder.read_file(alloc, name, limit) {
@@ -117,10 +119,12 @@ fn players_in<F: Folder>(
         (λ p. (bytes : List ℕ) × GivesFile (F.holds folder.old name.now) max_table_file
         (Whole bytes) × PlayersOf bytes (Ok p)) }
     ensures err { IfErr result
-        (ArePlayersStopped (F.holds folder.old name.now) max_table_file name.now) }
+        (ArePlayersStopped (F.holds folder.old name.now) (F.may_fail folder.old) max_table_file
+        name.now) }
     ensures fault { result ≡ Err Stop.Fault → Rose (F.faults folder.old) (F.faults folder.new) }
     ensures later { F.faults folder.old ≤ F.faults folder.new }
     ensures same { (n : List ℕ) → F.holds folder.new n ≡ F.holds folder.old n }
+    ensures sound { IsTrue (F.may_fail folder.new) → IsTrue (F.may_fail folder.old) }
     ensures unrefused { F.refusals folder.new ≡ F.refusals folder.old }
 {
     let bytes = read_table(alloc, folder, name, MAX_TABLE_FILE)?;
@@ -145,10 +149,12 @@ fn world_in<F: Folder>(
         × WorldOf bytes (Ok f.world)) }
     ensures short { IfOk result (λ f. f.length ≤ left) }
     ensures err { IfErr result
-        (IsWorldStopped (F.holds folder.old name.now) (world_limit left) name.now) }
+        (IsWorldStopped (F.holds folder.old name.now) (F.may_fail folder.old) (world_limit left)
+        name.now) }
     ensures fault { result ≡ Err Stop.Fault → Rose (F.faults folder.old) (F.faults folder.new) }
     ensures later { F.faults folder.old ≤ F.faults folder.new }
     ensures same { (n : List ℕ) → F.holds folder.new n ≡ F.holds folder.old n }
+    ensures sound { IsTrue (F.may_fail folder.new) → IsTrue (F.may_fail folder.old) }
     ensures unrefused { F.refusals folder.new ≡ F.refusals folder.old }
 {
     let bytes = read_table(alloc, folder, name, left.min(MAX_TABLE_FILE))?;
@@ -167,10 +173,12 @@ fn worlds_in<F: Folder>(
 ) -> Result<List<World>, Stop<TableCause>>
     ensures ok { IfOk result (WorldsOf (F.holds folder.old) max_world_files files.now) }
     ensures err { IfErr result (λ stop. (stop ≡ Stop.Memory)
-        ⊎ AreWorldsStopped (F.holds folder.old) max_world_files files.now stop) }
+        ⊎ AreWorldsStopped (F.holds folder.old) (F.may_fail folder.old) max_world_files files.now
+        stop) }
     ensures fault { result ≡ Err Stop.Fault → Rose (F.faults folder.old) (F.faults folder.new) }
     ensures later { F.faults folder.old ≤ F.faults folder.new }
     ensures same { (n : List ℕ) → F.holds folder.new n ≡ F.holds folder.old n }
+    ensures sound { IsTrue (F.may_fail folder.new) → IsTrue (F.may_fail folder.old) }
     ensures unrefused { F.refusals folder.new ≡ F.refusals folder.old }
 {
     let mut worlds = List::new(alloc);
@@ -192,10 +200,12 @@ pub(crate) fn read_tables<F: Folder>(
 ) -> Result<Tables, Stop<TableCause>>
     ensures ok { IfOk result (λ t. TablesOf (F.holds folder.old) name.now t.players t.worlds) }
     ensures number { IfOk result (λ t. length t.worlds ≡ length (world_files t.players)) }
-    ensures err { IfErr result (HasTableCause (F.holds folder.old) name.now) }
+    ensures err { IfErr result
+        (HasTableCause (F.holds folder.old) (F.may_fail folder.old) name.now) }
     ensures fault { result ≡ Err Stop.Fault → Rose (F.faults folder.old) (F.faults folder.new) }
     ensures later { F.faults folder.old ≤ F.faults folder.new }
     ensures same { (n : List ℕ) → F.holds folder.new n ≡ F.holds folder.old n }
+    ensures sound { IsTrue (F.may_fail folder.new) → IsTrue (F.may_fail folder.old) }
     ensures unrefused { F.refusals folder.new ≡ F.refusals folder.old }
 {
     let players = players_in(alloc, folder, name)?;

@@ -11,7 +11,7 @@ use Rattle.mw_offline.proofs.check_command.text_for.Goals as goal
 pub returns-in_err-joint-clause-err : goal.returns-in_err-joint-clause-err
 returns-in_err-joint-clause-err g c =
     let t = c.args.tables.now in
-    unjoined_for (λ joint. joint_of t.worlds t.players ≡ Ok joint) (AreUnjoined t.worlds t.players) (g.F.Folder.holds c.args.folder.now c.args.name.now) c.from_residual.result _ c.in_err-joint.ensures.err c.from_residual.ensures.1
+    unjoined_for (λ joint. joint_of t.worlds t.players ≡ Ok joint) (AreUnjoined t.worlds t.players) (g.F.Folder.holds c.args.folder.now c.args.name.now) (g.F.Folder.may_fail c.args.folder.now) c.from_residual.result _ c.in_err-joint.ensures.err c.from_residual.ensures.1
 
 pub returns-in_err-joint-clause-fault : goal.returns-in_err-joint-clause-fault
 returns-in_err-joint-clause-fault g c = λ e. absurd (c.in_err-joint.ensures.fault (ap Err (fault_exit Tables c.from_residual.result _ c.from_residual.ensures.1 e)))
@@ -20,7 +20,7 @@ pub returns-in_err-file-clause-err : goal.returns-in_err-file-clause-err
 returns-in_err-file-clause-err g c =
     let t = c.args.tables.now in
     let r = c.from_residual-in_err-file in
-    unread_for (λ joint. joint_of t.worlds t.players ≡ Ok joint) (AreUnjoined t.worlds t.players) (g.F.Folder.holds c.args.folder.now c.args.name.now) c.in_ok-joint.joint c.in_ok-joint.ensures.ok r.result _ c.in_err-file.ensures.err r.ensures.1
+    unread_for (λ joint. joint_of t.worlds t.players ≡ Ok joint) (AreUnjoined t.worlds t.players) (g.F.Folder.holds c.args.folder.now c.args.name.now) (g.F.Folder.may_fail c.args.folder.now) c.in_ok-joint.joint c.in_ok-joint.ensures.ok r.result _ c.in_err-file.ensures.err r.ensures.1
 
 pub returns-in_err-file-clause-fault : goal.returns-in_err-file-clause-fault
 returns-in_err-file-clause-fault g c =
@@ -31,7 +31,7 @@ pub returns-in_err-placement-clause-err : goal.returns-in_err-placement-clause-e
 returns-in_err-placement-clause-err g c =
     let t = c.args.tables.now in
     let r = c.from_residual-in_err-placement in
-    wrong_for (λ joint. joint_of t.worlds t.players ≡ Ok joint) (AreUnjoined t.worlds t.players) (g.F.Folder.holds c.args.folder.now c.args.name.now) c.in_ok-joint.joint c.in_ok-joint.ensures.ok
+    wrong_for (λ joint. joint_of t.worlds t.players ≡ Ok joint) (AreUnjoined t.worlds t.players) (g.F.Folder.holds c.args.folder.now c.args.name.now) (g.F.Folder.may_fail c.args.folder.now) c.in_ok-joint.joint c.in_ok-joint.ensures.ok
     c.in_ok-file.file c.in_ok-file.ensures.ok r.result _ c.in_err-placement.ensures.err r.ensures.1
 
 pub returns-in_err-placement-clause-fault : goal.returns-in_err-placement-clause-fault
@@ -51,5 +51,5 @@ returns-in_err-text_of-clause-fault g c =
 pub returns-clause-ok : goal.returns-clause-ok
 returns-clause-ok g c =
     let t = c.args.tables.now in
-    text_for (λ joint. joint_of t.worlds t.players ≡ Ok joint) (AreUnjoined t.worlds t.players) (g.F.Folder.holds c.args.folder.now c.args.name.now) c.in_ok-joint.joint c.in_ok-joint.ensures.ok
+    text_for (λ joint. joint_of t.worlds t.players ≡ Ok joint) (AreUnjoined t.worlds t.players) (g.F.Folder.holds c.args.folder.now c.args.name.now) (g.F.Folder.may_fail c.args.folder.now) c.in_ok-joint.joint c.in_ok-joint.ensures.ok
     c.in_ok-file.file c.in_ok-file.ensures.ok c.in_ok-placement.placement c.file.inside.spheres _ (ap (λ (s : Seed). s.spheres) c.file.view_is) c.in_ok-placement.ensures.ok c.in_ok-text_of.ensures

@@ -1,6 +1,7 @@
-use Rattle.std.proofs.Common.{Err, ap, map, inl, inr}
+use Rattle.std.proofs.Common.{Err, ap, map, inr}
 use Rattle.std.proofs.KnownBytes.{Keeps-refl}
 use Rattle.std.specs.Io.KnownBytes.{Keeps}
+use Rattle.mw_edges.specs.Causes.{Rose}
 use Rattle.mw_room.specs.Views.{room_view}
 use Rattle.mw_offline.specs.Commands.{command_view}
 use Rattle.mw_offline.specs.Driving.{HasDriveCause, PutsSome}
@@ -15,7 +16,7 @@ returns-in_err-prepared-clause-left g c =
     let before = c.args.input.now in
     let after = c.prepare.new.input in
     let held = g.O.Sink.held c.args.out.now in
-    left_exit (HasDriveCause left file before after) (Keeps held held) (PutsSome file (left before) (left after) held held) c.from_residual.result _ c.in_err-prepared.ensures.err (Keeps-refl held) c.from_residual.ensures.1
+    left_exit (HasDriveCause left file (g.F.Folder.may_fail c.args.folder.now) before after) (Keeps held held) (PutsSome file (left before) (left after) held held) (Rose (g.O.Sink.faults c.args.out.now) (g.O.Sink.faults c.args.out.now)) c.from_residual.result _ c.in_err-prepared.ensures.err (Keeps-refl held) c.from_residual.ensures.1
 
 pub returns-in_err-run_commands-clause-left : goal.returns-in_err-run_commands-clause-left
 returns-in_err-run_commands-clause-left g c =
@@ -29,8 +30,8 @@ returns-in_err-run_commands-clause-left g c =
     let cs = map command_view c.in_ok-prepared.prepared.commands in
     let room = room_view c.in_ok-prepared.prepared.room in
     let r = c.from_residual-in_err-run_commands in
-    halt_left (HasDriveCause left file before after) (Keeps old new) (PutsSome file (left before) (left after) old new) r.result _
-    (puts_some file (left before) (left after) old new ready.0 cs room ready.1 ready.2 c.in_err-run_commands.ensures.stopped) r.ensures.1
+    halt_left (HasDriveCause left file (g.F.Folder.may_fail c.args.folder.now) before after) (Keeps old new) (PutsSome file (left before) (left after) old new) (Rose (g.O.Sink.faults c.args.out.now) (g.O.Sink.faults c.run_commands.new.out)) r.result _
+    (puts_some file (left before) (left after) old new ready.0 cs room ready.1 ready.2 c.in_err-run_commands.ensures.stopped) (λ e. c.in_err-run_commands.ensures.fault (ap Err e)) r.ensures.1
 
 pub returns-in_err-run_commands-clause-fault : goal.returns-in_err-run_commands-clause-fault
 returns-in_err-run_commands-clause-fault g c =

@@ -9,7 +9,7 @@ use Rattle.mw_offline.proofs.drive_command.prepare.Goals as goal
 pub returns-in_err-multidata-clause-err : goal.returns-in_err-multidata-clause-err
 returns-in_err-multidata-clause-err g c =
     let file = g.F.Folder.holds c.args.folder.now c.args.words.now.multidata in
-    seed_exit g.S.Source.left file c.args.input.now c.from_residual.result _ c.in_err-multidata.ensures.err c.from_residual.ensures.1
+    seed_exit g.S.Source.left file (g.F.Folder.may_fail c.args.folder.now) c.args.input.now c.from_residual.result _ c.in_err-multidata.ensures.err c.from_residual.ensures.1
 
 pub returns-in_err-multidata-clause-fault : goal.returns-in_err-multidata-clause-fault
 returns-in_err-multidata-clause-fault g c = λ e. inl (c.in_err-multidata.ensures.fault (ap Err (fault_passed c.from_residual.result _ c.from_residual.ensures.1 e)))
@@ -18,7 +18,7 @@ pub returns-in_err-script-clause-err : goal.returns-in_err-script-clause-err
 returns-in_err-script-clause-err g c =
     let file = g.F.Folder.holds c.args.folder.now c.args.words.now.multidata in
     let r = c.from_residual-in_err-script in
-    halt_cause g.S.Source.left file c.args.input.now c.read_script.new.input c.in_ok-multidata.multidata c.in_ok-multidata.ensures.ok r.result _ r.ensures.1
+    halt_cause g.S.Source.left file (g.F.Folder.may_fail c.args.folder.now) c.args.input.now c.read_script.new.input c.in_ok-multidata.multidata c.in_ok-multidata.ensures.ok r.result _ r.ensures.1
 
 pub returns-in_err-script-clause-fault : goal.returns-in_err-script-clause-fault
 returns-in_err-script-clause-fault g c =
@@ -29,7 +29,7 @@ pub returns-in_err-commands-clause-err : goal.returns-in_err-commands-clause-err
 returns-in_err-commands-clause-err g c =
     let file = g.F.Folder.holds c.args.folder.now c.args.words.now.multidata in
     let r = c.from_residual-in_err-commands in
-    script_cause g.S.Source.left file c.args.input.now c.read_script.new.input c.in_ok-multidata.multidata c.in_ok-multidata.ensures.ok _ c.in_ok-script.script.items c.deref.ensures.value c.in_ok-script.ensures.read r.result _
+    script_cause g.S.Source.left file (g.F.Folder.may_fail c.args.folder.now) c.args.input.now c.read_script.new.input c.in_ok-multidata.multidata c.in_ok-multidata.ensures.ok _ c.in_ok-script.script.items c.deref.ensures.value c.in_ok-script.ensures.read r.result _
     c.in_err-commands.ensures r.ensures.1
 
 pub returns-in_err-commands-clause-fault : goal.returns-in_err-commands-clause-fault
@@ -41,7 +41,7 @@ pub returns-in_err-room-clause-err : goal.returns-in_err-room-clause-err
 returns-in_err-room-clause-err g c =
     let file = g.F.Folder.holds c.args.folder.now c.args.words.now.multidata in
     let r = c.from_residual-in_err-room in
-    passed_exit (HasDriveCause g.S.Source.left file c.args.input.now c.read_script.new.input) r.result Memory tt r.ensures.1
+    passed_exit (HasDriveCause g.S.Source.left file (g.F.Folder.may_fail c.args.folder.now) c.args.input.now c.read_script.new.input) r.result Memory tt r.ensures.1
 
 pub returns-in_err-room-clause-fault : goal.returns-in_err-room-clause-fault
 returns-in_err-room-clause-fault g c =

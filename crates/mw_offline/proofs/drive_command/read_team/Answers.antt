@@ -8,7 +8,7 @@ use Rattle.mw_offline.proofs.drive_command.read_team.Goals as goal
 
 pub returns-in_err-multidata-clause-err : goal.returns-in_err-multidata-clause-err
 returns-in_err-multidata-clause-err g c =
-    refused_seed (g.F.Folder.holds c.args.folder.now c.args.name.now) c.from_residual.result _ c.in_err-multidata.ensures.err c.from_residual.ensures.1
+    refused_seed (g.F.Folder.holds c.args.folder.now c.args.name.now) (g.F.Folder.may_fail c.args.folder.now) c.from_residual.result _ c.in_err-multidata.ensures.err c.from_residual.ensures.1
 
 pub returns-in_err-multidata-clause-fault : goal.returns-in_err-multidata-clause-fault
 returns-in_err-multidata-clause-fault g c = λ e. c.in_err-multidata.ensures.fault (ap Err (fault_exit SeedFile c.from_residual.result _ c.from_residual.ensures.1 e))

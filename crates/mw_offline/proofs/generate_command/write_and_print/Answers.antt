@@ -1,11 +1,11 @@
-use Rattle.std.proofs.Common.{◌≢◌, ◌∙◌, ℕ, List, Option, Err, ap, inl, inr, string_bytes, subst, arith}
+use Rattle.std.proofs.Common.{◌∙◌, ℕ, List, Option, Err, ap, inl, inr, string_bytes, subst, arith}
 use Rattle.std.proofs.KnownBytes.{Keeps-refl}
 use Rattle.std.proofs.lemmas.Result.{on_ok_weaker}
 use Rattle.std.specs.Io.KnownBytes.{Appends}
 use Rattle.mw_edges.specs.Causes.{PutsFront, Rose}
 use Rattle.mw_edges.specs.Folders.{IsWritten}
-use Rattle.mw_offline.specs.Ends.{HasLeft}
-use Rattle.mw_offline.specs.Generating.{wanted_in, wrote_by, HasGenerateCause, Untouched, WritesSome}
+use Rattle.mw_offline.specs.Ends.{HasLeft, told_by}
+use Rattle.mw_offline.specs.Generating.{wanted_in, wrote_by, HasGenerateCause, Untouched, WritesSome, HasFailed}
 use Rattle.mw_offline.proofs.Endings.{passed_exit, fault_passed, left_exit, left_late, left_some}
 use Rattle.mw_offline.proofs.generate_command.write_and_print.Goals as goal
 
@@ -13,18 +13,19 @@ pub returns-in_err-made-clause-left : goal.returns-in_err-made-clause-left
 returns-in_err-made-clause-left g c =
     let holds = g.F.Folder.holds in
     let wanted = wanted_in c.args.words.now in
-    let wrote = wrote_by holds g.F.Folder.refusals c.args.folder.now c.prepare.new.folder in
+    let wrote = wrote_by holds g.F.Folder.may_fail g.F.Folder.refusals c.args.folder.now c.prepare.new.folder in
     let held = g.O.Sink.held c.args.out.now in
-    left_exit (HasGenerateCause (holds c.args.folder.now) wanted) (Untouched wrote held held) (WritesSome wrote wanted held held) c.from_residual.result _ c.in_err-made.ensures.err
+    left_exit (HasGenerateCause (holds c.args.folder.now) (g.F.Folder.may_fail c.args.folder.now) wanted) (Untouched wrote held held) (WritesSome wrote wanted held held) (HasFailed wrote (told_by g.O.Sink.held g.O.Sink.faults c.args.out.now c.args.out.now)) c.from_residual.result _ c.in_err-made.ensures.err
     (record { files = c.in_err-made.ensures.same; put = Keeps-refl held }) c.from_residual.ensures.1
 
 pub returns-in_err-write_out-clause-left : goal.returns-in_err-write_out-clause-left
 returns-in_err-write_out-clause-left g c =
     let holds = g.F.Folder.holds in
     let wanted = wanted_in c.args.words.now in
-    let wrote = wrote_by holds g.F.Folder.refusals c.args.folder.now c.write_out.new.folder in
+    let wrote = wrote_by holds g.F.Folder.may_fail g.F.Folder.refusals c.args.folder.now c.write_out.new.folder in
     let held = g.O.Sink.held c.args.out.now in
-    let why = HasGenerateCause (holds c.args.folder.now) wanted in
+    let why = HasGenerateCause (holds c.args.folder.now) (g.F.Folder.may_fail c.args.folder.now) wanted in
+    let failed = HasFailed wrote (told_by g.O.Sink.held g.O.Sink.faults c.args.out.now c.args.out.now) in
     let made = c.in_ok-made.made in
     let r = c.from_residual-in_err-write_out in
     let refused = subst (λ n. Rose n (g.F.Folder.refusals c.write_out.new.folder)) c.in_ok-made.ensures.unrefused c.in_err-write_out.ensures.refused in
@@ -36,8 +37,8 @@ returns-in_err-write_out-clause-left g c =
       others = λ n other. c.in_err-write_out.ensures.others n other ∙ c.in_ok-made.ensures.same n;
       left = inr (refused, Keeps-refl held);
     } in
-    passed_exit (HasLeft why (Untouched wrote held held) (WritesSome wrote wanted held held)) r.result _
-    (left_some why (Untouched wrote held held) (WritesSome wrote wanted held held) _ c.in_err-write_out.ensures.late some) r.ensures.1
+    passed_exit (HasLeft why (Untouched wrote held held) (WritesSome wrote wanted held held) failed) r.result _
+    (left_some why (Untouched wrote held held) (WritesSome wrote wanted held held) failed _ c.in_err-write_out.ensures.late some (λ _. inr refused)) r.ensures.1
 
 pub returns-in_err-write_out-clause-fault : goal.returns-in_err-write_out-clause-fault
 returns-in_err-write_out-clause-fault g c =
@@ -49,7 +50,7 @@ returns-clause-left g c =
     let holds = g.F.Folder.holds in
     let w = c.args.words.now in
     let wanted = wanted_in w in
-    let wrote = wrote_by holds g.F.Folder.refusals c.args.folder.now c.write_out.new.folder in
+    let wrote = wrote_by holds g.F.Folder.may_fail g.F.Folder.refusals c.args.folder.now c.write_out.new.folder in
     let old = g.O.Sink.held c.args.out.now in
     let new = g.O.Sink.held c.put_text.new.out in
     let made = c.in_ok-made.made in
@@ -57,7 +58,8 @@ returns-clause-left g c =
     let written : IsWritten (holds c.args.folder.now w.out_name) after made.bytes =
     subst (λ (told : Option (Option (List ℕ))). IsWritten told after made.bytes) (c.in_ok-made.ensures.same w.out_name)
     (subst (IsWritten (holds c.prepare.new.folder w.out_name) after) c.as_slice.ensures c.in_ok-write_out.ensures.done) in
-    left_late (HasGenerateCause (holds c.args.folder.now) wanted) (Untouched wrote old new) (WritesSome wrote wanted old new) c.put_text.result c.put_text.ensures.late c.put_text.ensures.front
+    left_late (HasGenerateCause (holds c.args.folder.now) (g.F.Folder.may_fail c.args.folder.now) wanted) (Untouched wrote old new) (WritesSome wrote wanted old new) (HasFailed wrote (told_by g.O.Sink.held g.O.Sink.faults c.args.out.now c.put_text.new.out)) c.put_text.result c.put_text.ensures.late c.put_text.ensures.front
+    (λ e. inl (c.put_text.ensures.fault e))
     (λ front. record {
       bytes = made.bytes;
       text = string_bytes made.text;

@@ -5,4 +5,4 @@ pub returns-clause-ends : goal.returns-clause-ends
 returns-clause-ends g c =
     let run = c.print_reach-outcome.ensures in
     let ended = c.end.ensures in
-    ends _ _ _ _ _ _ _ _ c.print_reach-outcome.result ended.done ended.kept ended.ended run.done run.left
+    ends _ _ _ _ _ _ _ _ _ c.print_reach-outcome.result ended.done ended.kept ended.ended run.done run.left

@@ -2,7 +2,7 @@ use Rattle.std.proofs.Common.{string_bytes, subst}
 use Rattle.std.proofs.KnownBytes.{Keeps-refl}
 use Rattle.std.proofs.lemmas.Result.{on_ok_weaker}
 use Rattle.std.specs.Io.KnownBytes.{Appends, Keeps}
-use Rattle.mw_edges.specs.Causes.{PutsFront}
+use Rattle.mw_edges.specs.Causes.{PutsFront, Rose}
 use Rattle.mw_offline.specs.Tables.{HasTableCause}
 use Rattle.mw_offline.specs.Reaching.{PutsFrontOfReach}
 use Rattle.mw_offline.proofs.Endings.{left_exit, left_late}
@@ -12,14 +12,14 @@ pub returns-in_err-text-clause-left : goal.returns-in_err-text-clause-left
 returns-in_err-text-clause-left g c =
     let files = g.F.Folder.holds c.args.folder.now in
     let held = g.O.Sink.held c.args.out.now in
-    left_exit (HasTableCause files c.args.words.now.players) (Keeps held held) (PutsFrontOfReach files c.args.words.now.players held held) c.from_residual.result _ c.in_err-text.ensures.err (Keeps-refl held) c.from_residual.ensures.1
+    left_exit (HasTableCause files (g.F.Folder.may_fail c.args.folder.now) c.args.words.now.players) (Keeps held held) (PutsFrontOfReach files c.args.words.now.players held held) (Rose (g.O.Sink.faults c.args.out.now) (g.O.Sink.faults c.args.out.now)) c.from_residual.result _ c.in_err-text.ensures.err (Keeps-refl held) c.from_residual.ensures.1
 
 pub returns-clause-left : goal.returns-clause-left
 returns-clause-left g c =
     let files = g.F.Folder.holds c.args.folder.now in
     let old = g.O.Sink.held c.args.out.now in
     let new = g.O.Sink.held c.put_text.new.out in
-    left_late (HasTableCause files c.args.words.now.players) (Keeps old new) (PutsFrontOfReach files c.args.words.now.players old new) c.put_text.result c.put_text.ensures.late c.put_text.ensures.front
+    left_late (HasTableCause files (g.F.Folder.may_fail c.args.folder.now) c.args.words.now.players) (Keeps old new) (PutsFrontOfReach files c.args.words.now.players old new) (Rose (g.O.Sink.faults c.args.out.now) (g.O.Sink.faults c.put_text.new.out)) c.put_text.result c.put_text.ensures.late c.put_text.ensures.front c.put_text.ensures.fault
     (λ front. (string_bytes c.in_ok-text.text, c.in_ok-text.ensures.ok, subst (PutsFront old new) c.as_str.ensures.value front))
 
 pub returns-clause-done : goal.returns-clause-done

@@ -8,10 +8,11 @@ use Rattle.mw_offline.proofs.reach.text_of.Goals as goal
 pub returns-in_err-joint-clause-err : goal.returns-in_err-joint-clause-err
 returns-in_err-joint-clause-err g c =
     let files = g.F.Folder.holds c.args.folder.now in
+    let may_fail = g.F.Folder.may_fail c.args.folder.now in
     let name = c.args.words.now.players in
     let t = c.in_ok-tables.tables in
     let r = c.from_residual-in_err-joint in
-    passed_exit (HasTableCause files name) r.result _ (unjoined_cause files name t.players t.worlds c.in_ok-tables.ensures.ok _ c.in_err-joint.ensures.err) r.ensures.1
+    passed_exit (HasTableCause files may_fail name) r.result _ (unjoined_cause files name t.players t.worlds c.in_ok-tables.ensures.ok may_fail _ c.in_err-joint.ensures.err) r.ensures.1
 
 pub returns-in_err-joint-clause-fault : goal.returns-in_err-joint-clause-fault
 returns-in_err-joint-clause-fault g c =
@@ -21,7 +22,7 @@ returns-in_err-joint-clause-fault g c =
 pub returns-in_err-reach_text-clause-err : goal.returns-in_err-reach_text-clause-err
 returns-in_err-reach_text-clause-err g c =
     let r = c.from_residual-in_err-reach_text in
-    passed_exit (HasTableCause (g.F.Folder.holds c.args.folder.now) c.args.words.now.players) r.result Memory tt r.ensures.1
+    passed_exit (HasTableCause (g.F.Folder.holds c.args.folder.now) (g.F.Folder.may_fail c.args.folder.now) c.args.words.now.players) r.result Memory tt r.ensures.1
 
 pub returns-in_err-reach_text-clause-fault : goal.returns-in_err-reach_text-clause-fault
 returns-in_err-reach_text-clause-fault g c =

@@ -9,8 +9,8 @@ returns-in_err-worlds-clause-err g c =
     let files = g.F.Folder.holds c.args.folder.now in
     let read = c.in_ok-players.ensures.ok in
     let r = c.from_residual-in_err-worlds in
-    passed_exit (HasTableCause files c.args.name.now) r.result _
-    (worlds_cause files (g.F.Folder.holds c.players_in.new.folder) c.args.name.now read.0 c.in_ok-players.players c.as_slice.result.now _ c.in_ok-players.ensures.same (c.as_slice.ensures ∙ c.in_ok-files.ensures)
+    passed_exit (HasTableCause files (g.F.Folder.may_fail c.args.folder.now) c.args.name.now) r.result _
+    (worlds_cause files (g.F.Folder.holds c.players_in.new.folder) (g.F.Folder.may_fail c.args.folder.now) (g.F.Folder.may_fail c.players_in.new.folder) c.args.name.now read.0 c.in_ok-players.players c.as_slice.result.now _ c.in_ok-players.ensures.same c.in_ok-players.ensures.sound (c.as_slice.ensures ∙ c.in_ok-files.ensures)
     read.1 read.2 c.in_err-worlds.ensures.err) r.ensures.1
 
 pub returns-clause-number : goal.returns-clause-number

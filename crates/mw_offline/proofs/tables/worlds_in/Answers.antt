@@ -11,6 +11,7 @@ pub loop-file-preserved : goal.loop-file-preserved
 loop-file-preserved g c =
     let l = c.loop-file in
     let files = g.F.Folder.holds c.args.folder.now in
+    let may_fail = g.F.Folder.may_fail c.args.folder.now in
     let name = c.file-item.result in
     let r = c.in_ok-read.read in
     let read = c.in_ok-read.ensures.ok in
@@ -22,10 +23,11 @@ loop-file-preserved g c =
           (sym (append_assoc l.worlds (r.world ∷ []) ws) ∙ ap (λ front. front ++ ws) (sym grown))
           (l.invariant.worlds (r.world ∷ ws) (subst (λ names. WorldsOf files l.left names (r.world ∷ ws)) (sym next)
           (read.0, r.world, ws, refl, is_file, read.3, subst (λ n. WorldsOf files (l.left - n) rest ws) read.1 h)));
-      stopped = λ stop h. l.invariant.stopped stop (subst (λ names. AreWorldsStopped files l.left names stop) (sym next)
-          (inr (read.0, r.world, is_file, read.3, subst (λ n. AreWorldsStopped files (l.left - n) rest stop) read.1 h)));
+      stopped = λ stop h. l.invariant.stopped stop (subst (λ names. AreWorldsStopped files may_fail l.left names stop) (sym next)
+          (inr (read.0, r.world, is_file, read.3, subst (λ n. AreWorldsStopped files may_fail (l.left - n) rest stop) read.1 h)));
       same = λ n. c.in_ok-read.ensures.same n ∙ l.invariant.same n;
       later = omega (arith, l.invariant.later, c.in_ok-read.ensures.later);
+      sound = λ may. l.invariant.sound (c.in_ok-read.ensures.sound may);
       unrefused = c.in_ok-read.ensures.unrefused ∙ l.invariant.unrefused;
     }
 

@@ -1,4 +1,5 @@
 use Rattle.std.proofs.Common.{◌≡◌, ◌≤◌, ℕ, List, ◌++◌, drop}
+use Rattle.std.specs.Prelude.{IsTrue}
 use Rattle.mw_multi.specs.World.{World}
 use Rattle.mw_offline.specs.Tables.{max_world_files, WorldsOf, AreWorldsStopped}
 use Rattle.mw_offline.specs.declared.stop.Stop.{Stop}
@@ -10,9 +11,10 @@ abbrev pub invariant-loop-file : goal.invariant-loop-file
 invariant-loop-file g l = record {
   worlds : (ws : List World) → WorldsOf (g.F.Folder.holds l.initial.folder) l.left (drop l.file-index l.files) ws
       → WorldsOf (g.F.Folder.holds l.initial.folder) max_world_files l.files (l.worlds ++ ws);
-  stopped : (stop : Stop TableCause) → AreWorldsStopped (g.F.Folder.holds l.initial.folder) l.left (drop l.file-index l.files) stop
-      → AreWorldsStopped (g.F.Folder.holds l.initial.folder) max_world_files l.files stop;
+  stopped : (stop : Stop TableCause) → AreWorldsStopped (g.F.Folder.holds l.initial.folder) (g.F.Folder.may_fail l.initial.folder) l.left (drop l.file-index l.files) stop
+      → AreWorldsStopped (g.F.Folder.holds l.initial.folder) (g.F.Folder.may_fail l.initial.folder) max_world_files l.files stop;
   same : (n : List ℕ) → g.F.Folder.holds l.folder n ≡ g.F.Folder.holds l.initial.folder n;
   later : g.F.Folder.faults l.initial.folder ≤ g.F.Folder.faults l.folder;
+  sound : IsTrue (g.F.Folder.may_fail l.folder) → IsTrue (g.F.Folder.may_fail l.initial.folder);
   unrefused : g.F.Folder.refusals l.folder ≡ g.F.Folder.refusals l.initial.folder;
 }
