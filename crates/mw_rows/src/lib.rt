@@ -18,6 +18,8 @@ mod lock_sums;
 #[cfg(test)]
 mod lock_workers;
 #[cfg(test)]
+mod native;
+#[cfg(test)]
 mod reaching;
 #[cfg(test)]
 mod room_a;

@@ -1,0 +1,229 @@
+ghost use Rattle.std.specs.Prelude.{◌≡◌, ◌≤◌, ◌++◌, [], ◌∷◌, true, IfOk, length};
+ghost use Rattle.std.specs.List.{AllZip};
+ghost use Rattle.mw_rules.specs.Rule.{always, has};
+ghost use Rattle.mw_rules.specs.View.{view};
+ghost use Rattle.mw_multi.specs.Steps.{rule_list, world_rules};
+ghost use Rattle.mw_native.specs.Told.{IsNamed};
+
+use mw_base::{List, Memory};
+use mw_fill::{Seed, generate, generate_by};
+use mw_multi::{Joint, Players, Put, TreeRules, World};
+use mw_native::{Pair, Told};
+use mw_rules::{Named, Rule};
+use mw_tables::{read_players, read_world};
+use std::alloc::Global;
+use std::test::Fail;
+
+/// First is always there, Second takes a sword, and so does the goal. The places are Menu, First and Second.
+const SWORDS: &str =
+    r#"{"format":"mw-world-1","game":"G","regions":["Menu"],"items":[{"name":"Sword","id":1,"class":"progression"},{"name":"Coin","id":2,"class":"filler"}],"entrances":[],"locations":[{"name":"First","id":1,"region":"Menu","rule":true},{"name":"Second","id":2,"region":"Menu","rule":{"has":"Sword"}}],"pool":[{"item":"Sword","count":1}],"filler":"Coin","goal":{"has":"Sword"}}"#;
+
+/// Here the first location takes the key, and the second is always there.
+const KEYS: &str =
+    r#"{"format":"mw-world-1","game":"H","regions":["Menu"],"items":[{"name":"Key","id":1,"class":"progression"},{"name":"Shell","id":2,"class":"filler"}],"entrances":[],"locations":[{"name":"Chest","id":1,"region":"Menu","rule":{"has":"Key"}},{"name":"Shelf","id":2,"region":"Menu","rule":true}],"pool":[{"item":"Key","count":1}],"filler":"Shell","goal":{"has":"Key"}}"#;
+
+const ANN: &str = r#"{"format":"mw-players-1","players":[{"names":["Ann"],"world":"swords"}]}"#;
+
+const BOB: &str = r#"{"format":"mw-players-1","players":[{"names":["Bob"],"world":"keys"}]}"#;
+
+const BOTH: &str =
+    r#"{"format":"mw-players-1","players":[{"names":["Ann"],"world":"swords"},{"names":["Bob"],"world":"keys"}]}"#;
+
+/// No items and no places.
+fn nothing(alloc: Global) -> Named
+    ensures { IsNamed always result }
+{
+    let items = List::new(alloc);
+    let places = List::new(alloc);
+    Named { items, places }
+}
+
+/// The first item.
+fn first_item(alloc: Global) -> Result<Named, Memory>
+    ensures { IfOk result (IsNamed (has 0 1)) }
+{
+    let mut items = List::new(alloc);
+    items.push(0)?;
+    let places = List::new(alloc);
+    Ok(Named { items, places })
+}
+
+/// What the rules of the swords name.
+fn sword_names(alloc: Global) -> Result<List<Named>, Memory>
+    ensures names { IfOk result (AllZip IsNamed (always ∷ has 0 1 ∷ has 0 1 ∷ [])) }
+    ensures three { IfOk result (λ named. length named ≡ 3) }
+{
+    let mut named = List::new(alloc);
+    named.push(nothing(alloc))?;
+    named.push(first_item(alloc)?)?;
+    named.push(first_item(alloc)?)?;
+    Ok(named)
+}
+
+/// Whether it is the rule that always holds.
+fn is_open(rule: &Rule) -> bool
+    ensures { result ≡ true → view rule.now ≡ always }
+{
+    matches!(rule, Rule::Always)
+}
+
+/// Whether it is the rule that takes one of the first item.
+fn takes_one(rule: &Rule) -> bool
+    ensures { result ≡ true → view rule.now ≡ has 0 1 }
+{
+    matches!(rule, Rule::Has { item: 0, count: 1 })
+}
+
+/// Whether the world's rules are those of the swords.
+fn has_swords(world: &World) -> bool
+    ensures { result ≡ true → world_rules world.now ≡ always ∷ has 0 1 ∷ has 0 1 ∷ [] }
+{
+    let [] = world.entrances.as_slice() else {
+        return false;
+    };
+    let [first, second] = world.locations.as_slice() else {
+        return false;
+    };
+    is_open(&first.rule) && takes_one(&second.rule) && takes_one(&world.goal)
+}
+
+/// Whether the world's rules are those of the keys.
+fn has_keys(world: &World) -> bool
+    ensures { result ≡ true → world_rules world.now ≡ has 0 1 ∷ always ∷ has 0 1 ∷ [] }
+{
+    let [] = world.entrances.as_slice() else {
+        return false;
+    };
+    let [first, second] = world.locations.as_slice() else {
+        return false;
+    };
+    takes_one(&first.rule) && is_open(&second.rule) && takes_one(&world.goal)
+}
+
+/// Whether the joint is of the swords alone.
+fn is_of_swords(joint: &Joint) -> bool
+    ensures { result ≡ true → rule_list joint.now ≡ always ∷ has 0 1 ∷ has 0 1 ∷ [] }
+{
+    let [slot] = joint.slots.as_slice() else {
+        return false;
+    };
+    let world = slot.world;
+    has_swords(world)
+}
+
+/// Whether the joint is of the keys alone.
+fn is_of_keys(joint: &Joint) -> bool
+    ensures { result ≡ true → rule_list joint.now ≡ has 0 1 ∷ always ∷ has 0 1 ∷ [] }
+{
+    let [slot] = joint.slots.as_slice() else {
+        return false;
+    };
+    let world = slot.world;
+    has_keys(world)
+}
+
+/// Whether the joint is of the swords and then the keys.
+fn is_of_both(joint: &Joint) -> bool
+    ensures { result ≡ true → rule_list joint.now
+        ≡ (always ∷ has 0 1 ∷ has 0 1 ∷ []) ++ (has 0 1 ∷ always ∷ has 0 1 ∷ []) }
+{
+    let [ann, bob] = joint.slots.as_slice() else {
+        return false;
+    };
+    let first = ann.world;
+    let second = bob.world;
+    has_swords(first) && has_keys(second)
+}
+
+/// The joint of the players, whose worlds have these tables.
+fn joint_of<'a>(
+    alloc: Global,
+    worlds: &'a List<World>,
+    players: &'a Players,
+) -> Result<Joint<'a>, Fail> {
+    let files = players.world_files(alloc)?;
+    if worlds.len() != files.len() {
+        return Err(Fail::from("another number of files"));
+    }
+    Ok(Joint::build(alloc, worlds, players)?)
+}
+
+/// The seed by a closure that answers by the number.
+fn seed_by_closure(alloc: Global, joint: &Joint, seed: u64) -> Result<Seed, Fail> {
+    if !is_of_swords(joint) {
+        return Err(Fail::from("other rules"));
+    }
+    let named = sword_names(alloc)?;
+    let rules = Told::new(named, |number, counts, _places| match number {
+        0 => true,
+        1 | 2 => counts[0] >= 1,
+        _ => false,
+    });
+    Ok(generate_by(alloc, joint, &rules, seed, 10)?)
+}
+
+/// The seed by that closure and the trees of a joint of the keys.
+fn seed_by_pair(alloc: Global, joint: &Joint, second: &Joint, seed: u64) -> Result<Seed, Fail> {
+    if !is_of_both(joint) || !is_of_keys(second) {
+        return Err(Fail::from("other rules"));
+    }
+    let named = sword_names(alloc)?;
+    let told = Told::new(named, |number, counts, _places| match number {
+        0 => true,
+        1 | 2 => counts[0] >= 1,
+        _ => false,
+    });
+    let trees = TreeRules::of(alloc, second)?;
+    match Pair::new(told, trees) {
+        Ok(rules) => Ok(generate_by(alloc, joint, &rules, seed, 10)?),
+        Err(_) => Err(Fail::from("too many rules")),
+    }
+}
+
+#[test]
+fn a_closure_answers_the_rules_of_one_sword(rt: HostRuntime) -> Result<(), Fail> {
+    let alloc = rt.alloc();
+    let players = read_players(alloc, ANN.as_bytes())?;
+    let mut worlds = List::new(alloc);
+    worlds.push(read_world(alloc, SWORDS.as_bytes())?)?;
+    let joint = joint_of(alloc, &worlds, &players)?;
+    for seed in 0..10 {
+        let found = seed_by_closure(alloc, &joint, seed)?;
+        let [first, second] = found.placement.as_slice() else {
+            return Err(Fail::from("not two locations"));
+        };
+        let sword = Put {
+            place: 1,
+            receiver: 1,
+            item: 0,
+        };
+        let coin = Put {
+            place: 2,
+            receiver: 1,
+            item: 1,
+        };
+        assert!(rt; *first == sword && *second == coin);
+    }
+    Ok(())
+}
+
+#[test]
+fn a_closure_and_trees_answer_as_the_trees_of_both(rt: HostRuntime) -> Result<(), Fail> {
+    let alloc = rt.alloc();
+    let players = read_players(alloc, BOTH.as_bytes())?;
+    let mut worlds = List::new(alloc);
+    worlds.push(read_world(alloc, SWORDS.as_bytes())?)?;
+    worlds.push(read_world(alloc, KEYS.as_bytes())?)?;
+    let joint = joint_of(alloc, &worlds, &players)?;
+    let bob = read_players(alloc, BOB.as_bytes())?;
+    let mut keys = List::new(alloc);
+    keys.push(read_world(alloc, KEYS.as_bytes())?)?;
+    let second = joint_of(alloc, &keys, &bob)?;
+    for seed in 0..10 {
+        let found = seed_by_pair(alloc, &joint, &second, seed)?;
+        let by_trees = generate(alloc, &joint, seed, 10)?;
+        assert!(rt; found.stream == by_trees.stream);
+        assert!(rt; found.placement.as_slice() == by_trees.placement.as_slice());
+    }
+    Ok(())
+}
