@@ -9,27 +9,39 @@ use Rattle.mw_cli.specs.Words.{bad_words}
 use Rattle.mw_cli.specs.declared.command_line.CommandLine.{CommandLine}
 use Rattle.mw_cli.specs.declared.command_line.CommandLine.TheVariants.{Generate, Check, Reach, Drive}
 
--- what the folder's files were and are, the input before and after with what it tells is left, what the out sink held
--- before and after, and what the error sink was told
+-- what the folder's files were and are, the input before and after with what it tells is left, what
+-- the out sink held before and after and how often it failed, and what the error sink was told
 pub record Around (S : Type 0) : Type 0 where
   pub wrote : Wrote
   pub left : S → Option (List ℕ)
   pub input : S
   pub input_after : S
-  pub old : Option (List ℕ)
-  pub new : Option (List ℕ)
+  pub out : Told
   pub told : Told
 
-abbrev pub around : {S : Type 0} → Wrote → (S → Option (List ℕ)) → S → S → Option (List ℕ) → Option (List ℕ) → Told → Around S
-around wrote left input after old new told = record { wrote = wrote; left = left; input = input; input_after = after; old = old; new = new; told = told }
+abbrev pub around : {S : Type 0} → Wrote → (S → Option (List ℕ)) → S → S → Told → Told → Around S
+around wrote left input after out told = record {
+  wrote = wrote;
+  left = left;
+  input = input;
+  input_after = after;
+  out = out;
+  told = told;
+}
 
 -- what a command line asks for ended with this status
 abbrev pub LineEnds : {S : Type 0} → CommandLine → ℕ → Around S → Type 0
-LineEnds (Generate w) status a = GenerateEnds status a.wrote (wanted_in w) a.old a.new a.told
-LineEnds (Check w) status a = CheckEnds status a.wrote.before (asked_in w) a.old a.new a.told
-LineEnds (Reach w) status a = ReachEnds status a.wrote.before w.players a.old a.new a.told
-LineEnds (Drive w) status a = DriveEnds a.left status (a.wrote.before w.multidata) a.input a.input_after a.old a.new a.told
+LineEnds (Generate w) status a = GenerateEnds status a.wrote (wanted_in w) a.out a.told
+LineEnds (Check w) status a =
+    CheckEnds status a.wrote.before a.wrote.may_fail (asked_in w) a.out a.told
+LineEnds (Reach w) status a =
+    ReachEnds status a.wrote.before a.wrote.may_fail w.players a.out a.told
+LineEnds (Drive w) status a =
+    DriveEnds a.left status (a.wrote.before w.multidata) a.wrote.may_fail a.input a.input_after a.out
+    a.told
 
 -- words that are no command are told of as such, but where memory runs out before that is seen
 abbrev pub RefusalEnds : ℕ → Told → Type 0
-RefusalEnds status told = ((status ≡ 2) × IsTold told bad_words) ⊎ ((status ≡ 6) × IsTold told (codes "no memory\n"))
+RefusalEnds status told =
+    ((status ≡ 2) × IsTold told bad_words)
+    ⊎ ((status ≡ 6) × IsTold told (codes "no memory\n"))

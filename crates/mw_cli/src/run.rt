@@ -28,8 +28,8 @@ fn run_line<F: Folder, S: Source, O: Sink, E: Sink>(
 ) -> u8
     requires tries { HasTries line.now }
     ensures ends { LineEnds line.now result
-        (around (wrote_by F.holds F.refusals folder.old folder.new)
-        S.left input.old input.new (O.held out.old) (O.held out.new)
+        (around (wrote_by F.holds F.may_fail F.refusals folder.old folder.new)
+        S.left input.old input.new (told_by O.held O.faults out.old out.new)
         (told_by E.held E.refusals err.old err.new)) }
     ensures input { ((multidata : List ℕ) → line.now ≡ drive_line multidata → ⊥) → input.new
         ≡ input.old }
@@ -49,15 +49,16 @@ fn run_line<F: Folder, S: Source, O: Sink, E: Sink>(
 
 /// Does what the command line's words after the program's name say, and answers the status.
 ///
-/// 0: all is done. 1: the checked seed file is of other tables, or its placement or spheres aren't right. 2: the words are
-/// no command. 3: a players file, a world file or their joint is refused, or no fill is tried, since a goal can't be met or
-/// there are more items than locations. 4: each try is stuck. 5: the folder, the input or the out sink failed. 6: memory
-/// ran out. 7: the seed file or the script is refused. With a status other than 0 the error sink gets that status's line, or
-/// a front of it where it refuses.
+/// 0: all is done. 1: the checked seed file is of other tables, or its placement or spheres aren't
+/// right. 2: the words are no command. 3: a players file, a world file or their joint is refused,
+/// or no fill is tried, since a goal can't be met or there are more items than locations. 4: each
+/// try is stuck. 5: the folder, the input or the out sink failed. 6: memory ran out. 7: the seed
+/// file or the script is refused. With a status other than 0 the error sink gets that status's
+/// line, or a front of it where it refuses.
 ///
-/// Of the folder's files `generate` alone changes one, the seed file that its words name: with 0 it is written; with 5 or 6
-/// it is as it was or is written, or the folder refused to write it; and else it isn't touched. `drive` alone reads the
-/// input, and not where the seed file is refused.
+/// Of the folder's files `generate` alone changes one, the seed file that its words name: with 0 it
+/// is written; with 5 or 6 it is as it was or is written, or the folder refused to write it; and
+/// else it isn't touched. `drive` alone reads the input, and not where the seed file is refused.
 #[tactic(auto, using(crate::proofs::Asking::has_tries))]
 pub fn run<F: Folder, S: Source, O: Sink, E: Sink>(
     alloc: Global,
@@ -68,17 +69,18 @@ pub fn run<F: Folder, S: Source, O: Sink, E: Sink>(
     err: &mut E,
 ) -> u8
     ensures generate { (wanted : Wanted) → IsGenerate words.now wanted
-        → GenerateEnds result (wrote_by F.holds F.refusals folder.old folder.new) wanted
-        (O.held out.old) (O.held out.new) (told_by E.held E.refusals err.old err.new) }
+        → GenerateEnds result (wrote_by F.holds F.may_fail F.refusals folder.old folder.new) wanted
+        (told_by O.held O.faults out.old out.new) (told_by E.held E.refusals err.old err.new) }
     ensures check { (asked : Asked) → IsCheck words.now asked
-        → CheckEnds result (F.holds folder.old) asked (O.held out.old) (O.held out.new)
-        (told_by E.held E.refusals err.old err.new) }
+        → CheckEnds result (F.holds folder.old) (F.may_fail folder.old) asked
+        (told_by O.held O.faults out.old out.new) (told_by E.held E.refusals err.old err.new) }
     ensures reach { (players : List ℕ) → IsReach words.now players
-        → ReachEnds result (F.holds folder.old) players (O.held out.old) (O.held out.new)
-        (told_by E.held E.refusals err.old err.new) }
+        → ReachEnds result (F.holds folder.old) (F.may_fail folder.old) players
+        (told_by O.held O.faults out.old out.new) (told_by E.held E.refusals err.old err.new) }
     ensures drive { (name : List ℕ) → IsDrive words.now name
-        → DriveEnds S.left result (F.holds folder.old name) input.old input.new
-        (O.held out.old) (O.held out.new) (told_by E.held E.refusals err.old err.new) }
+        → DriveEnds S.left result (F.holds folder.old name) (F.may_fail folder.old) input.old
+        input.new (told_by O.held O.faults out.old out.new)
+        (told_by E.held E.refusals err.old err.new) }
 
     // Memory may run out before words are seen to be no command.
     ensures other { IsNoCommand words.now → (out.new ≡ out.old) × (folder.new ≡ folder.old)
