@@ -1,11 +1,11 @@
 ghost use Rattle.std.specs.Prelude.{◌≡◌, ◌≤◌, ◌++◌, IfOk, OnOk, OnErr, map, string_bytes};
 ghost use Rattle.std.specs.Io.KnownBytes.{Appends};
 ghost use Rattle.mw_edges.specs.Causes.{Rose, PutsFront};
-ghost use Rattle.mw_protocol.specs.Room.{next};
+ghost use Rattle.mw_protocol.specs.Room.{next, session_of};
 ghost use Rattle.mw_room.specs.Events.{event_view};
 ghost use Rattle.mw_room.specs.Views.{room_view};
-ghost use Rattle.mw_offline.specs.Commands.{command_view};
-ghost use Rattle.mw_offline.specs.Drive.{message_line, message_lines, gone_line, piece, after, drive_text};
+ghost use Rattle.mw_offline.specs.Commands.{command_view, opens, takes};
+ghost use Rattle.mw_offline.specs.Drive.{message_line, message_lines, gone_line, sent_text, if_open, piece, after, drive_text};
 
 use crate::command::Command;
 use mw_base::{List, Memory, SessionId, Text};
@@ -61,6 +61,44 @@ fn gone(alloc: Global, session: u64) -> Result<String, Memory>
     Ok(format!(in alloc; "{session} gone\n")?)
 }
 
+/// Opens a session.
+fn open(alloc: Global, room: &mut Room, time: u64) -> Result<String, Memory>
+    ensures text { IfOk result (λ t. string_bytes t ≡ piece (room_view room.old) (opens time)) }
+    ensures room { OnOk result (room_view room.new ≡ after (room_view room.old) (opens time)) }
+{
+    act(room, &Event::Open { time })?;
+    Ok(String::new(alloc))
+}
+
+/// Does a session's packet, whose event this is, where the session is open.
+fn send(alloc: Global, room: &mut Room, session: SessionId, event: &Event) -> Result<String, Memory>
+    ensures text { IfOk result
+        (λ t. string_bytes t ≡ sent_text session (session_of (room_view room.old) session)) }
+    ensures room { OnOk result (room_view room.new ≡ if_open (session_of (room_view room.old) session)
+        (room_view room.old) (next (room_view room.old) (event_view event.now))) }
+{
+    if room.state(session) == SessionState::Shut {
+        return gone(alloc, session.get());
+    }
+    act(room, event)?;
+    Ok(String::new(alloc))
+}
+
+/// Takes a session's messages, and answers them.
+fn take(alloc: Global, room: &mut Room, session: SessionId) -> Result<String, Memory>
+    ensures text { IfOk result
+        (λ t. string_bytes t ≡ piece (room_view room.old) (takes session)) }
+    ensures room { OnOk result (room_view room.new ≡ after (room_view room.old) (takes session)) }
+{
+    if room.state(session) == SessionState::Shut {
+        return gone(alloc, session.get());
+    }
+    let texts = room.take(session);
+    let mut out = String::new(alloc);
+    add_messages(&mut out, session.get(), &texts)?;
+    Ok(out)
+}
+
 /// Does a command, and answers what it prints.
 fn do_command(alloc: Global, room: &mut Room, command: Command) -> Result<String, Memory>
     ensures text { IfOk result
@@ -69,34 +107,13 @@ fn do_command(alloc: Global, room: &mut Room, command: Command) -> Result<String
         (room_view room.new ≡ after (room_view room.old) (command_view command)) }
 {
     match command {
-        Command::Open { time } => {
-            act(room, &Event::Open { time })?;
-            Ok(String::new(alloc))
-        }
+        Command::Open { time } => open(alloc, room, time),
         Command::Send { session, packet } => {
-            let number = SessionId::new(session).unwrap();
-            if room.state(number) == SessionState::Shut {
-                return gone(alloc, session);
-            }
-            act(
-                room,
-                &Event::Packet {
-                    session: number,
-                    packet,
-                },
-            )?;
-            Ok(String::new(alloc))
+            let session = SessionId::new(session).unwrap();
+            let event = Event::Packet { session, packet };
+            send(alloc, room, session, &event)
         }
-        Command::Take { session } => {
-            let number = SessionId::new(session).unwrap();
-            if room.state(number) == SessionState::Shut {
-                return gone(alloc, session);
-            }
-            let texts = room.take(number);
-            let mut out = String::new(alloc);
-            add_messages(&mut out, session, &texts)?;
-            Ok(out)
-        }
+        Command::Take { session } => take(alloc, room, SessionId::new(session).unwrap()),
     }
 }
 
