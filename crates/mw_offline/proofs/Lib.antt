@@ -5,7 +5,6 @@ pub mod Connections
 pub mod Digits
 pub mod Front
 pub mod Judged
-pub mod Messages
 pub mod Puts
 pub mod Steps
 pub mod Texts
