@@ -1,5 +1,5 @@
-use mw_base::{List, Text};
-use mw_datapack::{checksum, game_data, package};
+use mw_base::Text;
+use mw_datapack::{checksum, game_data};
 use mw_json::compact_text;
 use mw_multidata::{RoomTables, read};
 use std::test::Fail;
@@ -37,23 +37,5 @@ fn other_games_have_nothing(rt: HostRuntime) -> Result<(), Fail> {
         assert!(rt; checksum(rt.alloc(), &tables, &game)?.is_none());
         assert!(rt; game_data(rt.alloc(), &tables, &game)?.is_none());
     }
-    Ok(())
-}
-
-#[test]
-fn a_package_has_the_wanted_games(rt: HostRuntime) -> Result<(), Fail> {
-    let tables = RoomTables::of(rt.alloc(), read(rt.alloc(), SEED.as_bytes())?)?;
-    let all = package(rt.alloc(), &tables, &None)?;
-    assert_eq!(rt;
-        compact_text(rt.alloc(), &all)?.as_str(),
-        r#"{"games":{"G":{"checksum":"3140df20051ca1c7a5dd4f886f8945c613c6fbba","item_name_to_id":{"Boots":5,"Coin":8,"Map":9,"Sword":7},"location_name_to_id":{"A1":101,"A2":102,"B1":201}}}}"#
-    );
-    let mut names = List::new(rt.alloc());
-    names.push(Text::of(rt.alloc(), "F")?)?;
-    let none = package(rt.alloc(), &tables, &Some(names))?;
-    assert_eq!(rt;
-        compact_text(rt.alloc(), &none)?.as_str(),
-        r#"{"games":{}}"#
-    );
     Ok(())
 }
