@@ -1,12 +1,16 @@
 -- The log that grows, beside the journal's checks.
-use Rattle.std.proofs.Common.{◌≡◌, ℕ, ℤ, ◌+◌, ◌<◌, List, [], ◌∷◌, ◌++◌, ◌&&◌, ◌==◌, Bool, true, false, length, drop, get_or, Option, Some, None, refl, sym, ap, ap₂, ◌∙◌, append_assoc, append-nil, cond}
+use Rattle.std.proofs.Common.{◌≡◌, ℕ, ℤ, ◌+◌, ◌<◌, List, [], ◌∷◌, ◌++◌, ◌&&◌, ◌==◌, Bool, true, false, length, drop, get_or, map, Option, Some, None, refl, sym, ap, ap₂, ◌∙◌, append_assoc, append-nil, cond}
 use Rattle.std.specs.Option.{option_to_list, is_some}
 use Rattle.std.specs.Ordering.{int_eq}
 use Rattle.std.proofs.lemmas.Bool.Decides.{Decides-and, Decides-eqb, Decides-int_eq}
 use Rattle.std.proofs.lemmas.List.{map-append, drop_more}
-use Rattle.mw_model.specs.Seed.{Seed, Held, held_among}
+use Rattle.mw_model.specs.Items.{NetItem}
+use Rattle.mw_model.specs.Seed.{Seed, Held, held_among, held_at}
 use Rattle.mw_protocol.specs.Checks.{Check, has_check, checks_at, unseen, items_found, item_for, found_item}
-use Rattle.mw_protocol.specs.Effects.{known}
+use Rattle.mw_protocol.specs.Effects.{known, new_checks, scouted, scouted_item, scouted_at}
+use Rattle.mw_protocol.specs.Connecting.{Member}
+use Rattle.mw_protocol.specs.Standing.{Standing}
+use Rattle.mw_room.specs.Scouting.{scout_of}
 use Rattle.mw_room.specs.Log.{Logged, logged_check, checks_in, AllHeld, items_in, entry_unless, fresh_entry, fresh_entries}
 
 -- one number more
@@ -60,6 +64,11 @@ entries_are seed seen team slot (n ∷ ns) =
           ])
     ]) refl
 
+-- so they are the new checks of a standing
+pub entries_are_new : (seed : Seed) (now : Standing) (team slot : ℕ) (ns : List ℤ)
+    → checks_in (fresh_entries seed.locations now.checked team slot ns) ≡ new_checks seed now team slot ns
+entries_are_new seed now team slot ns = entries_are seed now.checked team slot ns
+
 pub AllHeld-append : (seed : Seed) (xs ys : List Logged) → AllHeld seed xs → AllHeld seed ys → AllHeld seed (xs ++ ys)
 AllHeld-append seed [] ys h k = k
 AllHeld-append seed (x ∷ xs) ys h k = (h.0, AllHeld-append seed xs ys h.1 k)
@@ -85,3 +94,40 @@ items_logged seed team slot [] h = refl
 items_logged seed team slot (e ∷ es) h =
     ap₂ (λ o is. item_for team slot (logged_check e) o ++ is) h.0 (items_logged seed team slot es h.1)
     ∙ elim ((e.team == team) && (e.held.receiver == slot)) as (λ b. cond b (found_item e.held ∷ []) [] ++ items_in team slot es ≡ cond b (found_item e.held ∷ items_in team slot es) (items_in team slot es)) [ true ↦ refl | false ↦ refl ]
+
+-- ---- what stands at the new entries
+
+scouted_at-append : (seed : Seed) (slot : ℕ) (xs ys : List Check) → scouted_at seed slot (xs ++ ys) ≡ scouted_at seed slot xs ++ scouted_at seed slot ys
+scouted_at-append seed slot [] ys = refl
+scouted_at-append seed slot (c ∷ xs) ys =
+    ap (λ is. scouted_item (held_at seed slot c.location) ++ is) (scouted_at-append seed slot xs ys)
+    ∙ sym (append_assoc (scouted_item (held_at seed slot c.location)) (scouted_at seed slot xs) (scouted_at seed slot ys))
+
+abbrev scouts_of : List Logged → List NetItem
+scouts_of log = map (λ e. scout_of e.held) log
+
+entry_is_scouted : (seed : Seed) (team slot : ℕ) (n : ℤ) (b : Bool) (o : Option Held) → held_among seed.locations slot n ≡ o
+    → scouted_at seed slot (checks_in (option_to_list (entry_unless b team o))) ≡ scouts_of (option_to_list (entry_unless b team o))
+entry_is_scouted seed team slot n b None e = refl
+entry_is_scouted seed team slot n true (Some h) e = refl
+entry_is_scouted seed team slot n false (Some h) e =
+    let is = held_is seed.locations slot n h e in
+    ap (λ o. scouted_item o ++ []) (ap (held_among seed.locations slot) is.1 ∙ e)
+
+pub entries_scouted : (seed : Seed) (seen : List Check) (team slot : ℕ) (ns : List ℤ)
+    → scouted_at seed slot (checks_in (fresh_entries seed.locations seen team slot ns)) ≡ scouts_of (fresh_entries seed.locations seen team slot ns)
+entries_scouted seed seen team slot [] = refl
+entries_scouted seed seen team slot (n ∷ ns) =
+    let entry = option_to_list (fresh_entry seed.locations seen team slot n) in
+    let others = fresh_entries seed.locations (seen ++ checks_in entry) team slot ns in
+    ap (scouted_at seed slot) (map-append logged_check entry others)
+    ∙ scouted_at-append seed slot (checks_in entry) (checks_in others)
+    ∙ ap₂ (λ xs ys. xs ++ ys)
+    (entry_is_scouted seed team slot n (has_check seen record { team = team; slot = slot; location = n }) (held_among seed.locations slot n) refl)
+    (entries_scouted seed (seen ++ checks_in entry) team slot ns)
+    ∙ sym (map-append (λ e. scout_of e.held) entry others)
+
+-- a member's scouting is of the entries that an empty log lacks
+pub scouted_entries : (seed : Seed) (m : Member) (ns : List ℤ) → scouted seed m ns ≡ map (λ e. scout_of e.held) (fresh_entries seed.locations [] m.team m.slot ns)
+scouted_entries seed m ns =
+    ap (scouted_at seed m.slot) (sym (entries_are seed [] m.team m.slot ns)) ∙ entries_scouted seed [] m.team m.slot ns

@@ -1,5 +1,5 @@
 -- The games that are played ascend, as the seed's games do.
-use Rattle.std.proofs.Common.{◌≡◌, ℕ, List, [], ◌∷◌, Bool, true, false, map}
+use Rattle.std.proofs.Common.{ℕ, List, [], ◌∷◌, Bool, true, false, map}
 use Rattle.std.specs.Prelude.{if◌then◌else◌}
 use Rattle.std.specs.Ordering.{nat_cmp}
 use Rattle.std.specs.Cmp.Lexicographic.{slice_cmp}

@@ -1,9 +1,13 @@
-pub mod Accepted
-pub mod Answered
-pub mod Changing
-pub mod Entries
-pub mod Games
-pub mod Grown
-pub mod Journal
-pub mod Numbers
-pub mod Sessions
+mod Checks
+mod Effects
+mod Entries
+mod Games
+mod Grown
+mod Joined
+mod Keeping
+mod Messages
+mod Numbers
+mod Places
+mod Planning
+mod Sparse
+mod Turns

@@ -1,9 +1,9 @@
-pub mod Accepting
-pub mod Answering
-pub mod Events
 pub mod Fits
+pub mod Joining
+pub mod Kept
+pub mod Known
 pub mod Log
 pub mod Playable
+pub mod Scouting
 pub mod Stands
-pub mod States
 pub mod Views

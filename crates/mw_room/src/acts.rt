@@ -1,74 +1,60 @@
-ghost use Rattle.std.specs.Prelude.{◌≡◌, ◌+◌, ◌∷◌, [], IfOk, length, map, option_map, slice_get};
-ghost use Rattle.std.specs.Option.{option_copied};
-ghost use Rattle.mw_protocol.specs.Room.{empty_room, new_session as new_session_lem, next, records_by, taken, nth_session, connection_in, session_of, opened, sent};
-ghost use Rattle.mw_packets_in.specs.View.{packet_view};
-ghost use Rattle.mw_room.specs.Events.{event_view};
-ghost use Rattle.mw_room.specs.Fits.{Fits};
-ghost use Rattle.mw_room.specs.States.{state_of, untaken_in, IsOpen};
-ghost use Rattle.mw_room.specs.Views.{room_view, session_view, plan_records, planned};
+ghost use Rattle.std.specs.Prelude.{◌≡◌, ◌+◌, ◌++◌, ◌∷◌, [], IfOk, map, length};
+ghost use Rattle.mw_protocol.specs.Effects.{Effect as plain_effect};
+ghost use Rattle.mw_protocol.specs.Rooms as plain;
+ghost use Rattle.mw_packets_in.specs.View.{packet_view, bad_view};
+ghost use Rattle.mw_room.specs.Fits.{Fits, ChangesFit};
+ghost use Rattle.mw_room.specs.Known.{Known, greeted, texts_at, known_affected, known_next, known_taken};
+ghost use Rattle.mw_room.specs.Stands.{Stands, Plans, IsPlan, state_of};
+ghost use Rattle.mw_room.specs.Views.{room_view, session_view, event_view, effect_view, planned, plan_records, made, IsLogged};
 
-use crate::answers::room_info;
-use crate::changes::new_entries;
+use crate::changes::changes_for;
+use crate::effect::Effect;
 use crate::event::Event;
+use crate::packets::{bad_effect, effect_of, nothing};
+use crate::people::room_info;
 use crate::plan::Plan;
-use crate::playable::playable;
 use crate::room::Room;
-use crate::session::{Connection, Session};
+use crate::session::{Change, Session};
+use crate::sessions::{change_all, close_lost, member_of, state_in, take_texts};
 use crate::state::SessionState;
-use crate::steps::{change_all, changes_for, records_for};
 use mw_base::{Growth, List, Memory, SessionId, Text};
 use mw_multidata::RoomTables;
-use mw_packets_in::Packet;
+use mw_packets_in::{Bad, Packet};
 use mw_packets_out::{ServerPacket, write_message};
 use std::alloc::Global;
 
-/// The session at an index, which counts from 0.
-fn session_before(sessions: &[Session], before: usize) -> Option<&Session>
-    ensures { option_copied result ≡ slice_get sessions.now before }
+/// Fewer sessions than this are ever opened: 2^63.
+const MOST_OPENED: u64 = 0x8000_0000_0000_0000;
+
+/// A list of one session.
+fn only(alloc: Global, session: Session) -> Result<Vec<Session>, Memory>
+    ensures { IfOk result (λ v. v.items ≡ session ∷ []) }
 {
-    sessions.get(before)
+    let mut sessions = Vec::new(alloc);
+    sessions.push(session)?;
+    Ok(sessions)
 }
 
-/// The session of a number, which counts from 1.
-fn session_at(sessions: &[Session], number: u64) -> Option<&Session>
-    ensures { option_map (λ s. session_view s.now) result ≡ nth_session (map session_view sessions.now) number }
+/// A list of one text.
+fn first_text(alloc: Global, text: Text) -> Result<Vec<Text>, Memory>
+    ensures { IfOk result (λ v. v.items ≡ text ∷ []) }
 {
-    if number == 0 {
-        return None;
-    }
-    session_before(sessions, number as usize - 1)
-}
-
-/// The connection of a session, if it has one.
-fn connection_at(sessions: &[Session], number: u64) -> Option<Connection>
-    ensures { result ≡ connection_in (nth_session (map session_view sessions.now) number) }
-{
-    match session_at(sessions, number) {
-        Some(session) => session.connection,
-        None => None,
-    }
-}
-
-/// A list of one element.
-fn only<T: Drop>(alloc: Global, item: T) -> Result<Vec<T>, Memory>
-    ensures { IfOk result (λ v. v.items ≡ item ∷ []) }
-{
-    let mut items = Vec::new(alloc);
-    items.push(item)?;
-    Ok(items)
+    let mut texts = Vec::new(alloc);
+    texts.push(text)?;
+    Ok(texts)
 }
 
 impl Room {
-    /// A room that nobody has entered.
+    /// A room that nobody has entered, before its first record.
     pub fn new(alloc: Global, tables: RoomTables) -> Result<Room, Memory>
-        ensures { IfOk result (λ r. room_view r ≡ empty_room tables) }
+        ensures { IfOk result (λ room. Stands room (plain.empty_room tables)) }
     {
-        playable(tables.multidata());
         Ok(Room {
             alloc,
             tables,
-            journal: Vec::new(alloc),
             log: Vec::new(alloc),
+            recorded: 0,
+            opened: 0,
             sessions: Vec::new(alloc),
         })
     }
@@ -76,141 +62,204 @@ impl Room {
     /// Decides what an event records and owes, and takes the memory for it.
     pub fn plan(&self, event: &Event) -> Result<Plan, Memory>
         ensures fits { IfOk result (λ p. Fits self.now p) }
-        ensures event { IfOk result (λ p. planned p (room_view self.now) ≡ next (room_view self.now) (event_view event.now)) }
-        ensures records { IfOk result (λ p. plan_records p ≡ records_by (room_view self.now) (event_view event.now)) }
+        ensures plans { IfOk result (λ p. (r : plain.Room) → Stands self.now r → Plans p r (event_view event.now)) }
+    {
+        let plan = self.plan_known(event)?;
+        Ok(plan)
+    }
+
+    fn plan_known(&self, event: &Event) -> Result<Plan, Memory>
+        ensures fits { IfOk result (λ p. Fits self.now p) }
+        ensures known { IfOk result (λ p. IsPlan p (room_view self.now) (event_view event.now)) }
     {
         match event {
             Event::Open { time } => self.plan_open(*time),
             Event::Packet { session, packet } => self.plan_packet(session.get(), packet),
+            Event::Bad { session, bad } => self.plan_bad(session.get(), bad),
+            Event::Lost { session } => self.plan_lost(session.get()),
         }
     }
 
-    fn plan_open(&self, time: u64) -> Result<Plan, Memory>
-        ensures fits { IfOk result (λ p. Fits self.now p) }
-        ensures event { IfOk result (λ p. planned p (room_view self.now) ≡ next (room_view self.now) (opened time)) }
-        ensures records { IfOk result (λ p. plan_records p ≡ []) }
-    {
-        let alloc = self.alloc;
-        let opened = only(alloc, self.new_session(time)?)?;
-        let journal_growth = Growth::of(alloc, &self.journal, 0)?;
-        let log_growth = Growth::of(alloc, &self.log, 0)?;
-        let sessions_growth = Growth::of(alloc, &self.sessions, 1)?;
-        Ok(Plan {
-            records: List::new(alloc),
-            new: Vec::new(alloc),
-            changes: Vec::new(alloc),
-            opened,
-            shows: self.length(),
-            journal_growth,
-            log_growth,
-            sessions_growth,
-        })
-    }
-
     /// A session that is opened at a time.
-    fn new_session(&self, time: u64) -> Result<Session, Memory>
-        ensures { IfOk result (λ s. session_view s ≡ new_session_lem (room_view self.now) time) }
+    fn new_session(&self, number: u64, time: u64) -> Result<Session, Memory>
+        requires { number ≡ self.now.opened + 1 }
+        ensures { IfOk result (λ s. session_view s ≡ greeted (room_view self.now) time) }
     {
         let alloc = self.alloc;
         let mut packets = List::new(alloc);
         packets.push(ServerPacket::RoomInfo(room_info(alloc, self.tables.multidata(), time)?))?;
-        let untaken = only(alloc, write_message(alloc, &packets)?)?;
+        let text = write_message(alloc, &packets)?;
         Ok(Session {
-            connection: None,
-            untaken,
-            shows: self.length(),
+            number,
+            member: None,
+            untaken: first_text(alloc, text)?,
+            shows: self.recorded,
+            overrun: false,
         })
+    }
+
+    fn plan_open(&self, time: u64) -> Result<Plan, Memory>
+        ensures fits { IfOk result (λ p. Fits self.now p) }
+        ensures known { IfOk result (λ p. IsPlan p (room_view self.now) (plain.opened time)) }
+    {
+        let alloc = self.alloc;
+        let number = self.opened.checked_add(1).ok_or(Memory)?;
+        let sessions = only(alloc, self.new_session(number, time)?)?;
+        let plan = self.finish(nothing(alloc), Vec::new(alloc), None, sessions)?;
+        Ok(plan)
     }
 
     fn plan_packet(&self, sender: u64, packet: &Packet) -> Result<Plan, Memory>
         ensures fits { IfOk result (λ p. Fits self.now p) }
-        ensures event { IfOk result (λ p. planned p (room_view self.now) ≡ next (room_view self.now) (sent sender (packet_view packet.now))) }
-        ensures records { IfOk result (λ p. plan_records p ≡ records_by (room_view self.now) (sent sender (packet_view packet.now))) }
+        ensures known { IfOk result (λ p. IsPlan p (room_view self.now) (plain.sent sender (packet_view packet.now))) }
+    {
+        let member = member_of(&self.sessions, sender);
+        let effect = effect_of(self.alloc, &self.tables, &self.log, member, packet)?;
+        let plan = self.plan_effect(sender, effect)?;
+        Ok(plan)
+    }
+
+    fn plan_bad(&self, sender: u64, bad: &Bad) -> Result<Plan, Memory>
+        ensures fits { IfOk result (λ p. Fits self.now p) }
+        ensures known { IfOk result (λ p. IsPlan p (room_view self.now) (plain.failed sender (bad_view bad.now))) }
+    {
+        let effect = bad_effect(self.alloc, bad)?;
+        let plan = self.plan_effect(sender, effect)?;
+        Ok(plan)
+    }
+
+    fn plan_lost(&self, number: u64) -> Result<Plan, Memory>
+        ensures fits { IfOk result (λ p. Fits self.now p) }
+        ensures known { IfOk result (λ p. IsPlan p (room_view self.now) (plain.lost number)) }
+    {
+        let alloc = self.alloc;
+        let plan = self.finish(
+            nothing(alloc),
+            Vec::new(alloc),
+            Some(number),
+            Vec::new(alloc),
+        )?;
+        Ok(plan)
+    }
+
+    /// The plan of a sender's effect.
+    fn plan_effect(&self, sender: u64, effect: Effect) -> Result<Plan, Memory>
+        requires { IsLogged self.now.tables self.now.log.items effect }
+        ensures fits { IfOk result (λ p. Fits self.now p) }
+        ensures records { IfOk result (λ p. plan_records p ≡ (effect_view effect).records) }
+        ensures after { IfOk result (λ p. planned p (room_view self.now) ≡ known_affected (room_view self.now) sender (effect_view effect)) }
     {
         let alloc = self.alloc;
         let seed = self.tables.multidata();
-        let connection = connection_at(&self.sessions, sender);
-        let new = new_entries(alloc, seed, &self.log, &connection, packet)?;
-        // No list of checks comes so far; the bound keeps a slot's points within 64 bits.
-        if self.log.len() + new.len() >= 0x1_0000_0000 {
+        let changes = changes_for(alloc, seed, &self.log, &effect, sender, &self.sessions)?;
+        let plan = self.finish(effect, changes, None, Vec::new(alloc))?;
+        Ok(plan)
+    }
+
+    /// Takes the memory for these parts of a plan.
+    fn finish(
+        &self,
+        effect: Effect,
+        changes: Vec<Change>,
+        lost: Option<u64>,
+        new_sessions: Vec<Session>,
+    ) -> Result<Plan, Memory>
+        requires fit { ChangesFit 0 self.now.sessions.items changes.items }
+        requires logged { IsLogged self.now.tables self.now.log.items effect }
+        ensures fits { IfOk result (λ p. Fits self.now p) }
+        ensures records { IfOk result (λ p. plan_records p ≡ (effect_view effect).records) }
+        ensures made { IfOk result (λ p. planned p (room_view self.now) ≡ made (room_view self.now) effect changes.items lost new_sessions.items) }
+    {
+        let alloc = self.alloc;
+        let length = self
+            .recorded
+            .checked_add(effect.records.len() as u64)
+            .ok_or(Memory)?;
+        let opened = self
+            .opened
+            .checked_add(new_sessions.len() as u64)
+            .ok_or(Memory)?;
+        if opened >= MOST_OPENED {
             return Err(Memory);
         }
-        let records = records_for(alloc, &connection, &new)?;
-        let changes = changes_for(alloc, seed, &self.log, &new, packet, sender, &self.sessions)?;
-        let journal_growth = Growth::of(alloc, &self.journal, records.len())?;
-        let log_growth = Growth::of(alloc, &self.log, new.len())?;
-        let sessions_growth = Growth::of(alloc, &self.sessions, 0)?;
-        let shows = (self.journal.len() + records.len()) as u64;
+        let log_growth = Growth::of(alloc, &self.log, effect.new.len())?;
+        let sessions_growth = Growth::of(alloc, &self.sessions, new_sessions.len())?;
         Ok(Plan {
-            records,
-            new,
+            effect,
+            length,
+            opened,
             changes,
-            opened: Vec::new(alloc),
-            shows,
-            journal_growth,
+            lost,
+            new_sessions,
             log_growth,
             sessions_growth,
         })
     }
 
-    /// Does what a plan of this state says. It takes no memory.
+    /// Does what a plan of this room says. It takes no memory.
     pub fn apply(&mut self, plan: Plan)
+        requires { Fits self.old plan }
+        ensures stands { (r : plain.Room) (e : plain.Event) → Stands self.old r → Plans plan r e → Stands self.new (plain.next r e) }
+    {
+        self.apply_known(plan);
+    }
+
+    fn apply_known(&mut self, plan: Plan)
         requires { Fits self.old plan }
         ensures { room_view self.new ≡ planned plan (room_view self.old) }
     {
         let Plan {
-            records,
-            mut new,
+            effect,
+            length,
+            opened,
             changes,
-            mut opened,
-            shows,
-            journal_growth,
+            lost,
+            mut new_sessions,
             log_growth,
             sessions_growth,
         } = plan;
-        let mut records = records.into_vec();
-        journal_growth.fill(&mut self.journal, &mut records);
+        let Effect { mut new, .. } = effect;
         log_growth.fill(&mut self.log, &mut new);
-        change_all(&mut self.sessions, changes, shows);
-        sessions_growth.fill(&mut self.sessions, &mut opened);
-    }
-
-    /// How a session stands.
-    pub fn state(&self, session: SessionId) -> SessionState
-        ensures { result ≡ state_of (room_view self.now) session }
-    {
-        match session_at(&self.sessions, session.get()) {
-            Some(session) => SessionState::Ready {
-                shows: session.shows,
-            },
-            None => SessionState::Shut,
-        }
-    }
-
-    /// The number that the next session gets.
-    pub fn next_session(&self) -> SessionId
-        ensures { result ≡ length (room_view self.now).sessions + 1 }
-    {
-        SessionId::new(self.sessions.len() as u64 + 1).unwrap()
-    }
-
-    /// How many records the journal has.
-    pub fn length(&self) -> u64
-        ensures { result ≡ length (room_view self.now).journal }
-    {
-        self.journal.len() as u64
+        self.recorded = length;
+        self.opened = opened;
+        change_all(&mut self.sessions, changes, length);
+        sessions_growth.fill(&mut self.sessions, &mut new_sessions);
+        close_lost(&mut self.sessions, lost);
     }
 
     /// Gives a session's untaken messages, and leaves it none. It takes no memory.
     pub fn take(&mut self, session: SessionId) -> List<Text>
-        requires { IsOpen (room_view self.old) session }
-        ensures given { result ≡ untaken_in (session_of (room_view self.old) session) }
-        ensures left { room_view self.new ≡ taken (room_view self.old) session }
+        ensures given { (r : plain.Room) → Stands self.old r → result ≡ map plain.text_of (plain.untaken_of (plain.session_in r.sessions session)) }
+        ensures left { (r : plain.Room) → Stands self.old r → Stands self.new (plain.taken r session) }
     {
-        let before = session.get() as usize - 1;
-        let session = &mut self.sessions[before];
-        session.shows = 0;
-        let texts = std::mem::replace(&mut session.untaken, Vec::new(self.alloc));
-        List::from_vec(texts)
+        List::from_vec(self.take_known(session.get()))
+    }
+
+    fn take_known(&mut self, number: u64) -> Vec<Text>
+        ensures given { result.items ≡ texts_at number (room_view self.old).sessions }
+        ensures left { room_view self.new ≡ known_taken (room_view self.old) number }
+    {
+        take_texts(self.alloc, &mut self.sessions, number)
+    }
+
+    /// How a session stands.
+    pub fn state(&self, session: SessionId) -> SessionState
+        ensures { (r : plain.Room) → Stands self.now r → result ≡ state_of (plain.session_in r.sessions session) }
+    {
+        state_in(&self.sessions, session.get())
+    }
+
+    /// The number that the next session gets.
+    pub fn next_session(&self) -> SessionId
+        ensures { (r : plain.Room) → Stands self.now r → result ≡ r.opened + 1 }
+    {
+        SessionId::new(self.opened + 1).unwrap()
+    }
+
+    /// How many records the journal has.
+    pub fn length(&self) -> u64
+        ensures { (r : plain.Room) → Stands self.now r → result ≡ length r.journal }
+    {
+        self.recorded
     }
 }

@@ -1,198 +1,159 @@
-ghost use Rattle.std.specs.Prelude.{◌≡◌, ◌+◌, ◌<◌, ◌^◌, ℕ, List, None, IfOk, map, length, option_to_list};
-ghost use Rattle.mw_protocol.specs.Room.{made_by, message_of};
-ghost use Rattle.mw_protocol.specs.Owed.{items_from};
-ghost use Rattle.mw_packets_in.specs.View.{packet_view as asked};
-ghost use Rattle.mw_packets_out.specs.View.{packet_view as told};
-ghost use Rattle.mw_room.specs.Answering.{other_in, welcome_in, answer_in, after_in, new_in};
-ghost use Rattle.mw_room.specs.Log.{view_in, Logged as plain};
-ghost use Rattle.mw_room.specs.Playable.{IsPlayable};
-ghost use Rattle.mw_base.specs.Space.{HasSpace};
-ghost use Rattle.mw_room.specs.Views.{session_view, changed};
+ghost use Rattle.std.specs.Prelude.{◌≡◌, ◌++◌, ◌&&◌, ◌==◌, ◌<◌, ◌^◌, ◌+◌, ℕ, IfOk, OnOk, option_to_list, map, length};
+ghost use Rattle.mw_protocol.specs.Owed.{owed, answers_to as answers_to_lem};
+ghost use Rattle.mw_protocol.specs.Rooms.{member_after as member_after_lem};
+ghost use Rattle.mw_packets_out.specs.View.{packet_view};
+ghost use Rattle.mw_room.specs.Fits.{ChangesFit};
+ghost use Rattle.mw_room.specs.Known.{shown_after, message_of};
+ghost use Rattle.mw_room.specs.Log.{AllHeld, standing_of, grown};
+ghost use Rattle.mw_room.specs.Views.{session_view, changed, effect_view, made_for, due_by, IsChange, IsLogged};
 
-use crate::answers::connected;
-use crate::connect::connection_made;
-use crate::log::new_checks;
+use crate::effect::Effect;
 use crate::logged::Logged;
-use crate::owed::{add_received, growth_of, view_of};
-use crate::session::{Change, Connection, Session};
-use mw_base::{Growth, List, Memory, Text};
+use crate::member::Member;
+use crate::owed::growth_owed;
+use crate::session::{Change, Session};
+use mw_base::{Growth, Memory, Text};
 use mw_multidata::Multidata;
-use mw_packets_in::Packet;
-use mw_packets_out::{ServerPacket, write_message};
+use mw_packets_out::{ServerPacket, write_both};
 use std::alloc::Global;
 
-/// The entries that a packet adds to the log.
-pub fn new_entries(
+/// The text of a message of these packets and those, where there are some.
+pub fn message_text(
     alloc: Global,
-    seed: &Multidata,
-    log: &[Logged],
-    connection: &Option<Connection>,
-    packet: &Packet,
-) -> Result<Vec<Logged>, Memory>
-    ensures { IfOk result (λ v. v.items ≡ new_in seed.now log.now connection.now (asked packet.now)) }
+    answers: &[ServerPacket],
+    others: &[ServerPacket],
+) -> Result<Option<Text>, Memory>
+    ensures { IfOk result (λ t. t ≡ message_of (map packet_view answers.now ++ map packet_view others.now)) }
 {
-    match (connection, packet) {
-        (Some(c), Packet::LocationChecks { locations }) => new_checks(
-            alloc,
-            seed.locations.as_slice(),
-            log,
-            c.team,
-            c.slot,
-            locations.as_slice(),
-        ),
-        _ => Ok(Vec::new(alloc)),
-    }
-}
-
-/// What a session is owed for another's packet.
-fn told_others(
-    alloc: Global,
-    seed: &Multidata,
-    log: &[Logged],
-    new: &[Logged],
-    connection: &Option<Connection>,
-) -> Result<List<ServerPacket>, Memory>
-    requires { length log.now + length new.now < 2 ^ 32 }
-    ensures { IfOk result (λ ps. map told ps ≡ other_in seed.now log.now new.now connection.now) }
-{
-    match connection {
-        Some(c) => growth_of(alloc, seed, log, new, c),
-        None => Ok(List::new(alloc)),
-    }
-}
-
-/// What a new connection is told.
-fn welcome(
-    alloc: Global,
-    seed: &Multidata,
-    log: &[Logged],
-    made: &Option<Connection>,
-) -> Result<List<ServerPacket>, Memory>
-    requires playable { IsPlayable seed.now }
-    requires few { length log.now < 2 ^ 32 }
-    ensures { IfOk result (λ ps. map told ps ≡ welcome_in seed.now log.now made.now) }
-{
-    let mut packets = List::new(alloc);
-    if let Some(c) = made {
-        packets.push(ServerPacket::Connected(connected(alloc, seed, log, c)?))?;
-        add_received(&mut packets, 0, view_of(alloc, seed, log, c)?)?;
-    }
-    Ok(packets)
-}
-
-/// All that a connection sees, where there is some.
-fn whole_view(
-    alloc: Global,
-    seed: &Multidata,
-    log: &[Logged],
-    c: &Connection,
-) -> Result<List<ServerPacket>, Memory>
-    ensures { IfOk result (λ ps. map told ps ≡ items_from 0 (view_in seed.now c.now log.now)) }
-{
-    let mut packets = List::new(alloc);
-    add_received(&mut packets, 0, view_of(alloc, seed, log, c)?)?;
-    Ok(packets)
-}
-
-/// What a session that isn't connected is owed for its own packet.
-fn told_stranger(
-    alloc: Global,
-    seed: &Multidata,
-    log: &[Logged],
-    packet: &Packet,
-) -> Result<List<ServerPacket>, Memory>
-    requires playable { IsPlayable seed.now }
-    requires few { length log.now < 2 ^ 32 }
-    ensures { IfOk result (λ ps. (new : List plain) → map told ps ≡ answer_in seed.now log.now new (asked packet.now) None) }
-{
-    match packet {
-        Packet::Connect(_) => {
-            let made = connection_made(seed, packet);
-            welcome(alloc, seed, log, &made)
-        }
-        _ => Ok(List::new(alloc)),
-    }
-}
-
-/// What a session is owed for its own packet.
-fn told_sender(
-    alloc: Global,
-    seed: &Multidata,
-    log: &[Logged],
-    new: &[Logged],
-    packet: &Packet,
-    connection: &Option<Connection>,
-) -> Result<List<ServerPacket>, Memory>
-    requires playable { IsPlayable seed.now }
-    requires few { length log.now + length new.now < 2 ^ 32 }
-    ensures { IfOk result (λ ps. map told ps ≡ answer_in seed.now log.now new.now (asked packet.now) connection.now) }
-{
-    match connection {
-        None => told_stranger(alloc, seed, log, packet),
-        Some(c) => match packet {
-            Packet::Sync => whole_view(alloc, seed, log, c),
-            _ => growth_of(alloc, seed, log, new, c),
-        },
-    }
-}
-
-/// The text of a message, where there are packets.
-fn message_text(alloc: Global, packets: &List<ServerPacket>) -> Result<Option<Text>, Memory>
-    ensures { IfOk result (λ m. option_to_list m ≡ message_of (map told packets.now)) }
-{
-    if packets.len() == 0 {
+    if answers.len() == 0 && others.len() == 0 {
         return Ok(None);
     }
-    Ok(Some(write_message(alloc, packets)?))
+    Ok(Some(write_both(alloc, answers, others)?))
 }
 
-/// The connection that a session's own packet makes.
-fn made_now(
-    seed: &Multidata,
-    packet: &Packet,
-    connection: &Option<Connection>,
-) -> Option<Connection>
-    requires { IsPlayable seed.now }
-    ensures { result ≡ made_by seed.now (asked packet.now) connection.now }
+/// The answers to the sender, where this is the sender.
+fn answers_to(effect: &Effect, sends: bool) -> &[ServerPacket]
+    ensures { map packet_view result.now ≡ answers_to_lem sends (effect_view effect.now) }
 {
-    match connection {
-        None => connection_made(seed, packet),
-        Some(_) => None,
+    if sends {
+        effect.answers.as_slice()
+    } else {
+        &[]
     }
 }
 
-/// What a packet does to a session, its own or another's.
-pub fn change_of(
+/// The text of what a session is owed, where it is owed something.
+fn owed_text(
     alloc: Global,
     seed: &Multidata,
     log: &[Logged],
-    new: &[Logged],
-    packet: &Packet,
-    own: bool,
-    session: &Session,
-) -> Result<Change, Memory>
-    requires playable { IsPlayable seed.now }
-    requires few { length log.now + length new.now < 2 ^ 32 }
-    ensures change { IfOk result (λ c. (shows : ℕ) → changed shows (session_view session.now) c
-        ≡ after_in seed.now log.now new.now (asked packet.now) shows own (session_view session.now)) }
-    ensures space { IfOk result (λ c. HasSpace session.now.untaken c.growth (length (option_to_list c.message))) }
+    effect: &Effect,
+    sends: bool,
+    member: &Option<Member>,
+) -> Result<Option<Text>, Memory>
+    requires held { AllHeld seed.now log.now }
+    requires logged { IsLogged seed.now log.now effect.now }
+    ensures { IfOk result (λ t. t ≡ message_of (owed seed.now (standing_of log.now) (grown log.now effect.now.new.items) (effect_view effect.now) sends member.now)) }
 {
-    let connection = &session.connection;
-    let packets = if own {
-        told_sender(alloc, seed, log, new, packet, connection)?
+    let whole = effect.whole & sends;
+    let others = growth_owed(alloc, seed, log, &effect.new, whole, member)?;
+    message_text(alloc, answers_to(effect, sends), others.as_slice())
+}
+
+/// The member that a session is after an effect.
+fn member_after<'a>(effect: &'a Effect, sends: bool, session: &'a Session) -> &'a Option<Member>
+    ensures { result.now ≡ member_after_lem (effect_view effect.now) sends session.now.member }
+{
+    if sends && effect.member.is_some() {
+        &effect.member
     } else {
-        told_others(alloc, seed, log, new, connection)?
-    };
-    let made = if own {
-        made_now(seed, packet, connection)
-    } else {
-        None
-    };
-    let message = message_text(alloc, &packets)?;
-    let growth = Growth::of(alloc, &session.untaken, usize::from(message.is_some()))?;
-    Ok(Change {
+        &session.member
+    }
+}
+
+/// The member that the sender becomes, if it becomes one.
+fn made_of(alloc: Global, effect: &Effect, sends: bool) -> Result<Option<Member>, Memory>
+    ensures { IfOk result (λ m. m ≡ made_for (effect_view effect.now) sends) }
+{
+    match &effect.member {
+        Some(member) if sends => Ok(Some(member.copy(alloc)?)),
+        _ => Ok(None),
+    }
+}
+
+/// The change of a session, if it is one.
+fn change_by(
+    alloc: Global,
+    at: usize,
+    made: Option<Member>,
+    text: Option<Text>,
+    session: &Session,
+) -> Result<Option<Change>, Memory>
+    ensures { IfOk result (λ o. IsChange o at (due_by made text) session.now) }
+{
+    if made.is_none() && text.is_none() {
+        return Ok(None);
+    }
+    let growth = Growth::of(alloc, &session.untaken, 1)?;
+    Ok(Some(Change {
+        at,
         made,
-        message,
+        text,
         growth,
-    })
+    }))
+}
+
+/// The change that an effect of the sender's makes to the session at an index, if it makes one.
+fn change_of(
+    alloc: Global,
+    seed: &Multidata,
+    log: &[Logged],
+    effect: &Effect,
+    sender: u64,
+    at: usize,
+    session: &Session,
+) -> Result<Option<Change>, Memory>
+    requires held { AllHeld seed.now log.now }
+    requires logged { IsLogged seed.now log.now effect.now }
+    ensures { IfOk result (λ o. IsChange o at (shown_after seed.now (standing_of log.now) (grown log.now effect.now.new.items) (effect_view effect.now) sender) session.now) }
+{
+    let sends = session.number == sender;
+    let member = member_after(effect, sends, session);
+    let text = owed_text(alloc, seed, log, effect, sends, member)?;
+    let made = made_of(alloc, effect, sends)?;
+    let change = change_by(alloc, at, made, text, session)?;
+    Ok(change)
+}
+
+/// Adds a change, if there is one.
+fn push_change(changes: &mut Vec<Change>, change: Option<Change>) -> Result<(), Memory>
+    ensures { OnOk result (changes.new.items ≡ changes.old.items ++ option_to_list change) }
+{
+    if let Some(change) = change {
+        changes.push(change)?;
+    }
+    Ok(())
+}
+
+/// The changes that an effect of the sender's makes to the sessions.
+pub fn changes_for(
+    alloc: Global,
+    seed: &Multidata,
+    log: &[Logged],
+    effect: &Effect,
+    sender: u64,
+    sessions: &[Session],
+) -> Result<Vec<Change>, Memory>
+    requires held { AllHeld seed.now log.now }
+    requires logged { IsLogged seed.now log.now effect.now }
+    ensures changes { IfOk result (λ cs. (length : ℕ) → changed length (map session_view sessions.now) cs.items
+        ≡ map (shown_after seed.now (standing_of log.now) (grown log.now effect.now.new.items) (effect_view effect.now) sender length) (map session_view sessions.now)) }
+    ensures fit { IfOk result (λ cs. ChangesFit 0 sessions.now cs.items) }
+{
+    let mut changes = Vec::new(alloc);
+    for (at, session) in sessions.iter().enumerate() {
+        let change = change_of(alloc, seed, log, effect, sender, at, session)?;
+        push_change(&mut changes, change)?;
+    }
+    Ok(changes)
 }

@@ -1,18 +1,16 @@
-ghost use Rattle.std.specs.Prelude.{◌≡◌, ◌≤◌, pos, length, unwrap_or, Some, None, if◌then◌else◌};
+ghost use Rattle.std.specs.Prelude.{◌≡◌, ◌≤◌, ◌++◌, length, IfOk, OnOk, unwrap_or, []};
 ghost use Rattle.std.specs.Option.{option_copied};
-ghost use Rattle.mw_protocol.specs.Connecting.{team_named as team_named_lem, player_named as player_named_lem, text_or_empty, looks_on as looks_on_lem, is_game_of as is_game_of_lem, is_old as is_old_lem, is_mask, is_wrong_password as is_wrong_password_lem, slot_played as slot_played_lem};
-ghost use Rattle.mw_protocol.specs.Room.{made_by};
-ghost use Rattle.mw_protocol.specs.Connecting.{mask_of};
-ghost use Rattle.mw_packets_in.specs.View.{packet_view};
-ghost use Rattle.mw_room.specs.Accepting.{accept as accept_lem, connection_unless as connection_unless_lem};
+ghost use Rattle.mw_protocol.specs.Connecting.{connect_errors as connect_errors_lem, error_where, is_game_of as is_game_of_lem, is_old as is_old_lem, is_wrong_password as is_wrong_password_lem, looks_on as looks_on_lem, member_by as member_by_lem, player_named as player_named_lem, slot_played as slot_played_lem, team_named as team_named_lem, text_or_empty};
+ghost use Rattle.mw_room.specs.Joining.{errors_with, mask_asked, member_where as member_where_lem};
 ghost use Rattle.mw_room.specs.Playable.{IsPlayable};
 
+use crate::member::{Member, copy_texts, tags_or};
 use crate::owed::slot_at;
 use crate::playable::playable;
-use crate::session::Connection;
-use mw_base::{List, SlotId, TeamId, Text};
+use mw_base::{List, Memory, SlotId, TeamId, Text};
 use mw_multidata::{Multidata, Slot};
-use mw_packets_in::{Connect, Packet, Version, has_tag};
+use mw_packets_in::{Connect, Version, has_tag};
+use std::alloc::Global;
 use std::marker::Model;
 
 /// A player: the team, and the slot.
@@ -46,7 +44,7 @@ fn team_named(names: &[Text], name: &str) -> Option<TeamId>
 }
 
 /// The player of a name.
-pub fn player_named(seed: &Multidata, name: &str) -> Option<Player>
+pub(crate) fn player_named(seed: &Multidata, name: &str) -> Option<Player>
     requires { IsPlayable seed.now }
     ensures { result ≡ player_named_lem seed.now name.now }
 {
@@ -102,7 +100,7 @@ fn is_wrong_password(seed: &Multidata, password: &Option<Text>) -> bool
 
 /// The mask that is asked for; None where it is none of 0, 1, 3, 5 and 7.
 fn mask_in(items_handling: &Option<i128>) -> Option<u8>
-    ensures { result ≡ (if is_mask (unwrap_or items_handling.now (pos 0)) then Some (mask_of (unwrap_or items_handling.now (pos 0))) else None) }
+    ensures { result ≡ mask_asked items_handling.now }
 {
     match items_handling {
         None | Some(0) => Some(0),
@@ -124,40 +122,92 @@ fn slot_played<'a>(seed: &'a Multidata, player: &Option<Player>) -> Option<&'a S
     }
 }
 
-fn connection_unless(refused: bool, player: Option<Player>, mask: Option<u8>) -> Option<Connection>
-    ensures { result ≡ connection_unless_lem refused player mask }
+/// Adds a word where something holds.
+fn push_where(alloc: Global, errors: &mut List<Text>, holds: bool, word: &str) -> Result<(), Memory>
+    ensures { OnOk result (errors.new ≡ errors.old ++ error_where holds word.now) }
+{
+    if holds {
+        errors.push(Text::of(alloc, word)?)?;
+    }
+    Ok(())
+}
+
+/// Why a Connect that names this player is refused, a word for each cause.
+fn errors_of(
+    alloc: Global,
+    seed: &Multidata,
+    fields: &Connect,
+    player: &Option<Player>,
+) -> Result<List<Text>, Memory>
+    ensures { IfOk result (λ es. es ≡ errors_with seed.now fields.now player.now) }
+{
+    let wrong = is_wrong_password(seed, &fields.password);
+    let other = !is_game_of(&fields.game, &fields.tags, slot_played(seed, player));
+    let odd = mask_in(&fields.items_handling).is_none();
+    let mut errors = List::new(alloc);
+    push_where(alloc, &mut errors, wrong, "InvalidPassword")?;
+    push_where(alloc, &mut errors, player.is_none(), "InvalidSlot")?;
+    push_where(alloc, &mut errors, other, "InvalidGame")?;
+    push_where(
+        alloc,
+        &mut errors,
+        is_old(&fields.version),
+        "IncompatibleVersion",
+    )?;
+    push_where(alloc, &mut errors, odd, "InvalidItemsHandling")?;
+    Ok(errors)
+}
+
+/// Why a Connect is refused: a word for each cause, those of the password, the name, the game, the
+/// version and the mask in this order; none where it isn't refused. Memory is its only error.
+pub fn connect_errors(
+    alloc: Global,
+    seed: &Multidata,
+    fields: &Connect,
+) -> Result<List<Text>, Memory>
+    ensures { IfOk result (λ es. es ≡ connect_errors_lem seed.now fields.now) }
+{
+    playable(seed);
+    let player = player_named(seed, fields.name.as_str());
+    let errors = errors_of(alloc, seed, fields, &player)?;
+    Ok(errors)
+}
+
+/// The member of a player with a mask and tags, where nothing refuses it.
+fn member_where(
+    alloc: Global,
+    errors: &[Text],
+    player: Option<Player>,
+    mask: Option<u8>,
+    tags: &[Text],
+) -> Result<Option<Member>, Memory>
+    ensures { IfOk result (λ m. m ≡ member_where_lem errors.now player mask tags.now) }
 {
     match (player, mask) {
-        (Some(player), Some(mask)) if !refused => Some(Connection {
+        (Some(player), Some(mask)) if errors.len() == 0 => Ok(Some(Member {
             team: player.team,
             slot: player.slot,
             mask,
-        }),
-        _ => None,
+            tags: copy_texts(alloc, tags)?,
+        })),
+        _ => Ok(None),
     }
 }
 
-/// The connection that a Connect of a session that isn't connected makes; None where it is refused.
-#[tactic(auto, using(crate::proofs::Accepted::accepted_is))]
-fn accept(seed: &Multidata, fields: &Connect) -> Option<Connection>
-    requires { IsPlayable seed.now }
-    ensures { result ≡ accept_lem seed.now fields.now }
-{
-    let player = player_named(seed, fields.name.as_str());
-    let slot = slot_played(seed, &player);
-    let refused = is_wrong_password(seed, &fields.password)
-        | !is_game_of(&fields.game, &fields.tags, slot)
-        | is_old(&fields.version);
-    connection_unless(refused, player, mask_in(&fields.items_handling))
-}
-
-/// The connection that a packet makes for a session that isn't connected.
-pub fn connection_made(seed: &Multidata, packet: &Packet) -> Option<Connection>
-    ensures { result ≡ made_by seed.now (packet_view packet.now) None }
+/// The member that a Connect makes; None where it is refused. Memory is its only error.
+#[tactic(auto, using(crate::proofs::Joined::member_is))]
+pub fn member_by(
+    alloc: Global,
+    seed: &Multidata,
+    fields: &Connect,
+) -> Result<Option<Member>, Memory>
+    ensures { IfOk result (λ m. m ≡ member_by_lem seed.now fields.now) }
 {
     playable(seed);
-    match packet {
-        Packet::Connect(fields) => accept(seed, fields),
-        _ => None,
-    }
+    let player = player_named(seed, fields.name.as_str());
+    let errors = errors_of(alloc, seed, fields, &player)?;
+    let mask = mask_in(&fields.items_handling);
+    let tags = tags_or(&fields.tags, &[]);
+    let member = member_where(alloc, errors.as_slice(), player, mask, tags)?;
+    Ok(member)
 }

@@ -1,5 +1,5 @@
 use mw_base::SessionId;
-use mw_packets_in::Packet as ClientPacket;
+use mw_packets_in::{Bad as BadPacket, Packet as ClientPacket};
 
 /// What happens to a room.
 #[derive(Debug, Drop)]
@@ -15,5 +15,17 @@ pub enum Event {
         session: SessionId,
         /// The packet.
         packet: ClientPacket,
+    },
+    /// A session sends what is no packet.
+    Bad {
+        /// The session.
+        session: SessionId,
+        /// What is wrong with it.
+        bad: BadPacket,
+    },
+    /// A session ends.
+    Lost {
+        /// The session.
+        session: SessionId,
     },
 }

@@ -1,24 +1,29 @@
-//! The room: what it knows, what each event records, and what it owes to each session.
+//! The room: what each event makes of it, without its journal.
 #![tactic(auto)]
 
 mod acts;
-mod answers;
 mod changes;
 mod connect;
+mod effect;
 mod event;
 mod log;
 mod logged;
+mod member;
 mod owed;
+mod packages;
+mod packets;
+mod people;
 mod plan;
 mod playable;
+mod refusals;
 mod room;
+mod scouts;
 mod session;
+mod sessions;
 mod state;
-mod steps;
 
-pub use connect::connection_made;
 pub use event::Event;
+pub use member::Member;
 pub use plan::Plan;
 pub use room::Room;
-pub use session::Connection;
 pub use state::SessionState;

@@ -8,7 +8,7 @@ ghost use Rattle.mw_room.specs.Log.{logged_check, checks_in, AllHeld, items_in, 
 ghost use Rattle.mw_room.specs.Log.{entry_unless as entry_unless_lem};
 
 use crate::logged::Logged;
-use crate::session::Connection;
+use crate::member::Member;
 use mw_base::{List, Memory, NetItem, SlotId, TeamId};
 use mw_multidata::{Held, StartItem};
 use std::alloc::Global;
@@ -39,15 +39,15 @@ pub fn is_logged(log: &[Logged], team: TeamId, slot: SlotId, number: i128) -> bo
 }
 
 /// An item as a mask lets it through.
-fn is_kept(c: &Connection, item: &NetItem) -> bool
-    ensures { result ≡ keeps c.now.mask c.now.slot item.now }
+fn is_kept(m: &Member, item: &NetItem) -> bool
+    ensures { result ≡ keeps m.now.mask m.now.slot item.now }
 {
     if item.player == 0 {
-        c.mask / 4 % 2 == 1
-    } else if item.player == c.slot.get() {
-        c.mask / 2 % 2 == 1
+        m.mask / 4 % 2 == 1
+    } else if item.player == m.slot.get() {
+        m.mask / 2 % 2 == 1
     } else {
-        c.mask % 2 == 1
+        m.mask % 2 == 1
     }
 }
 
@@ -74,16 +74,12 @@ fn start_of(start: &StartItem) -> NetItem
 }
 
 /// Adds the starting items of a slot that the mask lets through.
-pub fn add_starts(
-    found: &mut List<NetItem>,
-    starts: &[StartItem],
-    c: &Connection,
-) -> Result<(), Memory>
-    ensures { OnOk result (found.new ≡ found.old ++ filter (keeps c.now.mask c.now.slot) (map start_item starts.now)) }
+pub fn add_starts(found: &mut List<NetItem>, starts: &[StartItem], m: &Member) -> Result<(), Memory>
+    ensures { OnOk result (found.new ≡ found.old ++ filter (keeps m.now.mask m.now.slot) (map start_item starts.now)) }
 {
     for start in starts {
         let item = start_of(start);
-        if is_kept(c, &item) {
+        if is_kept(m, &item) {
             found.push(item)?;
         }
     }
@@ -91,14 +87,14 @@ pub fn add_starts(
 }
 
 /// Adds the items of these checks that go to a slot and that its mask lets through.
-pub fn add_items(found: &mut List<NetItem>, log: &[Logged], c: &Connection) -> Result<(), Memory>
-    ensures { OnOk result (found.new ≡ found.old ++ kept_in c.now log.now) }
+pub fn add_items(found: &mut List<NetItem>, log: &[Logged], m: &Member) -> Result<(), Memory>
+    ensures { OnOk result (found.new ≡ found.old ++ kept_in m.now log.now) }
 {
     for entry in log {
         let held = &entry.held;
-        if entry.team == c.team && held.receiver == c.slot.get() {
+        if entry.team == m.team && held.receiver == m.slot.get() {
             let item = item_of(held);
-            if is_kept(c, &item) {
+            if is_kept(m, &item) {
                 found.push(item)?;
             }
         }
@@ -106,29 +102,29 @@ pub fn add_items(found: &mut List<NetItem>, log: &[Logged], c: &Connection) -> R
     Ok(())
 }
 
-/// The locations among these checks that are of the connection's slot.
-pub fn locations_of(alloc: Global, log: &[Logged], c: &Connection) -> Result<List<i64>, Memory>
-    ensures { IfOk result (λ ls. ls ≡ locations_logged c.now log.now) }
+/// The locations among these checks that are of the member's slot.
+pub fn locations_of(alloc: Global, log: &[Logged], m: &Member) -> Result<List<i64>, Memory>
+    ensures { IfOk result (λ ls. ls ≡ locations_logged m.now log.now) }
 {
     let mut found = List::new(alloc);
     for entry in log {
         let held = &entry.held;
-        if entry.team == c.team && held.slot == c.slot {
+        if entry.team == m.team && held.slot == m.slot {
             found.push(held.location.get())?;
         }
     }
     Ok(found)
 }
 
-/// How many of these checks are of the connection's slot.
-pub fn count_locations(log: &[Logged], c: &Connection) -> usize
-    ensures count { result ≡ length (locations_logged c.now log.now) }
+/// How many of these checks are of the member's slot.
+pub fn count_locations(log: &[Logged], m: &Member) -> usize
+    ensures count { result ≡ length (locations_logged m.now log.now) }
     ensures few { result ≤ length log.now }
 {
     let mut count: usize = 0;
     for entry in log {
         let held = &entry.held;
-        if entry.team == c.team && held.slot == c.slot {
+        if entry.team == m.team && held.slot == m.slot {
             count += 1;
         }
     }
@@ -136,7 +132,7 @@ pub fn count_locations(log: &[Logged], c: &Connection) -> usize
 }
 
 /// Whether a location of a slot is checked in a team, in one of the lists.
-#[tactic(auto, using(crate::proofs::Journal::has_check_append))]
+#[tactic(auto, using(crate::proofs::Checks::has_check_append))]
 fn is_seen(log: &[Logged], found: &[Logged], team: TeamId, slot: SlotId, number: i128) -> bool
     ensures { result ≡ has_check (checks_in log.now ++ checks_in found.now) record { team = team; slot = slot; location = number } }
 {

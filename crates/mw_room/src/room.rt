@@ -1,24 +1,23 @@
-ghost use Rattle.std.specs.Prelude.{◌≡◌, ◌<◌, ◌+◌, ◌^◌, length, map, IfOk};
-ghost use Rattle.std.proofs.Props.{props};
-ghost use Rattle.mw_records.specs.Records.{record_view};
-ghost use Rattle.mw_room.specs.Playable.{IsPlayable};
-ghost use Rattle.mw_room.specs.Stands.{Stands, Stands-prop};
+ghost use Rattle.std.specs.Prelude.{◌<◌, ◌^◌, length};
+ghost use Rattle.mw_room.specs.Kept.{AllHeld-prop};
+ghost use Rattle.mw_room.specs.Log.{AllHeld};
 
 use crate::logged::Logged;
 use crate::session::Session;
 use mw_multidata::RoomTables;
-use mw_records::Record;
 use std::alloc::Global;
 
-/// A room: its seed, its journal, and its sessions.
+/// A room without its journal: the distinct checks, how many records there are, how many sessions
+/// were ever opened, and those that are open.
 #[derive(Drop)]
 pub struct Room {
     pub(crate) alloc: Global,
     pub(crate) tables: RoomTables,
-    pub(crate) journal: Vec<Record>,
     pub(crate) log: Vec<Logged>,
+    pub(crate) recorded: u64,
+    pub(crate) opened: u64,
     pub(crate) sessions: Vec<Session>,
-    ghost playable: { IsPlayable tables } by { Prim.hlevel props },
-    ghost stands: { Stands tables (map record_view journal.items) log.items } by { Stands-prop tables (map record_view journal.items) log.items },
+    ghost held: { AllHeld tables log.items } by { AllHeld-prop tables log.items },
     ghost few: { length log.items < 2 ^ 32 },
+    ghost few_opened: { opened < 2 ^ 63 },
 }

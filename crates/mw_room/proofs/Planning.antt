@@ -1,0 +1,78 @@
+-- Plans, from what is kept to every plain room that the code stands for.
+use Rattle.std.proofs.Common.{◌≡◌, ℕ, ◌+◌, List, [], ◌∷◌, ◌++◌, Option, Some, None, option_map, length, map, refl, sym, ap, ap₂, ◌∙◌, arith, append-nil}
+use Rattle.std.proofs.lemmas.List.{length-map}
+use Rattle.mw_protocol.specs.Rooms as plain
+use Rattle.mw_protocol.specs.Standing.{Standing, steps}
+use Rattle.mw_records.specs.Records.{record_view}
+use Rattle.mw_records.specs.declared.record.Record.{Record}
+use Rattle.mw_room.specs.Known.{Shown, Known, shown, shown_at, shown_after, greeted, leaves, known_effect, known_affected, known_next}
+use Rattle.mw_room.specs.Stands.{Stands, Plans, IsPlan, state_of}
+use Rattle.mw_room.specs.Views.{session_view, room_view, planned, made, changed, effect_view, shown_state, IsQuiet}
+use Rattle.mw_room.specs.declared.effect.Effect.{Effect}
+use Rattle.mw_room.specs.declared.plan.Plan.{Plan}
+use Rattle.mw_room.specs.declared.room.Room.{Room}
+use Rattle.mw_room.specs.declared.session.Change.{Change}
+use Rattle.mw_room.specs.declared.session.Session.{Session}
+use Rattle.mw_room.proofs.Keeping.{effect_is, known_is, sound_next, shown_is}
+
+-- a plan of what is kept is one in each plain room that the room stands for
+pub lifted : (room : Room) (plan : Plan) (r : plain.Room) (e : plain.Event) → IsPlan plan (room_view room) e → Stands room r → Plans plan r e
+lifted room plan r e h st = record {
+  records = h.records ∙ ap (λ k. (known_effect k e).records) st.known ∙ ap (λ x. x.records) (effect_is r e);
+  after = ap (planned plan) (sym st.known) ∙ h.after ∙ ap (λ k. known_next k e) st.known ∙ sym (known_is r e st.sound);
+}
+
+-- and what it makes of the room stands for the next plain room
+pub applied : (old new : Room) (plan : Plan) (r : plain.Room) (e : plain.Event) → room_view new ≡ planned plan (room_view old) → Stands old r → Plans plan r e → Stands new (plain.next r e)
+applied old new plan r e h st p = record { known = h ∙ ap (planned plan) st.known ∙ p.after; sound = sound_next r e st.sound }
+
+-- ---- the parts of a plan
+
+records_many : (effect : Effect) → length effect.records ≡ length (map record_view effect.records)
+records_many effect = sym (length-map effect.records record_view)
+
+-- of a sender's effect
+pub affected_made : (k : Known) (effect : Effect) (after : Standing) (cs : List Change) (ns : List Session) (sender : ℕ) → after ≡ steps k.seed k.now (map record_view effect.records) → ns ≡ []
+    → ((len : ℕ) → changed len k.sessions cs ≡ map (shown_after k.seed k.now after (effect_view effect) sender len) k.sessions)
+    → made k effect cs None ns ≡ known_affected k sender (effect_view effect)
+affected_made k effect after cs ns sender comes none so =
+    let len = k.length + length effect.records in
+    let count : len ≡ k.length + length (map record_view effect.records) = ap (λ n. k.length + n) (records_many effect) in
+    let nobody : length ns ≡ 0 = ap length none in
+    let opened : k.opened + length ns ≡ k.opened = omega arith in
+    let sessions : changed len k.sessions cs ++ map session_view ns
+    ≡ map (shown_after k.seed k.now (steps k.seed k.now (map record_view effect.records)) (effect_view effect) sender (k.length + length (map record_view effect.records))) k.sessions =
+    ap (λ (xs : List Session). changed len k.sessions cs ++ map session_view xs) none ∙ append-nil (changed len k.sessions cs) ∙ so len
+    ∙ ap₂ (λ (now : Standing) (n : ℕ). map (shown_after k.seed k.now now (effect_view effect) sender n) k.sessions) comes count in
+    ap (λ (n : ℕ). record { seed = k.seed; now = steps k.seed k.now (map record_view effect.records); length = n; opened = k.opened + length ns; sessions = changed len k.sessions cs ++ map session_view ns }) count
+    ∙ ap₂ (λ (n : ℕ) (ss : List Shown). record { seed = k.seed; now = steps k.seed k.now (map record_view effect.records); length = k.length + length (map record_view effect.records); opened = n; sessions = ss }) opened sessions
+
+-- of a session that ends
+pub lost_made : (k : Known) (effect : Effect) (cs : List Change) (ns : List Session) (number : ℕ) → IsQuiet effect → cs ≡ [] → ns ≡ []
+    → made k effect cs (Some number) ns ≡ known_next k (plain.lost number)
+lost_made k effect cs ns number quiet calm none =
+    ap₂ (λ (ds : List Change) (xs : List Session). made k effect ds (Some number) xs) calm none
+    ∙ ap (λ (rs : List Record). record { seed = k.seed; now = steps k.seed k.now (map record_view rs); length = k.length + length rs; opened = k.opened + 0; sessions = leaves number (k.sessions ++ []) }) quiet.0
+    ∙ ap (λ (ss : List Shown). record { seed = k.seed; now = k.now; length = k.length + 0; opened = k.opened + 0; sessions = leaves number ss }) (append-nil k.sessions)
+    ∙ ap₂ (λ (n m : ℕ). record { seed = k.seed; now = k.now; length = n; opened = m; sessions = leaves number k.sessions }) (omega arith) (omega arith)
+
+-- of a session that is opened
+pub opened_made : (k : Known) (effect : Effect) (cs : List Change) (ns : List Session) (time : ℕ) → IsQuiet effect → cs ≡ []
+    → map session_view ns ≡ greeted k time ∷ []
+    → made k effect cs None ns ≡ known_next k (plain.opened time)
+opened_made k effect cs ns time quiet calm is =
+    let one : length ns ≡ 1 = sym (length-map ns session_view) ∙ ap length is in
+    let count : k.length + 0 ≡ k.length = omega arith in
+    ap (λ (ds : List Change). made k effect ds None ns) calm
+    ∙ ap (λ (rs : List Record). record { seed = k.seed; now = steps k.seed k.now (map record_view rs); length = k.length + length rs; opened = k.opened + length ns; sessions = k.sessions ++ map session_view ns }) quiet.0
+    ∙ ap₂ (λ (n : ℕ) (ss : List Shown). record { seed = k.seed; now = k.now; length = k.length + 0; opened = k.opened + n; sessions = k.sessions ++ ss }) one is
+    ∙ ap (λ (n : ℕ). record { seed = k.seed; now = k.now; length = n; opened = k.opened + 1; sessions = k.sessions ++ greeted k time ∷ [] }) count
+
+-- ---- what a session waits for
+
+state_shown : (o : Option plain.Session) → shown_state (option_map shown o) ≡ state_of o
+state_shown None = refl
+state_shown (Some s) = refl
+
+pub state_is : (n : ℕ) (ss : List plain.Session) → shown_state (shown_at n (map shown ss)) ≡ state_of (plain.session_in ss n)
+state_is n ss = ap shown_state (shown_is n ss) ∙ state_shown (plain.session_in ss n)

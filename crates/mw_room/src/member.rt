@@ -1,0 +1,77 @@
+ghost use Rattle.std.specs.Prelude.{◌≡◌, IfOk, unwrap_or};
+ghost use Rattle.mw_protocol.specs.Connecting.{updated as updated_lem};
+
+use mw_base::{List, Memory, SlotId, TeamId, Text};
+use mw_packets_in::ConnectUpdate;
+use std::alloc::Global;
+use std::marker::Model;
+
+/// The team and slot that a session plays, the items that it wants, and what kind of client it is.
+#[derive(Debug, Drop)]
+pub struct Member {
+    /// The team.
+    pub team: TeamId,
+    /// The slot.
+    pub slot: SlotId,
+    /// The mask of the items that it wants: 0, 1, 3, 5 or 7.
+    pub mask: u8,
+    /// What kind of client it is.
+    pub tags: List<Text>,
+}
+
+impl Model for Member {
+    ghost use Rattle.mw_protocol.specs.Connecting as plain;
+
+    ghost Value = { plain.Member };
+
+    ghost view = { λ m. record { team = m.team; slot = m.slot; mask = m.mask; tags = m.tags } };
+}
+
+impl Member {
+    ghost use Rattle.std.specs.Prelude.{◌≡◌, IfOk};
+
+    /// The same member again.
+    pub fn copy(&self, alloc: Global) -> Result<Member, Memory>
+        ensures { IfOk result (λ m. m ≡ self.now) }
+    {
+        Ok(Member {
+            team: self.team,
+            slot: self.slot,
+            mask: self.mask,
+            tags: copy_texts(alloc, self.tags.as_slice())?,
+        })
+    }
+}
+
+/// Copies of texts.
+pub(crate) fn copy_texts(alloc: Global, texts: &[Text]) -> Result<List<Text>, Memory>
+    ensures { IfOk result (λ ts. ts ≡ texts.now) }
+{
+    let mut copies = List::new(alloc);
+    for text in texts {
+        copies.push(Text::of(alloc, text.as_str())?)?;
+    }
+    Ok(copies)
+}
+
+/// Copies of the tags, where there are some.
+pub(crate) fn tags_or<'a>(tags: &'a Option<List<Text>>, before: &'a [Text]) -> &'a [Text]
+    ensures { result.now ≡ unwrap_or tags.now before.now }
+{
+    match tags {
+        Some(tags) => tags.as_slice(),
+        None => before,
+    }
+}
+
+/// The member after a ConnectUpdate: what is given takes the place of what was there.
+pub fn updated(alloc: Global, member: &Member, update: &ConnectUpdate) -> Result<Member, Memory>
+    ensures { IfOk result (λ m. m ≡ updated_lem member.now update.now) }
+{
+    Ok(Member {
+        team: member.team,
+        slot: member.slot,
+        mask: update.items_handling.unwrap_or(member.mask),
+        tags: copy_texts(alloc, tags_or(&update.tags, member.tags.as_slice()))?,
+    })
+}

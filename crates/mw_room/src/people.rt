@@ -1,0 +1,191 @@
+ghost use Rattle.std.specs.Prelude.{◌≡◌, ◌≤◌, ◌<◌, ◌^◌, ◌++◌, IfOk, OnOk, length, map, filter, not};
+ghost use Rattle.mw_model.specs.Games.{checksum_of};
+ghost use Rattle.mw_protocol.specs.Players.{games_played as games_played_lem, room_info_of, connected_of, name_in as name_in_lem, team_players, players_of as players_of_lem, slot_infos as slot_infos_lem};
+ghost use Rattle.mw_protocol.specs.Standing.{is_checked};
+ghost use Rattle.mw_protocol.specs.Asked.{locations_among};
+ghost use Rattle.mw_room.specs.Log.{standing_of};
+ghost use Rattle.mw_room.specs.Playable.{IsPlayable};
+
+use crate::log::is_logged;
+use crate::logged::Logged;
+use crate::member::Member;
+use crate::owed::points_of;
+use crate::playable::playable;
+use mw_base::{List, Memory, SlotId, TeamId, Text};
+use mw_datapack::{checksum_of_game, is_played};
+use mw_multidata::{Game, Held, Multidata, Slot};
+use mw_packets_out::{Connected, GameSum, NetworkPlayer, NetworkSlot, RoomInfo};
+use std::alloc::Global;
+
+fn game_sum(alloc: Global, game: &Game) -> Result<GameSum, Memory>
+    ensures { IfOk result (λ g. g
+        ≡ record { game = game.now.name; checksum = checksum_of game.now }) }
+{
+    let checksum = checksum_of_game(alloc, game)?;
+    let game = Text::of(alloc, game.name.as_str())?;
+    Ok(GameSum { game, checksum })
+}
+
+/// The games that a slot plays, each with its checksum.
+fn games_played(alloc: Global, slots: &[Slot], games: &[Game]) -> Result<List<GameSum>, Memory>
+    ensures { IfOk result (λ gs. gs ≡ games_played_lem slots.now games.now) }
+{
+    let mut found = List::new(alloc);
+    for game in games {
+        if is_played(slots, game.name.as_str()) {
+            found.push(game_sum(alloc, game)?)?;
+        }
+    }
+    Ok(found)
+}
+
+/// What a session is told when it is opened at a time.
+pub fn room_info(alloc: Global, seed: &Multidata, time: u64) -> Result<RoomInfo, Memory>
+    ensures { IfOk result (λ r. r ≡ room_info_of seed.now time) }
+{
+    let server = &seed.server;
+    let games = games_played(alloc, seed.slots.as_slice(), seed.games.as_slice())?;
+    let seed_name = Text::of(alloc, seed.seed_name.as_str())?;
+    Ok(RoomInfo {
+        password: server.password.as_str().len() != 0,
+        release: server.release,
+        collect: server.collect,
+        remaining: server.remaining,
+        hint_cost: server.hint_cost,
+        location_check_points: server.location_check_points,
+        games,
+        seed_name,
+        time,
+    })
+}
+
+fn name_in(slot: &Slot, team: u8) -> &str
+    ensures { result.now ≡ name_in_lem team slot.now }
+{
+    match slot.names.get(usize::from(team)) {
+        Some(name) => name.as_str(),
+        None => "",
+    }
+}
+
+/// Adds the players of a team, by slot.
+fn add_team(
+    alloc: Global,
+    found: &mut List<NetworkPlayer>,
+    team: TeamId,
+    slots: &[Slot],
+) -> Result<(), Memory>
+    requires { length slots.now ≤ 1024 }
+    ensures { OnOk result (found.new ≡ found.old ++ team_players team 1 slots.now) }
+{
+    for (before, slot) in slots.iter().enumerate() {
+        let name = Text::of(alloc, name_in(slot, team.get()))?;
+        found.push(NetworkPlayer {
+            team,
+            slot: SlotId::new(before as u16 + 1).unwrap(),
+            name,
+        })?;
+    }
+    Ok(())
+}
+
+/// The players, by team, then slot.
+fn players_of(alloc: Global, teams: u8, slots: &[Slot]) -> Result<List<NetworkPlayer>, Memory>
+    requires few { length slots.now ≤ 1024 }
+    requires teams { teams ≤ 8 }
+    ensures { IfOk result (λ ps. ps ≡ players_of_lem teams slots.now) }
+{
+    let mut found = List::new(alloc);
+    for team in 0..teams {
+        add_team(alloc, &mut found, TeamId::new(team).unwrap(), slots)?;
+    }
+    Ok(found)
+}
+
+/// The slots with their names in a team.
+fn slot_infos(alloc: Global, team: u8, slots: &[Slot]) -> Result<List<NetworkSlot>, Memory>
+    requires { length slots.now ≤ 1024 }
+    ensures { IfOk result (λ ss. ss ≡ slot_infos_lem team 1 slots.now) }
+{
+    let mut found = List::new(alloc);
+    for (before, slot) in slots.iter().enumerate() {
+        let name = Text::of(alloc, name_in(slot, team))?;
+        let game = Text::of(alloc, slot.game.as_str())?;
+        found.push(NetworkSlot {
+            slot: SlotId::new(before as u16 + 1).unwrap(),
+            name,
+            game,
+        })?;
+    }
+    Ok(found)
+}
+
+/// The locations of the member's slot that aren't checked, by id.
+fn missing_locations(
+    alloc: Global,
+    locations: &[Held],
+    log: &[Logged],
+    member: &Member,
+) -> Result<List<i64>, Memory>
+    ensures { IfOk result (λ ls. ls
+        ≡ filter (λ l. not (is_checked (standing_of log.now) member.now.team member.now.slot l))
+        (locations_among member.now.slot locations.now)) }
+{
+    let mut found = List::new(alloc);
+    for held in locations {
+        if held.slot == member.slot {
+            let number = held.location.get();
+            if !is_logged(log, member.team, member.slot, i128::from(number)) {
+                found.push(number)?;
+            }
+        }
+    }
+    Ok(found)
+}
+
+/// The locations of the member's slot that are checked, by id.
+fn checked_locations(
+    alloc: Global,
+    locations: &[Held],
+    log: &[Logged],
+    member: &Member,
+) -> Result<List<i64>, Memory>
+    ensures { IfOk result (λ ls. ls
+        ≡ filter (λ l. is_checked (standing_of log.now) member.now.team member.now.slot l)
+        (locations_among member.now.slot locations.now)) }
+{
+    let mut found = List::new(alloc);
+    for held in locations {
+        if held.slot == member.slot {
+            let number = held.location.get();
+            if is_logged(log, member.team, member.slot, i128::from(number)) {
+                found.push(number)?;
+            }
+        }
+    }
+    Ok(found)
+}
+
+/// What a session is told when it becomes a member.
+pub fn connected(
+    alloc: Global,
+    seed: &Multidata,
+    log: &[Logged],
+    member: &Member,
+) -> Result<Connected, Memory>
+    requires { length log.now < 2 ^ 32 }
+    ensures { IfOk result (λ r. r ≡ connected_of seed.now (standing_of log.now) member.now) }
+{
+    playable(seed);
+    let slots = seed.slots.as_slice();
+    let locations = seed.locations.as_slice();
+    Ok(Connected {
+        team: member.team,
+        slot: member.slot,
+        players: players_of(alloc, seed.teams, slots)?,
+        missing_locations: missing_locations(alloc, locations, log, member)?,
+        checked_locations: checked_locations(alloc, locations, log, member)?,
+        slot_info: slot_infos(alloc, member.team.get(), slots)?,
+        hint_points: points_of(seed, log, &[], member),
+    })
+}
