@@ -7,7 +7,8 @@ use Rattle.mw_protocol.specs.Checks.{keeps, start_items, found_item, locations_i
 use Rattle.mw_protocol.specs.Connecting.{Member}
 use Rattle.mw_protocol.specs.Owed.{update_with, items_from, view_of, update_owed, items_owed, growth_owed}
 use Rattle.mw_room.specs.Log.{Logged, logged_check, checks_in, AllHeld, items_in, kept_in, starts_kept, view_in, locations_logged, received_in, growth_in, standing_of, grown}
-use Rattle.mw_room.proofs.Checks.{filter-append, locations_in-append, drop-grown}
+use Rattle.std.proofs.lemmas.List.Elements.{filter-append}
+use Rattle.mw_room.proofs.Journal.{locations_in-append, drop-grown}
 use Rattle.mw_room.proofs.Entries.{AllHeld-append, items_logged}
 
 view_now : (seed : Seed) (log : List Logged) (m : Member) → AllHeld seed log → view_of seed (standing_of log) m ≡ view_in seed m log

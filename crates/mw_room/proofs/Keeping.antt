@@ -11,11 +11,8 @@ use Rattle.mw_protocol.specs.Rooms as plain
 use Rattle.mw_protocol.specs.Rooms.{Message, Session, Room, Event, IsSound, AllSound, text_of, untaken, greatest, is_full, session_in, member_in, without, taken_among, taken_all, untaken_of, next, taken, effect_in, session_after, new_session, opened, sent, failed, lost}
 use Rattle.mw_protocol.specs.Standing.{Standing, step, steps, standing}
 use Rattle.mw_room.specs.Known as kept
+use Rattle.mw_room.proofs.Journal.{steps-append}
 use Rattle.mw_room.specs.Known.{Shown, shown, known, shown_after, fresh_session, emptied, member_at, shown_at, texts_at, emptied_among, leaves, known_effect, known_affected, known_next, known_taken}
-
-pub steps-append : (seed : Seed) (s : Standing) (xs ys : List Record) → steps seed s (xs ++ ys) ≡ steps seed (steps seed s xs) ys
-steps-append seed s [] ys = refl
-steps-append seed s (x ∷ xs) ys = steps-append seed (step seed s x) xs ys
 
 -- ---- one session
 

@@ -1,9 +1,10 @@
-mod Checks
 mod Effects
 mod Entries
 mod Games
 mod Grown
+mod Hearing
 mod Joined
+mod Journal
 mod Keeping
 mod Messages
 mod Numbers

@@ -2,6 +2,7 @@ pub mod Fits
 pub mod Joining
 pub mod Kept
 pub mod Known
+pub mod Laws
 pub mod Log
 pub mod Playable
 pub mod Scouting

@@ -6,6 +6,7 @@ mod changes;
 mod connect;
 mod effect;
 mod event;
+mod laws;
 mod log;
 mod logged;
 mod member;
@@ -23,6 +24,7 @@ mod sessions;
 mod state;
 
 pub use event::Event;
+pub use laws::{strangers_hear, strangers_hear_no_others, views_grow, whole_views_are_owed};
 pub use member::Member;
 pub use plan::Plan;
 pub use room::Room;

@@ -132,7 +132,7 @@ pub fn count_locations(log: &[Logged], m: &Member) -> usize
 }
 
 /// Whether a location of a slot is checked in a team, in one of the lists.
-#[tactic(auto, using(crate::proofs::Checks::has_check_append))]
+#[tactic(auto, using(crate::proofs::Journal::has_check_append))]
 fn is_seen(log: &[Logged], found: &[Logged], team: TeamId, slot: SlotId, number: i128) -> bool
     ensures { result ≡ has_check (checks_in log.now ++ checks_in found.now) record { team = team; slot = slot; location = number } }
 {
