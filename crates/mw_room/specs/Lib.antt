@@ -1,3 +1,4 @@
+pub mod Counted
 pub mod Fits
 pub mod Joining
 pub mod Kept

@@ -14,7 +14,7 @@ use crate::packets::{bad_effect, effect_of, nothing};
 use crate::people::room_info;
 use crate::plan::Plan;
 use crate::room::Room;
-use crate::session::{Change, Session};
+use crate::session::{Change, Session, more_bytes};
 use crate::sessions::{change_all, close_lost, member_of, state_in, take_texts};
 use crate::state::SessionState;
 use mw_base::{Growth, List, Memory, SessionId, Text};
@@ -92,6 +92,7 @@ impl Room {
         Ok(Session {
             number,
             member: None,
+            bytes: more_bytes(0, &text),
             untaken: first_text(alloc, text)?,
             shows: self.recorded,
             overrun: false,

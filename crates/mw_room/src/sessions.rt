@@ -95,9 +95,7 @@ pub fn take_texts(alloc: Global, sessions: &mut [Session], number: u64) -> Vec<T
 {
     let at = place_of(sessions, number);
     if at < sessions.len() {
-        let session = &mut sessions[at];
-        session.shows = 0;
-        return std::mem::replace(&mut session.untaken, Vec::new(alloc));
+        return sessions[at].empty(alloc);
     }
     Vec::new(alloc)
 }

@@ -11,28 +11,22 @@ returns-then-at-sessions-clause-given c =
     let ss = c.args.sessions.now in
     let s = c.index-sessions-at.result in
     let within : place_in c.args.number (map session_view ss) < length ss = grind arith in
-    ap (λ (v : Vec (List ℕ) Global). v.items) c.replace.ensures.value
-    ∙ ap (λ n. (get_or ss n s).untaken.items) c.place_of-at.ensures
-    ∙ texts_there ss c.args.number s within
+    c.empty.ensures.given ∙ ap (λ n. (get_or ss n s).untaken.items) c.place_of-at.ensures ∙ texts_there ss c.args.number s within
 
 pub returns-then-at-sessions-clause-left : goal.returns-then-at-sessions-clause-left
 returns-then-at-sessions-clause-left c =
     let ss = c.args.sessions.now in
     let s = c.index-sessions-at.result in
+    let left = c.empty.new.self in
     let within : place_in c.args.number (map session_view ss) < length ss = grind arith in
-    let empty : c.replace.new.dest.items ≡ [] = ap (λ (v : Vec (List ℕ) Global). v.items) c.replace.ensures.after ∙ c.new.ensures.items in
-    let was = get_or ss c.place_of-at.result s in
-    let left : Session = record { number = was.number; member = was.member; untaken = c.replace.new.dest; shows = 0; overrun = was.overrun } in
-    let is : session_view left ≡ emptied (session_view was) =
-    ap (λ (ts : List (List ℕ)). record { number = was.number; member = was.member; texts = ts; shows = 0; overrun = was.overrun }) empty in
     ap (λ n. map session_view (set ss n left)) c.place_of-at.ensures
-    ∙ emptied_there ss c.args.number left s within (subst (λ n. session_view left ≡ emptied (session_view (get_or ss n s))) c.place_of-at.ensures is)
+    ∙ emptied_there ss c.args.number left s within (subst (λ n. session_view left ≡ emptied (session_view (get_or ss n s))) c.place_of-at.ensures c.empty.ensures.left)
 
 pub returns-clause-given : goal.returns-clause-given
 returns-clause-given c =
     let ss = c.args.sessions.now in
     let past : length (map session_view ss) ≤ place_in c.args.number (map session_view ss) = simp length-map (grind arith) in
-    c.new-2.ensures.items ∙ sym (nobody_there (map session_view ss) c.args.number past).texts
+    c.new.ensures.items ∙ sym (nobody_there (map session_view ss) c.args.number past).texts
 
 pub returns-clause-left : goal.returns-clause-left
 returns-clause-left c =
