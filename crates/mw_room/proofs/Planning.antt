@@ -6,7 +6,8 @@ use Rattle.mw_protocol.specs.Standing.{Standing, steps}
 use Rattle.mw_records.specs.Records.{record_view}
 use Rattle.mw_records.specs.declared.record.Record.{Record}
 use Rattle.mw_room.specs.Known.{Shown, Known, shown, shown_at, shown_after, greeted, leaves, known_effect, known_affected, known_next}
-use Rattle.mw_room.specs.Stands.{Stands, Plans, IsPlan, state_of}
+use Rattle.mw_room.specs.Stands.{Stands, Plans, IsPlan}
+use Rattle.mw_room.specs.States.{state_of}
 use Rattle.mw_room.specs.Views.{session_view, room_view, planned, made, changed, effect_view, shown_state, IsQuiet}
 use Rattle.mw_room.specs.declared.effect.Effect.{Effect}
 use Rattle.mw_room.specs.declared.plan.Plan.{Plan}

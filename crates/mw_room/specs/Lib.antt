@@ -1,4 +1,5 @@
 pub mod Counted
+pub mod Events
 pub mod Fits
 pub mod Joining
 pub mod Kept
@@ -8,4 +9,5 @@ pub mod Log
 pub mod Playable
 pub mod Scouting
 pub mod Stands
+pub mod States
 pub mod Views

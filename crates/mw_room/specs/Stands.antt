@@ -1,12 +1,10 @@
 -- The plain rooms that a room stands for.
-use Rattle.std.specs.Prelude.{◌≡◌, Option, Some, None, if◌then◌else◌}
+use Rattle.std.specs.Prelude.{◌≡◌}
 use Rattle.mw_protocol.specs.Rooms as plain
 use Rattle.mw_room.specs.Known.{Known, known, known_effect, known_next}
 use Rattle.mw_room.specs.Views.{room_view, planned, plan_records}
 use Rattle.mw_room.specs.declared.plan.Plan.{Plan}
 use Rattle.mw_room.specs.declared.room.Room.{Room}
-use Rattle.mw_room.specs.declared.state.SessionState.{SessionState}
-use Rattle.mw_room.specs.declared.state.SessionState.TheVariants.{Shut, Overrun, Ready}
 
 -- what the room keeps is what is kept of the plain room
 pub record Stands (room : Room) (r : plain.Room) : Type 0 where
@@ -22,8 +20,3 @@ pub record Plans (plan : Plan) (r : plain.Room) (event : plain.Event) : Type 0 w
 pub record IsPlan (plan : Plan) (k : Known) (event : plain.Event) : Type 0 where
   pub records : plan_records plan ≡ (known_effect k event).records
   pub after : planned plan k ≡ known_next k event
-
--- how a session stands, if it is open
-abbrev pub state_of : Option plain.Session → SessionState
-state_of None = Shut
-state_of (Some s) = if s.overrun then Overrun else Ready (plain.greatest (plain.untaken s))

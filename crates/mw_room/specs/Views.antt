@@ -7,26 +7,17 @@ use Rattle.mw_protocol.specs.Effects as plain_effects
 use Rattle.mw_protocol.specs.Records as recorded
 use Rattle.mw_protocol.specs.Rooms as plain
 use Rattle.mw_protocol.specs.Standing.{steps}
-use Rattle.mw_packets_in.specs.View as asked
 use Rattle.mw_packets_out.specs.View as told_by
 use Rattle.mw_records.specs.Records.{record_view}
 use Rattle.mw_room.specs.Known.{Shown, Known, told, with_member, leaves}
 use Rattle.mw_room.specs.Log.{Logged, AllHeld, standing_of, grown}
 use Rattle.mw_room.specs.declared.effect.Effect.{Effect}
-use Rattle.mw_room.specs.declared.event.Event.{Event}
-use Rattle.mw_room.specs.declared.event.Event.TheVariants.{Open, Packet, Bad, Lost}
 use Rattle.mw_room.specs.declared.plan.Plan.{Plan}
 use Rattle.mw_room.specs.declared.room.Room.{Room}
 use Rattle.mw_room.specs.declared.session.Change.{Change}
 use Rattle.mw_room.specs.declared.session.Session.{Session}
 use Rattle.mw_room.specs.declared.state.SessionState.{SessionState}
 use Rattle.mw_room.specs.declared.state.SessionState.TheVariants.{Shut, Overrun, Ready}
-
-abbrev pub event_view : Event → plain.Event
-event_view (Open time) = plain.opened time
-event_view (Packet session packet) = plain.sent session (asked.packet_view packet)
-event_view (Bad session bad) = plain.failed session (asked.bad_view bad)
-event_view (Lost session) = plain.lost session
 
 abbrev pub session_view : Session → Shown
 session_view s = record { number = s.number; member = s.member; texts = s.untaken.items; shows = s.shows; overrun = s.overrun }

@@ -4,8 +4,10 @@ ghost use Rattle.mw_protocol.specs.Rooms as plain;
 ghost use Rattle.mw_packets_in.specs.View.{packet_view, bad_view};
 ghost use Rattle.mw_room.specs.Fits.{Fits, ChangesFit};
 ghost use Rattle.mw_room.specs.Known.{Known, greeted, texts_at, known_affected, known_next, known_taken};
-ghost use Rattle.mw_room.specs.Stands.{Stands, Plans, IsPlan, state_of};
-ghost use Rattle.mw_room.specs.Views.{room_view, session_view, event_view, effect_view, planned, plan_records, made, IsLogged};
+ghost use Rattle.mw_room.specs.Stands.{Stands, Plans, IsPlan};
+ghost use Rattle.mw_room.specs.Events.{event_view};
+ghost use Rattle.mw_room.specs.States.{state_of};
+ghost use Rattle.mw_room.specs.Views.{room_view, session_view, effect_view, planned, plan_records, made, IsLogged};
 
 use crate::changes::changes_for;
 use crate::effect::Effect;
