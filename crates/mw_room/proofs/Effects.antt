@@ -1,5 +1,5 @@
 -- Effects of packets.
-use Rattle.std.proofs.Common.{◌≡◌, ℕ, ℤ, true, false, cond, ◌+◌, ◌<◌, ◌^◌, List, [], ◌∷◌, ◌++◌, Bool, Option, length, map, refl, sym, ap, ap₂, ◌∙◌, subst, arith, append-nil}
+use Rattle.std.proofs.Common.{◌≡◌, ℕ, ℤ, true, false, cond, List, [], ◌∷◌, ◌++◌, Bool, Option, map, refl, sym, ap, ap₂, ◌∙◌, subst, append-nil}
 use Rattle.mw_model.specs.Seed.{Seed}
 use Rattle.mw_protocol.specs.Checks.{Check, has_check, checks_at, unseen}
 use Rattle.mw_protocol.specs.Connecting.{Member}
@@ -9,7 +9,9 @@ use Rattle.mw_protocol.specs.Messages.{ServerPacket}
 use Rattle.mw_protocol.specs.Standing.{Standing, steps}
 use Rattle.mw_records.specs.Records.{record_view}
 use Rattle.mw_records.specs.declared.record.Record.{Record}
-use Rattle.mw_room.specs.Log.{Logged, checks_in, AllHeld, standing_of, grown}
+use Rattle.mw_checks.specs.Log.{Log, AreFresh, checks_of}
+use Rattle.mw_room.specs.News.{grown}
+use Rattle.mw_checks.specs.Log.{standing_of}
 use Rattle.mw_room.specs.Views.{effect_view, IsQuiet, IsLogged, IsEffect}
 use Rattle.mw_room.specs.declared.effect.Effect.{Effect}
 
@@ -23,15 +25,15 @@ quiet_is e answers whole member q a w m =
     ∙ ap₂ (λ (b : Bool) (o : Option Member). record { records = []; answers = answers; whole = b; member = o }) w m
 
 -- and the log stays
-pub quiet_logged : (e : Effect) (seed : Seed) (log : List Logged) → IsQuiet e → length log < 2 ^ 32 → IsLogged seed log e
-quiet_logged e seed log q few = record {
-  held = subst (AllHeld seed) (sym q.1) tt;
-  comes_to = ap (grown log) q.1 ∙ ap (λ cs. record { checked = cs }) (append-nil (checks_in log)) ∙ ap (λ (rs : List Record). steps seed (standing_of log) (map record_view rs)) (sym q.0);
-  few = subst (λ (es : List Logged). length log + length es < 2 ^ 32) (sym q.1) (omega (arith, few));
+pub quiet_logged : (e : Effect) (log : Log) → IsQuiet e → IsLogged log e
+quiet_logged e log q = record {
+  fresh = subst (AreFresh log.seed log.checked e.team) (sym q.1) tt;
+  comes_to = ap (λ ps. grown log (checks_of e.team ps)) q.1 ∙ ap (λ cs. record { checked = cs }) (append-nil log.checked)
+      ∙ ap (λ (rs : List Record). steps log.seed (standing_of log) (map record_view rs)) (sym q.0);
 }
 
-pub quiet_effect : (e : Effect) (seed : Seed) (log : List Logged) (due : plain.Effect) → IsQuiet e → length log < 2 ^ 32 → effect_view e ≡ due → IsEffect e seed log due
-quiet_effect e seed log due q few is = record { is = is; logged = quiet_logged e seed log q few }
+pub quiet_effect : (e : Effect) (log : Log) (due : plain.Effect) → IsQuiet e → effect_view e ≡ due → IsEffect e log due
+quiet_effect e log due q is = record { is = is; logged = quiet_logged e log q }
 
 -- ---- the record of new checks asks for just these
 

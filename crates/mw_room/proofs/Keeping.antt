@@ -1,15 +1,13 @@
 -- What is kept of a room follows from what was kept: laws of the definitions alone.
 use Rattle.std.proofs.Common.{◌≡◌, ℕ, ◌+◌, ◌==◌, List, [], ◌∷◌, ◌++◌, true, false, Option, Some, None, length, map, take, drop, max, cond, option_map, refl, sym, ap, ap₂, ◌∙◌, arith, length-append}
 use Rattle.std.proofs.lemmas.List.{map-append, drop_all, drop-append-le, length-take}
-use Rattle.mw_model.specs.Seed.{Seed}
 use Rattle.mw_protocol.specs.Connecting.{Member}
 use Rattle.mw_protocol.specs.Effects.{Effect, effect_of}
 use Rattle.mw_protocol.specs.Messages.{ServerPacket, room_info}
 use Rattle.mw_protocol.specs.Players.{room_info_of}
-use Rattle.mw_protocol.specs.Records.{Record}
 use Rattle.mw_protocol.specs.Rooms as plain
 use Rattle.mw_protocol.specs.Rooms.{Message, Session, Room, Event, IsSound, AllSound, text_of, untaken, greatest, is_full, session_in, member_in, without, taken_among, taken_all, untaken_of, next, taken, effect_in, session_after, new_session, opened, sent, failed, lost}
-use Rattle.mw_protocol.specs.Standing.{Standing, step, steps, standing}
+use Rattle.mw_protocol.specs.Standing.{Standing, steps, standing}
 use Rattle.mw_room.specs.Known as kept
 use Rattle.mw_room.proofs.Journal.{steps-append}
 use Rattle.mw_room.specs.Known.{Shown, shown, known, shown_after, fresh_session, emptied, member_at, shown_at, texts_at, emptied_among, leaves, known_effect, known_affected, known_next, known_taken}

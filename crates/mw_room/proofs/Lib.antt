@@ -1,5 +1,4 @@
 mod Effects
-mod Entries
 mod Games
 mod Grown
 mod Hearing

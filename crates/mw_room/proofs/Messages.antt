@@ -1,9 +1,9 @@
 -- Messages of some packets, and how many bytes messages have.
-use Rattle.std.proofs.Common.{◌≡◌, ℕ, ◌+◌, ◌<◌, List, [], ◌∷◌, ◌++◌, Some, length, map, refl, ap, arith, ◌∙◌, min, nat_le, ◌||◌}
+use Rattle.std.proofs.Common.{◌≡◌, ℕ, ◌+◌, ◌<◌, List, [], ◌∷◌, ◌++◌, Some, length, map, refl, arith, min}
 use Rattle.mw_protocol.specs.Messages.{message_text}
 use Rattle.mw_packets_out.specs.View.{packet_view}
 use Rattle.mw_packets_out.specs.declared.packet.ServerPacket.{ServerPacket}
-use Rattle.mw_protocol.specs.Rooms.{bytes_in, is_full}
+use Rattle.mw_protocol.specs.Rooms.{bytes_in}
 use Rattle.mw_room.specs.Known.{message_of}
 use Rattle.mw_room.specs.Counted.{bytes_kept}
 

@@ -1,6 +1,7 @@
 -- A plan that was made of a room.
 use Rattle.std.specs.Prelude.{ℕ, ◌<◌, ◌≤◌, ◌+◌, ◌^◌, ◌∷◌, [], List, length, get_or, vec_len}
 use Rattle.mw_base.specs.Space.{HasSpace}
+use Rattle.mw_checks.specs.Log.{HasRoom}
 use Rattle.mw_room.specs.Views.{IsLogged}
 use Rattle.mw_room.specs.declared.plan.Plan.{Plan}
 use Rattle.mw_room.specs.declared.room.Room.{Room}
@@ -14,8 +15,8 @@ ChangesFit from ss (c ∷ cs) = (from ≤ c.at) × (c.at < length ss) × ((d : S
 
 -- it has the memory that it needs, and its new entries are its records' checks
 pub record Fits (room : Room) (plan : Plan) : Type 0 where
-  pub log : HasSpace room.log plan.log_growth (vec_len plan.effect.new)
+  pub log : HasRoom room.log plan.log_growth (length plan.effect.new)
   pub sessions : HasSpace room.sessions plan.sessions_growth (vec_len plan.new_sessions)
   pub changes : ChangesFit 0 room.sessions.items plan.changes.items
   pub opened : plan.opened < 2 ^ 63
-  pub logged : IsLogged room.tables room.log.items plan.effect
+  pub logged : IsLogged room.log plan.effect

@@ -2,12 +2,10 @@ pub mod Counted
 pub mod Events
 pub mod Fits
 pub mod Joining
-pub mod Kept
 pub mod Known
 pub mod Laws
-pub mod Log
+pub mod News
 pub mod Playable
-pub mod Scouting
 pub mod Stands
 pub mod States
 pub mod Views

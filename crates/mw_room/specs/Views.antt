@@ -1,6 +1,5 @@
 -- The code's parts as plain data, and what a plan makes of them.
-use Rattle.std.specs.Prelude.{◌≡◌, ◌<◌, ℕ, zero, suc, ◌+◌, ◌^◌, ◌==◌, ◌++◌, ◌∷◌, [], List, Bool, Option, Some, None, map, length, if◌then◌else◌}
-use Rattle.mw_model.specs.Seed.{Seed}
+use Rattle.std.specs.Prelude.{◌≡◌, ℕ, zero, suc, ◌+◌, ◌==◌, ◌++◌, ◌∷◌, [], List, Bool, Option, Some, None, map, length, if◌then◌else◌}
 use Rattle.mw_base.specs.Space.{HasSpace}
 use Rattle.mw_protocol.specs.Connecting.{Member}
 use Rattle.mw_protocol.specs.Effects as plain_effects
@@ -10,7 +9,10 @@ use Rattle.mw_protocol.specs.Standing.{steps}
 use Rattle.mw_packets_out.specs.View as told_by
 use Rattle.mw_records.specs.Records.{record_view}
 use Rattle.mw_room.specs.Known.{Shown, Known, told, with_member, leaves}
-use Rattle.mw_room.specs.Log.{Logged, AllHeld, standing_of, grown}
+use Rattle.mw_checks.specs.Log.{Log, AreFresh, checks_of}
+use Rattle.mw_protocol.specs.Checks.{Check}
+use Rattle.mw_room.specs.News.{grown}
+use Rattle.mw_checks.specs.Log.{standing_of}
 use Rattle.mw_room.specs.declared.effect.Effect.{Effect}
 use Rattle.mw_room.specs.declared.plan.Plan.{Plan}
 use Rattle.mw_room.specs.declared.room.Room.{Room}
@@ -23,7 +25,7 @@ abbrev pub session_view : Session → Shown
 session_view s = record { number = s.number; member = s.member; texts = s.untaken.items; shows = s.shows; overrun = s.overrun }
 
 abbrev pub room_view : Room → Known
-room_view r = record { seed = r.tables; now = standing_of r.log.items; length = r.recorded; opened = r.opened; sessions = map session_view r.sessions.items }
+room_view r = record { seed = r.log.seed; now = standing_of r.log; length = r.recorded; opened = r.opened; sessions = map session_view r.sessions.items }
 
 -- how a session stands, if it is open
 abbrev pub shown_state : Option Shown → SessionState
@@ -75,20 +77,23 @@ made_for effect sends = if sends then effect.member else None
 abbrev pub effect_view : Effect → plain_effects.Effect
 effect_view e = record { records = map record_view e.records; answers = map told_by.packet_view e.answers; whole = e.whole; member = e.member }
 
+-- the checks that its records come to
+abbrev pub news_of : Effect → List Check
+news_of effect = checks_of effect.team effect.new
+
 -- it records nothing
 abbrev pub IsQuiet : Effect → Type 0
-IsQuiet effect = (effect.records ≡ []) × (effect.new.items ≡ [])
+IsQuiet effect = (effect.records ≡ []) × (effect.new ≡ [])
 
--- the new entries are the seed file's, and what the records come to; the log stays short enough for points
-pub record IsLogged (seed : Seed) (log : List Logged) (effect : Effect) : Type 0 where
-  pub held : AllHeld seed effect.new.items
-  pub comes_to : grown log effect.new.items ≡ steps seed (standing_of log) (map record_view effect.records)
-  pub few : length log + length effect.new.items < 2 ^ 32
+-- its new checks are locations that aren't checked, and what its records come to
+pub record IsLogged (log : Log) (effect : Effect) : Type 0 where
+  pub fresh : AreFresh log.seed log.checked effect.team effect.new
+  pub comes_to : grown log (news_of effect) ≡ steps log.seed (standing_of log) (map record_view effect.records)
 
 -- the effect is what is due, and is logged
-pub record IsEffect (effect : Effect) (seed : Seed) (log : List Logged) (due : plain_effects.Effect) : Type 0 where
+pub record IsEffect (effect : Effect) (log : Log) (due : plain_effects.Effect) : Type 0 where
   pub is : effect_view effect ≡ due
-  pub logged : IsLogged seed log effect
+  pub logged : IsLogged log effect
 
 abbrev pub plan_records : Plan → List recorded.Record
 plan_records plan = map record_view plan.effect.records

@@ -20,6 +20,7 @@ use crate::session::{Change, Session, more_bytes};
 use crate::sessions::{change_all, close_lost, member_of, state_in, take_texts};
 use crate::state::SessionState;
 use mw_base::{Growth, List, Memory, SessionId, Text};
+use mw_checks::CheckLog;
 use mw_multidata::RoomTables;
 use mw_packets_in::{Bad, Packet};
 use mw_packets_out::{ServerPacket, write_message};
@@ -53,8 +54,7 @@ impl Room {
     {
         Ok(Room {
             alloc,
-            tables,
-            log: Vec::new(alloc),
+            log: CheckLog::new(alloc, tables)?,
             recorded: 0,
             opened: 0,
             sessions: Vec::new(alloc),
@@ -89,7 +89,11 @@ impl Room {
     {
         let alloc = self.alloc;
         let mut packets = List::new(alloc);
-        packets.push(ServerPacket::RoomInfo(room_info(alloc, self.tables.multidata(), time)?))?;
+        packets.push(ServerPacket::RoomInfo(room_info(
+            alloc,
+            self.log.tables().multidata(),
+            time,
+        )?))?;
         let text = write_message(alloc, &packets)?;
         Ok(Session {
             number,
@@ -117,7 +121,7 @@ impl Room {
         ensures known { IfOk result (λ p. IsPlan p (room_view self.now) (plain.sent sender (packet_view packet.now))) }
     {
         let member = member_of(&self.sessions, sender);
-        let effect = effect_of(self.alloc, &self.tables, &self.log, member, packet)?;
+        let effect = effect_of(self.alloc, &self.log, member, packet)?;
         let plan = self.plan_effect(sender, effect)?;
         Ok(plan)
     }
@@ -147,14 +151,13 @@ impl Room {
 
     /// The plan of a sender's effect.
     fn plan_effect(&self, sender: u64, effect: Effect) -> Result<Plan, Memory>
-        requires { IsLogged self.now.tables self.now.log.items effect }
+        requires { IsLogged self.now.log effect }
         ensures fits { IfOk result (λ p. Fits self.now p) }
         ensures records { IfOk result (λ p. plan_records p ≡ (effect_view effect).records) }
         ensures after { IfOk result (λ p. planned p (room_view self.now) ≡ known_affected (room_view self.now) sender (effect_view effect)) }
     {
         let alloc = self.alloc;
-        let seed = self.tables.multidata();
-        let changes = changes_for(alloc, seed, &self.log, &effect, sender, &self.sessions)?;
+        let changes = changes_for(alloc, &self.log, &effect, sender, &self.sessions)?;
         let plan = self.finish(effect, changes, None, Vec::new(alloc))?;
         Ok(plan)
     }
@@ -168,7 +171,7 @@ impl Room {
         new_sessions: Vec<Session>,
     ) -> Result<Plan, Memory>
         requires fit { ChangesFit 0 self.now.sessions.items changes.items }
-        requires logged { IsLogged self.now.tables self.now.log.items effect }
+        requires logged { IsLogged self.now.log effect }
         ensures fits { IfOk result (λ p. Fits self.now p) }
         ensures records { IfOk result (λ p. plan_records p ≡ (effect_view effect).records) }
         ensures made { IfOk result (λ p. planned p (room_view self.now) ≡ made (room_view self.now) effect changes.items lost new_sessions.items) }
@@ -185,7 +188,7 @@ impl Room {
         if opened >= MOST_OPENED {
             return Err(Memory);
         }
-        let log_growth = Growth::of(alloc, &self.log, effect.new.len())?;
+        let log_growth = self.log.room_for(effect.new.len() as u64)?;
         let sessions_growth = Growth::of(alloc, &self.sessions, new_sessions.len())?;
         Ok(Plan {
             effect,
@@ -221,8 +224,8 @@ impl Room {
             log_growth,
             sessions_growth,
         } = plan;
-        let Effect { mut new, .. } = effect;
-        log_growth.fill(&mut self.log, &mut new);
+        let Effect { team, new, .. } = effect;
+        self.log.add_grown(team, new.as_slice(), log_growth);
         self.recorded = length;
         self.opened = opened;
         change_all(&mut self.sessions, changes, length);

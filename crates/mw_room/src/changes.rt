@@ -4,16 +4,16 @@ ghost use Rattle.mw_protocol.specs.Rooms.{member_after as member_after_lem};
 ghost use Rattle.mw_packets_out.specs.View.{packet_view};
 ghost use Rattle.mw_room.specs.Fits.{ChangesFit};
 ghost use Rattle.mw_room.specs.Known.{shown_after, message_of};
-ghost use Rattle.mw_room.specs.Log.{AllHeld, standing_of, grown};
-ghost use Rattle.mw_room.specs.Views.{session_view, changed, effect_view, made_for, due_by, IsChange, IsLogged};
+ghost use Rattle.mw_room.specs.News.{grown};
+ghost use Rattle.mw_checks.specs.Log.{standing_of};
+ghost use Rattle.mw_room.specs.Views.{session_view, changed, effect_view, news_of, made_for, due_by, IsChange, IsLogged};
 
 use crate::effect::Effect;
-use crate::logged::Logged;
 use crate::member::Member;
 use crate::owed::growth_owed;
 use crate::session::{Change, Session};
 use mw_base::{Growth, Memory, Text};
-use mw_multidata::Multidata;
+use mw_checks::CheckLog;
 use mw_packets_out::{ServerPacket, write_both};
 use std::alloc::Global;
 
@@ -45,18 +45,16 @@ fn answers_to(effect: &Effect, sends: bool) -> &[ServerPacket]
 /// The text of what a session is owed, where it is owed something.
 fn owed_text(
     alloc: Global,
-    seed: &Multidata,
-    log: &[Logged],
+    log: &CheckLog,
     effect: &Effect,
     sends: bool,
     member: &Option<Member>,
 ) -> Result<Option<Text>, Memory>
-    requires held { AllHeld seed.now log.now }
-    requires logged { IsLogged seed.now log.now effect.now }
-    ensures { IfOk result (λ t. t ≡ message_of (owed seed.now (standing_of log.now) (grown log.now effect.now.new.items) (effect_view effect.now) sends member.now)) }
+    requires { IsLogged log.now effect.now }
+    ensures { IfOk result (λ t. t ≡ message_of (owed log.now.seed (standing_of log.now) (grown log.now (news_of effect.now)) (effect_view effect.now) sends member.now)) }
 {
     let whole = effect.whole & sends;
-    let others = growth_owed(alloc, seed, log, &effect.new, whole, member)?;
+    let others = growth_owed(alloc, log, effect, whole, member)?;
     message_text(alloc, answers_to(effect, sends), others.as_slice())
 }
 
@@ -106,20 +104,18 @@ fn change_by(
 /// The change that an effect of the sender's makes to the session at an index, if it makes one.
 fn change_of(
     alloc: Global,
-    seed: &Multidata,
-    log: &[Logged],
+    log: &CheckLog,
     effect: &Effect,
     sender: u64,
     at: usize,
     session: &Session,
 ) -> Result<Option<Change>, Memory>
-    requires held { AllHeld seed.now log.now }
-    requires logged { IsLogged seed.now log.now effect.now }
-    ensures { IfOk result (λ o. IsChange o at (shown_after seed.now (standing_of log.now) (grown log.now effect.now.new.items) (effect_view effect.now) sender) session.now) }
+    requires { IsLogged log.now effect.now }
+    ensures { IfOk result (λ o. IsChange o at (shown_after log.now.seed (standing_of log.now) (grown log.now (news_of effect.now)) (effect_view effect.now) sender) session.now) }
 {
     let sends = session.number == sender;
     let member = member_after(effect, sends, session);
-    let text = owed_text(alloc, seed, log, effect, sends, member)?;
+    let text = owed_text(alloc, log, effect, sends, member)?;
     let made = made_of(alloc, effect, sends)?;
     let change = change_by(alloc, at, made, text, session)?;
     Ok(change)
@@ -138,21 +134,19 @@ fn push_change(changes: &mut Vec<Change>, change: Option<Change>) -> Result<(), 
 /// The changes that an effect of the sender's makes to the sessions.
 pub fn changes_for(
     alloc: Global,
-    seed: &Multidata,
-    log: &[Logged],
+    log: &CheckLog,
     effect: &Effect,
     sender: u64,
     sessions: &[Session],
 ) -> Result<Vec<Change>, Memory>
-    requires held { AllHeld seed.now log.now }
-    requires logged { IsLogged seed.now log.now effect.now }
+    requires { IsLogged log.now effect.now }
     ensures changes { IfOk result (λ cs. (length : ℕ) → changed length (map session_view sessions.now) cs.items
-        ≡ map (shown_after seed.now (standing_of log.now) (grown log.now effect.now.new.items) (effect_view effect.now) sender length) (map session_view sessions.now)) }
+        ≡ map (shown_after log.now.seed (standing_of log.now) (grown log.now (news_of effect.now)) (effect_view effect.now) sender length) (map session_view sessions.now)) }
     ensures fit { IfOk result (λ cs. ChangesFit 0 sessions.now cs.items) }
 {
     let mut changes = Vec::new(alloc);
     for (at, session) in sessions.iter().enumerate() {
-        let change = change_of(alloc, seed, log, effect, sender, at, session)?;
+        let change = change_of(alloc, log, effect, sender, at, session)?;
         push_change(&mut changes, change)?;
     }
     Ok(changes)

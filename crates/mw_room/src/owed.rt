@@ -1,79 +1,57 @@
-ghost use Rattle.std.specs.Prelude.{◌≡◌, ◌+◌, ◌-◌, ◌<◌, slice_get, ◌^◌, ◌++◌, IfOk, OnOk, map, length};
-ghost use Rattle.std.specs.Option.{option_copied};
-ghost use Rattle.mw_model.specs.Seed.{slot_of};
-ghost use Rattle.mw_protocol.specs.Checks.{start_items};
-ghost use Rattle.mw_protocol.specs.Owed.{items_from, update_with};
+ghost use Rattle.std.specs.Prelude.{◌≡◌, ◌+◌, ◌*◌, ◌++◌, IfOk, OnOk, map, length};
+ghost use Rattle.mw_checks.specs.Log.{checks_of};
+ghost use Rattle.mw_protocol.specs.Checks.{locations_in};
+ghost use Rattle.mw_protocol.specs.Owed.{items_from, update_with, growth_owed as growth_owed_lem};
+ghost use Rattle.mw_protocol.specs.Standing.{points};
 ghost use Rattle.mw_packets_out.specs.View.{packet_view};
-ghost use Rattle.mw_room.specs.Log.{view_in, starts_kept, kept_in, AllHeld, points_in, locations_logged, received_in, growth_in, standing_of, grown};
-ghost use Rattle.mw_protocol.specs.Owed.{growth_owed as growth_owed_lem};
+ghost use Rattle.mw_room.specs.News.{items_for, view_for, received_in, growth_in, grown};
+ghost use Rattle.mw_checks.specs.Log.{standing_of};
+ghost use Rattle.mw_room.specs.Views.{news_of};
 
-use crate::log::{add_items, add_starts, count_locations, locations_of};
-use crate::logged::Logged;
+use crate::effect::Effect;
 use crate::member::Member;
-use mw_base::{List, Memory, NetItem, SlotId};
-use mw_multidata::{Multidata, Slot};
+use crate::news::{add_locations, items_for_member};
+use mw_base::{List, Memory, NetItem};
+use mw_checks::CheckLog;
 use mw_packets_out::ServerPacket;
 use std::alloc::Global;
 
-/// The slot of a number.
-#[tactic(auto, using(crate::proofs::Numbers::slot_of_before))]
-pub fn slot_at(seed: &Multidata, number: SlotId) -> Option<&Slot>
-    ensures { option_copied result ≡ slot_of seed.now number }
+/// What so many checked locations are worth; want of memory where that passes 64 bits, which no
+/// list of checks that comes does.
+fn worth(log: &CheckLog, count: u64) -> Result<u64, Memory>
+    ensures { IfOk result (λ p. p ≡ log.now.seed.server.location_check_points * count) }
 {
-    let at = number.get() - 1;
-    seed.slots.get(usize::from(at))
-}
-
-/// Adds the starting items that the member wants.
-fn add_kept_starts(found: &mut List<NetItem>, seed: &Multidata, m: &Member) -> Result<(), Memory>
-    ensures { OnOk result (found.new ≡ found.old ++ starts_kept seed.now m.now) }
-{
-    match slot_at(seed, m.slot) {
-        Some(slot) => add_starts(found, slot.start.as_slice(), m),
-        None => Ok(()),
-    }
-}
-
-/// All that a member sees of what its slot received.
-pub fn view_of(
-    alloc: Global,
-    seed: &Multidata,
-    log: &[Logged],
-    m: &Member,
-) -> Result<List<NetItem>, Memory>
-    ensures { IfOk result (λ v. v ≡ view_in seed.now m.now log.now) }
-{
-    let mut found = List::new(alloc);
-    add_kept_starts(&mut found, seed, m)?;
-    add_items(&mut found, log, m)?;
-    Ok(found)
+    let server = &log.tables().multidata().server;
+    u64::from(server.location_check_points)
+        .checked_mul(count)
+        .ok_or(Memory)
 }
 
 /// The points of the member's slot.
-#[tactic(auto, using(crate::proofs::Numbers::product_fits, crate::proofs::Grown::count_grown))]
-pub fn points_of(seed: &Multidata, log: &[Logged], new: &[Logged], m: &Member) -> u64
-    requires { length log.now + length new.now < 2 ^ 32 }
-    ensures { result ≡ points_in seed.now m.now (log.now ++ new.now) }
+pub fn points_of(log: &CheckLog, member: &Member) -> Result<u64, Memory>
+    ensures { IfOk result (λ p. p ≡ points log.now.seed (standing_of log.now) member.now.team member.now.slot) }
 {
-    let count = count_locations(log, m) + count_locations(new, m);
-    u64::from(seed.server.location_check_points) * count as u64
+    worth(log, log.checked_len(member.team, member.slot))
 }
 
-/// The new locations of the member's slot, where there are some.
-fn add_update(
-    alloc: Global,
-    packets: &mut List<ServerPacket>,
-    seed: &Multidata,
-    log: &[Logged],
-    new: &[Logged],
-    m: &Member,
-) -> Result<(), Memory>
-    requires { length log.now + length new.now < 2 ^ 32 }
-    ensures { OnOk result (map packet_view packets.new ≡ map packet_view packets.old ++ update_with (points_in seed.now m.now (log.now ++ new.now)) (locations_logged m.now new.now)) }
+/// The points of the member's slot with so many checks more.
+fn points_with(log: &CheckLog, more: usize, member: &Member) -> Result<u64, Memory>
+    ensures { IfOk result (λ p. p ≡ log.now.seed.server.location_check_points
+        * (length (locations_in member.now.team member.now.slot log.now.checked) + more)) }
 {
-    let checked_locations = locations_of(alloc, new, m)?;
+    let count = log.checked_len(member.team, member.slot);
+    worth(log, count.checked_add(more as u64).ok_or(Memory)?)
+}
+
+/// New locations with the points after them, where there are some.
+fn push_update(
+    packets: &mut List<ServerPacket>,
+    checked_locations: List<i64>,
+    hint_points: u64,
+) -> Result<(), Memory>
+    ensures { OnOk result (map packet_view packets.new ≡ map packet_view packets.old ++ update_with hint_points checked_locations) }
+{
     if checked_locations.len() > 0 {
-        let hint_points = points_of(seed, log, new, m);
         packets.push(ServerPacket::RoomUpdate {
             checked_locations,
             hint_points,
@@ -82,8 +60,27 @@ fn add_update(
     Ok(())
 }
 
+/// The new locations of the member's slot, where there are some.
+#[tactic(auto, using(crate::proofs::Grown::points_grown))]
+fn add_update(
+    alloc: Global,
+    packets: &mut List<ServerPacket>,
+    log: &CheckLog,
+    effect: &Effect,
+    member: &Member,
+) -> Result<(), Memory>
+    ensures { OnOk result (map packet_view packets.new ≡ map packet_view packets.old
+        ++ update_with (points log.now.seed (grown log.now (news_of effect.now)) member.now.team member.now.slot) (locations_in member.now.team member.now.slot (news_of effect.now))) }
+{
+    let mut locations = List::new(alloc);
+    add_locations(&mut locations, effect.team, effect.new.as_slice(), member)?;
+    let points = points_with(log, locations.len(), member)?;
+    push_update(packets, locations, points)?;
+    Ok(())
+}
+
 /// Items from a place in the member's list, where there are some.
-pub fn add_received(
+fn add_received(
     packets: &mut List<ServerPacket>,
     index: u64,
     items: List<NetItem>,
@@ -96,75 +93,80 @@ pub fn add_received(
     Ok(())
 }
 
+/// Items and then others.
+fn joined(items: List<NetItem>, others: List<NetItem>) -> Result<List<NetItem>, Memory>
+    ensures { IfOk result (λ is. is ≡ items ++ others) }
+{
+    let mut all = items.into_vec();
+    all.append(&mut others.into_vec())?;
+    Ok(List::from_vec(all))
+}
+
 /// All that a member sees, where there is something.
 fn add_whole_view(
     alloc: Global,
     packets: &mut List<ServerPacket>,
-    seed: &Multidata,
-    log: &[Logged],
-    new: &[Logged],
-    m: &Member,
+    log: &CheckLog,
+    effect: &Effect,
+    member: &Member,
 ) -> Result<(), Memory>
-    ensures { OnOk result (map packet_view packets.new ≡ map packet_view packets.old ++ items_from 0 (view_in seed.now m.now log.now ++ kept_in m.now new.now)) }
+    ensures { OnOk result (map packet_view packets.new ≡ map packet_view packets.old
+        ++ items_from 0 (view_for log.now member.now ++ items_for log.now.seed member.now (news_of effect.now))) }
 {
-    let mut items = view_of(alloc, seed, log, m)?;
-    add_items(&mut items, new, m)?;
-    add_received(packets, 0, items)
+    let seen = log.view(member.team, member.slot, member.mask, 0)?;
+    let items = items_for_member(alloc, log, effect, member)?;
+    add_received(packets, 0, joined(seen, items)?)
 }
 
-/// The items that new checks give to the member's slot, at their place in its list.
+/// The items that new checks give the member, at their place in its list.
 fn add_new_items(
     alloc: Global,
     packets: &mut List<ServerPacket>,
-    seed: &Multidata,
-    log: &[Logged],
-    new: &[Logged],
-    m: &Member,
+    log: &CheckLog,
+    effect: &Effect,
+    member: &Member,
 ) -> Result<(), Memory>
-    ensures { OnOk result (map packet_view packets.new ≡ map packet_view packets.old ++ items_from (length (view_in seed.now m.now log.now)) (kept_in m.now new.now)) }
+    ensures { OnOk result (map packet_view packets.new ≡ map packet_view packets.old
+        ++ items_from (length (view_for log.now member.now)) (items_for log.now.seed member.now (news_of effect.now))) }
 {
-    let mut items = List::new(alloc);
-    add_items(&mut items, new, m)?;
+    let items = items_for_member(alloc, log, effect, member)?;
     if items.len() == 0 {
         return Ok(());
     }
-    let index = view_of(alloc, seed, log, m)?.len();
-    add_received(packets, index as u64, items)
+    let index = log.view_len(member.team, member.slot, member.mask);
+    add_received(packets, index, items)
 }
 
 /// The items that a member is owed: all that it sees, or what the new checks add.
 fn add_items_owed(
     alloc: Global,
     packets: &mut List<ServerPacket>,
-    seed: &Multidata,
-    log: &[Logged],
-    new: &[Logged],
+    log: &CheckLog,
+    effect: &Effect,
     whole: bool,
-    m: &Member,
+    member: &Member,
 ) -> Result<(), Memory>
-    ensures { OnOk result (map packet_view packets.new ≡ map packet_view packets.old ++ received_in whole seed.now m.now log.now new.now) }
+    ensures { OnOk result (map packet_view packets.new ≡ map packet_view packets.old ++ received_in whole log.now member.now (news_of effect.now)) }
 {
     if whole {
-        return add_whole_view(alloc, packets, seed, log, new, m);
+        return add_whole_view(alloc, packets, log, effect, member);
     }
-    add_new_items(alloc, packets, seed, log, new, m)
+    add_new_items(alloc, packets, log, effect, member)
 }
 
 /// What a member is owed where the log grew, beside the answer to its own packet.
 fn growth_of(
     alloc: Global,
-    seed: &Multidata,
-    log: &[Logged],
-    new: &[Logged],
+    log: &CheckLog,
+    effect: &Effect,
     whole: bool,
-    m: &Member,
+    member: &Member,
 ) -> Result<List<ServerPacket>, Memory>
-    requires few { length log.now + length new.now < 2 ^ 32 }
-    ensures { IfOk result (λ ps. map packet_view ps ≡ growth_in whole seed.now m.now log.now new.now) }
+    ensures { IfOk result (λ ps. map packet_view ps ≡ growth_in whole log.now member.now (news_of effect.now)) }
 {
     let mut packets = List::new(alloc);
-    add_update(alloc, &mut packets, seed, log, new, m)?;
-    add_items_owed(alloc, &mut packets, seed, log, new, whole, m)?;
+    add_update(alloc, &mut packets, log, effect, member)?;
+    add_items_owed(alloc, &mut packets, log, effect, whole, member)?;
     Ok(packets)
 }
 
@@ -172,20 +174,16 @@ fn growth_of(
 #[tactic(auto, using(crate::proofs::Grown::growth_is))]
 pub fn growth_owed(
     alloc: Global,
-    seed: &Multidata,
-    log: &[Logged],
-    new: &[Logged],
+    log: &CheckLog,
+    effect: &Effect,
     whole: bool,
     member: &Option<Member>,
 ) -> Result<List<ServerPacket>, Memory>
-    requires few { length log.now + length new.now < 2 ^ 32 }
-    requires held { AllHeld seed.now log.now }
-    requires held_new { AllHeld seed.now new.now }
     ensures { IfOk result (λ ps. map packet_view ps
-        ≡ growth_owed_lem whole seed.now (standing_of log.now) (grown log.now new.now) member.now) }
+        ≡ growth_owed_lem whole log.now.seed (standing_of log.now) (grown log.now (news_of effect.now)) member.now) }
 {
     match member {
-        Some(m) => growth_of(alloc, seed, log, new, whole, m),
+        Some(member) => growth_of(alloc, log, effect, whole, member),
         None => Ok(List::new(alloc)),
     }
 }

@@ -1,6 +1,6 @@
-ghost use Rattle.std.specs.Prelude.{◌≡◌, ◌+◌, ◌<◌, ◌^◌, [], true, Some, None, IfOk, map, length};
+ghost use Rattle.std.specs.Prelude.{◌≡◌, ℕ, [], true, false, None, IfOk, map};
 ghost use Rattle.std.specs.Option.{option_copied};
-ghost use Rattle.mw_protocol.specs.Effects.{location_of, answering as answering_lem, nothing as nothing_lem, effect_of as effect_of_lem, stranger_effect as stranger_effect_lem, member_effect as member_effect_lem, updating as updating_lem, checking as checking_lem, scouted as scouted_lem, checks_record, bad_effect as bad_effect_lem};
+ghost use Rattle.mw_protocol.specs.Effects.{location_of, new_checks, answering as answering_lem, nothing as nothing_lem, effect_of as effect_of_lem, stranger_effect as stranger_effect_lem, member_effect as member_effect_lem, updating as updating_lem, checking as checking_lem, scouted as scouted_lem, checks_record, bad_effect as bad_effect_lem};
 ghost use Rattle.mw_protocol.specs.Messages as plain_answer;
 ghost use Rattle.mw_protocol.specs.Packages.{package_json};
 ghost use Rattle.mw_protocol.specs.Packets as plain;
@@ -8,20 +8,21 @@ ghost use Rattle.mw_protocol.specs.Words.{already_connected as already_connected
 ghost use Rattle.mw_packets_in.specs.View as asked;
 ghost use Rattle.mw_packets_out.specs.View.{packet_view};
 ghost use Rattle.mw_records.specs.Records.{record_view};
-ghost use Rattle.mw_room.specs.Log.{checks_in, standing_of, fresh_entries};
+ghost use Rattle.mw_checks.specs.Log.{AreFresh, checks_of};
+ghost use Rattle.mw_checks.specs.Log.{standing_of};
 ghost use Rattle.mw_room.specs.Views.{effect_view, IsQuiet, IsEffect};
 
 use crate::connect::{connect_errors, member_by};
 use crate::effect::Effect;
-use crate::log::new_checks;
-use crate::logged::Logged;
 use crate::member::{Member, updated};
+use crate::news::Pair;
 use crate::packages::data_package;
 use crate::people::connected;
 use crate::refusals::{already_connected, invalid_packet};
 use crate::scouts::scouted;
-use mw_base::{List, LocId, Memory, Text};
-use mw_multidata::{Multidata, RoomTables};
+use mw_base::{List, LocId, Memory, TeamId, Text};
+use mw_checks::CheckLog;
+use mw_multidata::RoomTables;
 use mw_packets_in::{Bad, Connect, ConnectUpdate, LocationScouts, Packet};
 use mw_packets_out::ServerPacket;
 use mw_records::Record;
@@ -36,7 +37,8 @@ fn quiet(alloc: Global, answers: List<ServerPacket>, whole: bool, member: Option
 {
     Effect {
         records: List::new(alloc),
-        new: Vec::new(alloc),
+        team: TeamId::new(0).unwrap(),
+        new: List::new(alloc),
         answers,
         whole,
         member,
@@ -75,16 +77,11 @@ pub fn bad_effect(alloc: Global, bad: &Bad) -> Result<Effect, Memory>
 
 /// The effect of a Connect of a session that plays no slot.
 #[tactic(auto, using(crate::proofs::Effects::quiet_is))]
-fn joining(
-    alloc: Global,
-    seed: &Multidata,
-    log: &[Logged],
-    fields: &Connect,
-) -> Result<Effect, Memory>
-    requires { length log.now < 2 ^ 32 }
+fn joining(alloc: Global, log: &CheckLog, fields: &Connect) -> Result<Effect, Memory>
     ensures quiet { IfOk result (λ e. IsQuiet e) }
-    ensures is { IfOk result (λ e. effect_view e ≡ stranger_effect_lem seed.now (standing_of log.now) (plain.connect fields.now)) }
+    ensures is { IfOk result (λ e. effect_view e ≡ stranger_effect_lem log.now.seed (standing_of log.now) (plain.connect fields.now)) }
 {
+    let seed = log.tables().multidata();
     let mut answers = List::new(alloc);
     match member_by(alloc, seed, fields)? {
         None => {
@@ -93,7 +90,7 @@ fn joining(
             Ok(quiet(alloc, answers, false, None))
         }
         Some(member) => {
-            answers.push(ServerPacket::Connected(connected(alloc, seed, log, &member)?))?;
+            answers.push(ServerPacket::Connected(connected(alloc, log, &member)?))?;
             Ok(quiet(alloc, answers, true, Some(member)))
         }
     }
@@ -136,14 +133,14 @@ fn packaging(
 /// The effect of a question for what stands at locations.
 fn scouting(
     alloc: Global,
-    seed: &Multidata,
+    log: &CheckLog,
     member: &Member,
     scouts: &LocationScouts,
 ) -> Result<Effect, Memory>
     ensures quiet { IfOk result (λ e. IsQuiet e) }
-    ensures is { IfOk result (λ e. effect_view e ≡ answering_lem (plain_answer.location_info (scouted_lem seed.now member.now scouts.now.locations))) }
+    ensures is { IfOk result (λ e. effect_view e ≡ answering_lem (plain_answer.location_info (scouted_lem log.now.seed member.now scouts.now.locations))) }
 {
-    let locations = scouted(alloc, seed, member, scouts.locations.as_slice())?;
+    let locations = scouted(alloc, log, member, scouts.locations.as_slice())?;
     let effect = answering(alloc, ServerPacket::LocationInfo { locations })?;
     Ok(effect)
 }
@@ -158,38 +155,33 @@ fn refusing(alloc: Global) -> Result<Effect, Memory>
     Ok(effect)
 }
 
-/// What a stranger's packet does that records nothing.
-fn stranger_effect(
-    alloc: Global,
-    tables: &RoomTables,
-    log: &[Logged],
-    packet: &Packet,
-) -> Result<Effect, Memory>
-    requires { length log.now < 2 ^ 32 }
+/// What a stranger's packet does, which records nothing.
+fn stranger_effect(alloc: Global, log: &CheckLog, packet: &Packet) -> Result<Effect, Memory>
     ensures quiet { IfOk result (λ e. IsQuiet e) }
-    ensures is { IfOk result (λ e. effect_view e ≡ stranger_effect_lem tables.now (standing_of log.now) (asked.packet_view packet.now)) }
+    ensures is { IfOk result (λ e. effect_view e ≡ stranger_effect_lem log.now.seed (standing_of log.now) (asked.packet_view packet.now)) }
 {
     match packet {
-        Packet::Connect(fields) => joining(alloc, tables.multidata(), log, fields),
-        Packet::GetDataPackage { games } => packaging(alloc, tables, games),
+        Packet::Connect(fields) => joining(alloc, log, fields),
+        Packet::GetDataPackage { games } => packaging(alloc, log.tables(), games),
         _ => Ok(nothing(alloc)),
     }
 }
 
-/// The locations of entries.
-fn locations_in(alloc: Global, new: &[Logged]) -> Result<List<LocId>, Memory>
-    ensures { IfOk result (λ ls. ls ≡ map location_of (checks_in new.now)) }
+/// The locations of pairs.
+fn locations_in(alloc: Global, new: &[Pair]) -> Result<List<LocId>, Memory>
+    ensures { IfOk result (λ ls. (team : ℕ) → ls ≡ map location_of (checks_of team new.now)) }
 {
     let mut found = List::new(alloc);
-    for entry in new {
-        found.push(entry.held.location)?;
+    for pair in new {
+        let (_, location) = *pair;
+        found.push(location)?;
     }
     Ok(found)
 }
 
-/// The record of new entries of a member's slot, where there are some.
-fn records_for(alloc: Global, member: &Member, new: &[Logged]) -> Result<List<Record>, Memory>
-    ensures { IfOk result (λ rs. map record_view rs ≡ checks_record member.now.team member.now.slot (map location_of (checks_in new.now))) }
+/// The record of new checks of a member's slot, where there are some.
+fn records_for(alloc: Global, member: &Member, new: &[Pair]) -> Result<List<Record>, Memory>
+    ensures { IfOk result (λ rs. map record_view rs ≡ checks_record member.now.team member.now.slot (map location_of (checks_of member.now.team new.now))) }
 {
     let mut records = List::new(alloc);
     let locations = locations_in(alloc, new)?;
@@ -199,68 +191,64 @@ fn records_for(alloc: Global, member: &Member, new: &[Logged]) -> Result<List<Re
     Ok(records)
 }
 
-/// The entries of those of the numbers that are unchecked locations of the member's slot, each once.
-fn new_entries(
-    alloc: Global,
-    seed: &Multidata,
-    log: &[Logged],
-    member: &Member,
-    numbers: &[i128],
-) -> Result<Vec<Logged>, Memory>
-    ensures { IfOk result (λ v. v.items ≡ fresh_entries seed.now.locations (checks_in log.now) member.now.team member.now.slot numbers.now) }
+/// Those of the numbers that are unchecked locations of the member's slot, each once.
+fn fresh_of(log: &CheckLog, member: &Member, numbers: &[i128]) -> Result<List<Pair>, Memory>
+    ensures checks { IfOk result (λ ps. checks_of member.now.team ps ≡ new_checks log.now.seed (standing_of log.now) member.now.team member.now.slot numbers.now) }
+    ensures fresh { IfOk result (λ ps. AreFresh log.now.seed log.now.checked member.now.team ps) }
 {
-    let locations = seed.locations.as_slice();
-    new_checks(alloc, locations, log, member.team, member.slot, numbers)
+    log.fresh_of(member.team, member.slot, numbers)
 }
 
 /// The effect of checks.
 fn checking(
     alloc: Global,
-    seed: &Multidata,
-    log: &[Logged],
+    log: &CheckLog,
     member: &Member,
     numbers: &[i128],
 ) -> Result<Effect, Memory>
-    requires { length log.now < 2 ^ 32 }
-    ensures { IfOk result (λ e. IsEffect e seed.now log.now (checking_lem seed.now (standing_of log.now) member.now numbers.now)) }
+    ensures { IfOk result (λ e. IsEffect e log.now (checking_lem log.now.seed (standing_of log.now) member.now numbers.now)) }
 {
-    let new = new_entries(alloc, seed, log, member, numbers)?;
-    // No list of checks comes so far; the bound keeps a slot's points within 64 bits.
-    if log.len() + new.len() >= 0x1_0000_0000 {
-        return Err(Memory);
-    }
-    let records = records_for(alloc, member, &new)?;
-    Ok(Effect {
+    let new = fresh_of(log, member, numbers)?;
+    let records = records_for(alloc, member, new.as_slice())?;
+    Ok(checked(alloc, records, member, new))
+}
+
+/// The effect of a member's records that come to these checks.
+fn checked(alloc: Global, records: List<Record>, member: &Member, new: List<Pair>) -> Effect
+    ensures records { result.records ≡ records }
+    ensures team { result.team ≡ member.now.team }
+    ensures new { result.new ≡ new }
+    ensures is { effect_view result ≡ record { records = map record_view records; answers = []; whole = false; member = None } }
+{
+    Effect {
         records,
+        team: member.team,
         new,
         answers: List::new(alloc),
         whole: false,
         member: None,
-    })
+    }
 }
 
 /// What a member's packet does.
 #[tactic(auto, using(crate::proofs::Effects::quiet_effect))]
 fn member_effect(
     alloc: Global,
-    tables: &RoomTables,
-    log: &[Logged],
+    log: &CheckLog,
     member: &Member,
     packet: &Packet,
 ) -> Result<Effect, Memory>
-    requires { length log.now < 2 ^ 32 }
-    ensures { IfOk result (λ e. IsEffect e tables.now log.now (member_effect_lem tables.now (standing_of log.now) member.now (asked.packet_view packet.now))) }
+    ensures { IfOk result (λ e. IsEffect e log.now (member_effect_lem log.now.seed (standing_of log.now) member.now (asked.packet_view packet.now))) }
 {
-    let seed = tables.multidata();
     let effect = match packet {
         Packet::Connect(_) => refusing(alloc)?,
         Packet::ConnectUpdate(update) => updating(alloc, member, update)?,
         Packet::Sync => syncing(alloc),
         Packet::LocationChecks { locations } => {
-            return checking(alloc, seed, log, member, locations.as_slice());
+            return checking(alloc, log, member, locations.as_slice());
         }
-        Packet::LocationScouts(scouts) => scouting(alloc, seed, member, scouts)?,
-        Packet::GetDataPackage { games } => packaging(alloc, tables, games)?,
+        Packet::LocationScouts(scouts) => scouting(alloc, log, member, scouts)?,
+        Packet::GetDataPackage { games } => packaging(alloc, log.tables(), games)?,
         _ => nothing(alloc),
     };
     Ok(effect)
@@ -270,18 +258,16 @@ fn member_effect(
 #[tactic(auto, using(crate::proofs::Effects::quiet_effect))]
 pub fn effect_of(
     alloc: Global,
-    tables: &RoomTables,
-    log: &[Logged],
+    log: &CheckLog,
     member: Option<&Member>,
     packet: &Packet,
 ) -> Result<Effect, Memory>
-    requires { length log.now < 2 ^ 32 }
-    ensures { IfOk result (λ e. IsEffect e tables.now log.now (effect_of_lem tables.now (standing_of log.now) (option_copied member.entry) (asked.packet_view packet.now))) }
+    ensures { IfOk result (λ e. IsEffect e log.now (effect_of_lem log.now.seed (standing_of log.now) (option_copied member.entry) (asked.packet_view packet.now))) }
 {
     match member {
-        Some(member) => member_effect(alloc, tables, log, member, packet),
+        Some(member) => member_effect(alloc, log, member, packet),
         None => {
-            let effect = stranger_effect(alloc, tables, log, packet)?;
+            let effect = stranger_effect(alloc, log, packet)?;
             Ok(effect)
         }
     }

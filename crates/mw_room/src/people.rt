@@ -1,17 +1,16 @@
-ghost use Rattle.std.specs.Prelude.{◌≡◌, ◌≤◌, ◌<◌, ◌^◌, ◌++◌, IfOk, OnOk, length, map, filter, not};
+ghost use Rattle.std.specs.Prelude.{◌≡◌, ◌≤◌, ◌++◌, IfOk, OnOk, length, map, filter, not};
 ghost use Rattle.mw_model.specs.Games.{checksum_of};
 ghost use Rattle.mw_protocol.specs.Players.{games_played as games_played_lem, room_info_of, connected_of, name_in as name_in_lem, team_players, players_of as players_of_lem, slot_infos as slot_infos_lem};
 ghost use Rattle.mw_protocol.specs.Standing.{is_checked};
 ghost use Rattle.mw_protocol.specs.Asked.{locations_among};
-ghost use Rattle.mw_room.specs.Log.{standing_of};
+ghost use Rattle.mw_checks.specs.Log.{standing_of};
 ghost use Rattle.mw_room.specs.Playable.{IsPlayable};
 
-use crate::log::is_logged;
-use crate::logged::Logged;
 use crate::member::Member;
 use crate::owed::points_of;
 use crate::playable::playable;
 use mw_base::{List, Memory, SlotId, TeamId, Text};
+use mw_checks::CheckLog;
 use mw_datapack::{checksum_of_game, is_played};
 use mw_multidata::{Game, Held, Multidata, Slot};
 use mw_packets_out::{Connected, GameSum, NetworkPlayer, NetworkSlot, RoomInfo};
@@ -124,7 +123,7 @@ fn slot_infos(alloc: Global, team: u8, slots: &[Slot]) -> Result<List<NetworkSlo
 fn missing_locations(
     alloc: Global,
     locations: &[Held],
-    log: &[Logged],
+    log: &CheckLog,
     member: &Member,
 ) -> Result<List<i64>, Memory>
     ensures { IfOk result (λ ls. ls
@@ -135,7 +134,7 @@ fn missing_locations(
     for held in locations {
         if held.slot == member.slot {
             let number = held.location.get();
-            if !is_logged(log, member.team, member.slot, i128::from(number)) {
+            if !log.is_checked(member.team, member.slot, held.location) {
                 found.push(number)?;
             }
         }
@@ -147,7 +146,7 @@ fn missing_locations(
 fn checked_locations(
     alloc: Global,
     locations: &[Held],
-    log: &[Logged],
+    log: &CheckLog,
     member: &Member,
 ) -> Result<List<i64>, Memory>
     ensures { IfOk result (λ ls. ls
@@ -158,7 +157,7 @@ fn checked_locations(
     for held in locations {
         if held.slot == member.slot {
             let number = held.location.get();
-            if is_logged(log, member.team, member.slot, i128::from(number)) {
+            if log.is_checked(member.team, member.slot, held.location) {
                 found.push(number)?;
             }
         }
@@ -167,15 +166,10 @@ fn checked_locations(
 }
 
 /// What a session is told when it becomes a member.
-pub fn connected(
-    alloc: Global,
-    seed: &Multidata,
-    log: &[Logged],
-    member: &Member,
-) -> Result<Connected, Memory>
-    requires { length log.now < 2 ^ 32 }
-    ensures { IfOk result (λ r. r ≡ connected_of seed.now (standing_of log.now) member.now) }
+pub fn connected(alloc: Global, log: &CheckLog, member: &Member) -> Result<Connected, Memory>
+    ensures { IfOk result (λ r. r ≡ connected_of log.now.seed (standing_of log.now) member.now) }
 {
+    let seed = log.tables().multidata();
     playable(seed);
     let slots = seed.slots.as_slice();
     let locations = seed.locations.as_slice();
@@ -186,6 +180,6 @@ pub fn connected(
         missing_locations: missing_locations(alloc, locations, log, member)?,
         checked_locations: checked_locations(alloc, locations, log, member)?,
         slot_info: slot_infos(alloc, member.team.get(), slots)?,
-        hint_points: points_of(seed, log, &[], member),
+        hint_points: points_of(log, member)?,
     })
 }

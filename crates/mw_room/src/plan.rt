@@ -1,7 +1,7 @@
 use crate::effect::Effect;
-use crate::logged::Logged;
 use crate::session::{Change, Session};
 use mw_base::{Growth, List};
+use mw_checks::CheckGrowth;
 use mw_records::Record;
 
 /// What an event does to a room, with the memory that it takes.
@@ -13,7 +13,7 @@ pub struct Plan {
     pub(crate) changes: Vec<Change>,
     pub(crate) lost: Option<u64>,
     pub(crate) new_sessions: Vec<Session>,
-    pub(crate) log_growth: Growth<Logged>,
+    pub(crate) log_growth: CheckGrowth,
     pub(crate) sessions_growth: Growth<Session>,
 }
 

@@ -1,51 +1,65 @@
-ghost use Rattle.std.specs.Prelude.{◌≡◌, IfOk, [], map};
-ghost use Rattle.mw_protocol.specs.Effects.{scouted as scouted_lem};
-ghost use Rattle.mw_room.specs.Log.{fresh_entries};
-ghost use Rattle.mw_room.specs.Scouting.{scout_of as scout_of_lem};
+ghost use Rattle.std.specs.Prelude.{◌≡◌, ◌++◌, IfOk, OnOk, option_to_list};
+ghost use Rattle.mw_checks.specs.Log.{checks_of};
+ghost use Rattle.mw_model.specs.Seed.{held_at};
+ghost use Rattle.mw_protocol.specs.Effects.{scouted as scouted_lem, scouted_item, scouted_at};
 
-use crate::log::new_checks;
-use crate::logged::Logged;
 use crate::member::Member;
-use mw_base::{List, Memory, NetItem};
-use mw_multidata::{Held, Multidata};
+use crate::news::Pair;
+use mw_base::{List, LocId, Memory, NetItem, SlotId};
+use mw_checks::CheckLog;
 use std::alloc::Global;
 
-/// An item beside its receiver.
-fn scout_of(held: &Held) -> NetItem
-    ensures { result ≡ scout_of_lem held.now }
+/// The item at a location beside its receiver, if one stands there.
+fn scout_of(log: &CheckLog, slot: SlotId, location: LocId) -> Option<NetItem>
+    ensures { option_to_list result ≡ scouted_item (held_at log.now.seed slot location) }
 {
-    NetItem {
+    let held = log.held(slot, location)?;
+    Some(NetItem {
         item: held.item.get(),
         location: held.location.get(),
         player: held.receiver,
         flags: held.flags,
-    }
+    })
 }
 
-/// What stands at these locations, each item beside its receiver.
-fn scouts_of(alloc: Global, entries: &[Logged]) -> Result<List<NetItem>, Memory>
-    ensures { IfOk result (λ is. is ≡ map (λ e. scout_of_lem e.held) entries.now) }
+/// Adds an item, if there is one.
+fn push_item(found: &mut List<NetItem>, item: Option<NetItem>) -> Result<(), Memory>
+    ensures { OnOk result (found.new ≡ found.old ++ option_to_list item) }
+{
+    if let Some(item) = item {
+        found.push(item)?;
+    }
+    Ok(())
+}
+
+/// What stands at locations of the member's slot, each item beside its receiver.
+fn scouts_of(
+    alloc: Global,
+    log: &CheckLog,
+    member: &Member,
+    pairs: &[Pair],
+) -> Result<List<NetItem>, Memory>
+    ensures { IfOk result (λ is. is ≡ scouted_at log.now.seed member.now.slot (checks_of member.now.team pairs.now)) }
 {
     let mut found = List::new(alloc);
-    for entry in entries {
-        found.push(scout_of(&entry.held))?;
+    for pair in pairs {
+        let (_, location) = *pair;
+        push_item(&mut found, scout_of(log, member.slot, location))?;
     }
     Ok(found)
 }
 
 /// What stands at those of the numbers that are locations of the member's slot, each once, in
 /// order; the player of an item is its receiver. Memory is its only error.
-#[tactic(auto, using(crate::proofs::Entries::scouted_entries))]
 pub fn scouted(
     alloc: Global,
-    seed: &Multidata,
+    log: &CheckLog,
     member: &Member,
     numbers: &[i128],
 ) -> Result<List<NetItem>, Memory>
-    ensures { IfOk result (λ is. is ≡ scouted_lem seed.now member.now numbers.now) }
+    ensures { IfOk result (λ is. is ≡ scouted_lem log.now.seed member.now numbers.now) }
 {
-    let locations = seed.locations.as_slice();
-    let entries = new_checks(alloc, locations, &[], member.team, member.slot, numbers)?;
-    let found = scouts_of(alloc, entries.as_slice())?;
+    let known = log.known_of(member.team, member.slot, numbers)?;
+    let found = scouts_of(alloc, log, member, known.as_slice())?;
     Ok(found)
 }

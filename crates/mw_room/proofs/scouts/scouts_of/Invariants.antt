@@ -1,6 +1,7 @@
-use Rattle.std.proofs.Common.{◌≡◌, ◌++◌, drop, map}
-use Rattle.mw_room.specs.Scouting.{scout_of}
+use Rattle.std.proofs.Common.{◌≡◌, ◌++◌, drop}
+use Rattle.mw_checks.specs.Log.{checks_of}
+use Rattle.mw_protocol.specs.Effects.{scouted_at}
 use Rattle.mw_room.proofs.scouts.scouts_of.Given as goal
 
-abbrev pub invariant-loop-entry : goal.invariant-loop-entry
-invariant-loop-entry l = l.found ++ map (λ e. scout_of e.held) (drop l.entry-index l.entries) ≡ map (λ e. scout_of e.held) l.entries
+abbrev pub invariant-loop-pair : goal.invariant-loop-pair
+invariant-loop-pair l = l.found ++ scouted_at l.log.seed l.member.slot (checks_of l.member.team (drop l.pair-index l.pairs)) ≡ scouted_at l.log.seed l.member.slot (checks_of l.member.team l.pairs)

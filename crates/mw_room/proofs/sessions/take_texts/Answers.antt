@@ -1,8 +1,7 @@
-use Rattle.std.proofs.Common.{◌≡◌, ◌<◌, ◌≤◌, [], ℕ, List, Vec, Global, length, map, get_or, set, sym, ap, ◌∙◌, subst, arith}
+use Rattle.std.proofs.Common.{◌≡◌, ◌<◌, ◌≤◌, length, map, get_or, set, sym, ap, ◌∙◌, subst, arith}
 use Rattle.std.proofs.lemmas.List.{length-map}
 use Rattle.mw_room.specs.Known.{emptied}
 use Rattle.mw_room.specs.Views.{session_view, place_in}
-use Rattle.mw_room.specs.declared.session.Session.{Session}
 use Rattle.mw_room.proofs.Places.{emptied_there, texts_there, nobody_there}
 use Rattle.mw_room.proofs.sessions.take_texts.Goals as goal
 

@@ -1,4 +1,4 @@
-use Rattle.std.proofs.Common.{◌≡◌, ◌+◌, ℕ, length, min, sym, ap, ◌∙◌}
+use Rattle.std.proofs.Common.{◌+◌, ℕ, length, min, sym, ap, ◌∙◌}
 use Rattle.mw_room.specs.Counted.{bytes_kept}
 use Rattle.mw_room.proofs.Messages.{bytes_more}
 use Rattle.mw_room.proofs.session.Session.keep.Goals as goal

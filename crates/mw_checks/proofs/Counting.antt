@@ -1,0 +1,172 @@
+-- A location that isn't flagged leaves room in its owner's row.
+use Rattle.std.proofs.Common.{◌≡◌, ◌≢◌, ℕ, zero, suc, ◌+◌, ◌/◌, ◌<◌, ◌≤◌, ◌==◌, ◌&&◌, inl, inr, Vec, Global, List, [], ◌∷◌, ◌++◌, Bool, true, false, not, length, get_or, set, drop, replicate, refl, sym, ap, ap₂, ◌∙◌, subst, arith}
+use Rattle.std.proofs.lemmas.Bool.{eq-eqb}
+use Rattle.std.proofs.lemmas.Bool.Decides.{eqb_tells}
+use Rattle.std.proofs.lemmas.List.{drop_more, get_or_read, length-set, get_or-set_same, get_or-set_other}
+use Rattle.std.specs.Prelude.{vec_len, vec_capacity}
+use Rattle.mw_checks.specs.Rows.{seat, one_if, many_of, awaited, AllBelow, Fit, Put, Counts, Empty}
+
+less_if : (b x y : Bool) → (x ≡ true → y ≡ true) → one_if (b && not y) ≤ one_if (b && not x)
+less_if false x y h = omega arith
+less_if true false true h = omega arith
+less_if true false false h = omega arith
+less_if true true y h = let set_too : y ≡ true = h refl in rw set_too (omega arith)
+
+flag_stays : (done : List Bool) (k i : ℕ) → get_or done i false ≡ true → get_or (set done k true) i false ≡ true
+flag_stays [] k i h = h
+flag_stays (d ∷ done) zero zero h = refl
+flag_stays (d ∷ done) zero (suc i) h = h
+flag_stays (d ∷ done) (suc k) zero h = h
+flag_stays (d ∷ done) (suc k) (suc i) h = flag_stays done k i h
+
+-- one flag more leaves no more to come
+fewer : (done : List Bool) (k team slot n : ℕ) (os : List ℕ) → awaited (set done k true) team slot n os ≤ awaited done team slot n os
+fewer done k team slot n [] = omega arith
+fewer done k team slot n (o ∷ os) =
+    omega (arith, less_if (o == slot) (get_or done (seat n team) false) (get_or (set done k true) (seat n team) false) (flag_stays done k (seat n team)), fewer done k team slot (n + 1) os)
+
+-- and one less where it is one of these
+one_fewer : (done : List Bool) (team slot n j k : ℕ) (os : List ℕ) → n + j ≡ k → j < length os → get_or os j 0 ≡ slot → seat k team < length done → get_or done (seat k team) false ≡ false
+    → awaited (set done (seat k team) true) team slot n os + 1 ≤ awaited done team slot n os
+one_fewer done team slot n j k [] at w own there free = absurd (omega arith)
+one_fewer done team slot n zero k (o ∷ os) at w own there free =
+    let here : k ≡ n = omega arith in
+    let marked : get_or (set done (seat k team) true) (seat n team) false ≡ true = ap (λ m. get_or (set done (seat k team) true) (seat m team) false) (sym here) ∙ get_or-set_same done (seat k team) true false there in
+    let unmarked : get_or done (seat n team) false ≡ false = ap (λ m. get_or done (seat m team) false) (sym here) ∙ free in
+    let after : one_if ((o == slot) && not (get_or (set done (seat k team) true) (seat n team) false)) ≡ one_if ((o == slot) && false) = ap (λ (b : Bool). one_if ((o == slot) && not b)) marked in
+    let before : one_if ((o == slot) && not (get_or done (seat n team) false)) ≡ 1 = ap₂ (λ (a b : Bool). one_if (a && not b)) (eq-eqb o slot own) unmarked in
+    let none : one_if ((o == slot) && false) ≡ 0 = ap (λ (b : Bool). one_if (b && false)) (eq-eqb o slot own) in
+    omega (arith, after, before, none, fewer done (seat k team) team slot (n + 1) os)
+one_fewer done team slot n (suc j) k (o ∷ os) at w own there free =
+    let rest : awaited (set done (seat k team) true) team slot (n + 1) os + 1 ≤ awaited done team slot (n + 1) os = one_fewer done team slot (n + 1) j k os (omega arith) (omega arith) own there free in
+    omega (arith, less_if (o == slot) (get_or done (seat n team) false) (get_or (set done (seat k team) true) (seat n team) false) (flag_stays done (seat k team) (seat n team)), rest)
+
+-- what isn't flagged has its place
+pub row_has_room : (owners : List ℕ) (done : List Bool) (rows : List (Vec ℕ Global)) (team n : ℕ) (d : Vec ℕ Global) → Fit owners done rows → team < 8 → n < length owners → get_or owners n 0 ≤ 1024
+    → seat n team < length done → get_or done (seat n team) false ≡ false → vec_len (get_or rows (seat (get_or owners n 0) team) d) < vec_capacity (get_or rows (seat (get_or owners n 0) team) d)
+row_has_room owners done rows team n d f t w own there free =
+    omega (arith, f.room team (get_or owners n 0) d t own, one_fewer done team (get_or owners n 0) 0 n n owners (omega arith) w refl there free)
+
+below_more : (many : ℕ) (ns : List ℕ) (n : ℕ) → AllBelow many ns → n < many → AllBelow many (ns ++ n ∷ [])
+below_more many [] n h w = (w, tt)
+below_more many (m ∷ ms) n h w = (h.0, below_more many ms n h.1 w)
+
+-- the rows fit with a number more in its owner's row
+pub fits_put : (owners : List ℕ) (done : List Bool) (rows new : List (Vec ℕ Global)) (team n : ℕ) → Fit owners done rows → team < 8 → n < length owners → get_or owners n 0 ≤ 1024
+    → seat n team < length done → get_or done (seat n team) false ≡ false → Put rows new (seat (get_or owners n 0) team) n → Fit owners (set done (seat n team) true) new
+fits_put owners done rows new team n f t w own there free p =
+    let slot = get_or owners n 0 in
+    record {
+      many = p.many ∙ f.many;
+      room = λ u s d k l. elim (eqb_tells (seat s u) (seat slot team)) [
+        | inl e ↦
+            let is_slot : s ≡ slot = omega (arith, e.1) in
+            let is_team : u ≡ team = omega (arith, e.1) in
+            let here : vec_len (get_or new (seat slot team) d) + awaited (set done (seat n team) true) team slot 0 owners ≤ vec_capacity (get_or new (seat slot team) d) =
+            omega (arith, p.len d, p.space d, f.room team slot d t own, one_fewer done team slot 0 n n owners (omega arith) w refl there free) in
+            subst (λ x. vec_len (get_or new (seat x u) d) + awaited (set done (seat n team) true) u x 0 owners ≤ vec_capacity (get_or new (seat x u) d)) (sym is_slot)
+            (subst (λ x. vec_len (get_or new (seat slot x) d) + awaited (set done (seat n team) true) x slot 0 owners ≤ vec_capacity (get_or new (seat slot x) d)) (sym is_team) here)
+        | inr e ↦
+            subst (λ (v : Vec ℕ Global). vec_len v + awaited (set done (seat n team) true) u s 0 owners ≤ vec_capacity v) (sym (p.others (seat s u) d e.1))
+            (omega (arith, f.room u s d k l, fewer done (seat n team) u s 0 owners))
+      ];
+      within = λ u s d k l. elim (eqb_tells (seat s u) (seat slot team)) [
+        | inl e ↦
+            let is_slot : s ≡ slot = omega (arith, e.1) in
+            let is_team : u ≡ team = omega (arith, e.1) in
+            let same : (get_or new (seat s u) d).items ≡ (get_or rows (seat s u) d).items ++ n ∷ [] =
+            ap (λ i. (get_or new i d).items) e.1 ∙ p.items d ∙ ap (λ i. (get_or rows i d).items ++ n ∷ []) (sym e.1) in
+            subst (AllBelow (length owners)) (sym same) (below_more (length owners) (get_or rows (seat s u) d).items n (f.within u s d k l) w)
+        | inr e ↦ subst (λ (v : Vec ℕ Global). AllBelow (length owners) v.items) (sym (p.others (seat s u) d e.1)) (f.within u s d k l)
+      ];
+    }
+
+-- ---- the beginning
+
+pub get_or-replicate_same : {X : Type 0} (many i : ℕ) (x : X) → get_or (replicate many x) i x ≡ x
+get_or-replicate_same zero i x = refl
+get_or-replicate_same (suc many) zero x = refl
+get_or-replicate_same (suc many) (suc i) x = get_or-replicate_same many i x
+
+and_true : (b : Bool) → one_if (b && true) ≡ one_if b
+and_true true = refl
+and_true false = refl
+
+-- with no flag all are to come
+pub all_awaited : (many team slot n : ℕ) (os : List ℕ) → awaited (replicate many false) team slot n os ≡ many_of slot os
+all_awaited many team slot n [] = refl
+all_awaited many team slot n (o ∷ os) =
+    ap₂ (λ (x y : ℕ). x + y) (ap (λ (b : Bool). one_if ((o == slot) && not b)) (get_or-replicate_same many (seat n team) false) ∙ and_true (o == slot)) (all_awaited many team slot (n + 1) os)
+
+-- empty rows of memory for all that may come
+pub fits_none : (owners counts : List ℕ) (many : ℕ) (rows : List (Vec ℕ Global)) → Counts owners counts → Empty counts rows → Fit owners (replicate many false) rows
+fits_none owners counts many rows c e = record {
+  many = e.many;
+  room = λ team slot d t s.
+      let at : seat slot team < 8200 = omega arith in
+      let is_slot : seat slot team / 8 ≡ slot = omega arith in
+      let asked : get_or counts slot 0 ≤ vec_capacity (get_or rows (seat slot team) d) = subst (λ i. get_or counts i 0 ≤ vec_capacity (get_or rows (seat slot team) d)) is_slot (e.room (seat slot team) d at) in
+      omega (arith, asked, e.len (seat slot team) d at, c slot s, all_awaited many team slot 0 owners);
+  within = λ team slot d t s. subst (AllBelow (length owners)) (sym (e.items (seat slot team) d (omega arith))) tt;
+}
+
+-- ---- counts
+
+other_number : (a b : ℕ) → a ≢ b → (a == b) ≡ false
+other_number a b h = elim (eqb_tells a b) [ inl e ↦ absurd (h e.1) | inr e ↦ e.0 ]
+
+-- one owner more is counted
+pub counted_more : (counts owners : List ℕ) (i n x slot all : ℕ) → i < length owners → n ≡ get_or owners i 0 → n < length counts → x ≡ get_or counts n x
+    → get_or counts slot 0 + many_of slot (drop i owners) ≡ all → get_or (set counts n (x + 1)) slot 0 + many_of slot (drop (i + 1) owners) ≡ all
+counted_more counts owners i n x slot all w own within is so =
+    let value : x ≡ get_or counts n 0 = get_or_read counts n x within is 0 in
+    let rest : many_of slot (drop i owners) ≡ one_if (n == slot) + many_of slot (drop (i + 1) owners) =
+    ap (many_of slot) (drop_more owners i 0 w) ∙ ap (λ (o : ℕ). one_if (o == slot) + many_of slot (drop (i + 1) owners)) (sym own) in
+    elim (eqb_tells slot n) [
+      | inl e ↦
+          let one : one_if (n == slot) ≡ 1 = ap one_if (eq-eqb n slot (sym e.1)) in
+          let now : get_or (set counts n (x + 1)) slot 0 ≡ x + 1 = ap (λ k. get_or (set counts n (x + 1)) k 0) e.1 ∙ get_or-set_same counts n (x + 1) 0 within in
+          let was : get_or counts slot 0 ≡ x = ap (λ k. get_or counts k 0) e.1 ∙ sym value in
+          omega (arith, rest, one, now, was, so)
+      | inr e ↦
+          let none : one_if (n == slot) ≡ 0 = ap one_if (other_number n slot (λ q. e.1 (sym q))) in
+          let now : get_or (set counts n (x + 1)) slot 0 ≡ get_or counts slot 0 = get_or-set_other counts n slot (x + 1) 0 e.1 in
+          omega (arith, rest, none, now, so)
+    ]
+
+-- an owner that is no slot isn't counted
+pub counted_none : (owners : List ℕ) (i n slot : ℕ) → i < length owners → n ≡ get_or owners i 0 → 1025 ≤ n → slot ≤ 1024 → many_of slot (drop i owners) ≡ many_of slot (drop (i + 1) owners)
+counted_none owners i n slot w own big few =
+    let rest : many_of slot (drop i owners) ≡ one_if (n == slot) + many_of slot (drop (i + 1) owners) =
+    ap (many_of slot) (drop_more owners i 0 w) ∙ ap (λ (o : ℕ). one_if (o == slot) + many_of slot (drop (i + 1) owners)) (sym own) in
+    let none : one_if (n == slot) ≡ 0 = ap one_if (other_number n slot (λ e. omega (arith, e))) in
+    omega (arith, rest, none)
+
+-- no count is above how many there were
+pub few_more : (counts : List ℕ) (i n x slot : ℕ) → x ≡ get_or counts n x → n < length counts → ((s : ℕ) → get_or counts s 0 ≤ i) → get_or (set counts n (x + 1)) slot 0 ≤ i + 1
+few_more counts i n x slot is within few =
+    let value : x ≡ get_or counts n 0 = get_or_read counts n x within is 0 in
+    elim (eqb_tells slot n) [
+      | inl e ↦
+          let now : get_or (set counts n (x + 1)) slot 0 ≡ x + 1 = ap (λ k. get_or (set counts n (x + 1)) k 0) e.1 ∙ get_or-set_same counts n (x + 1) 0 within in
+          omega (arith, now, value, few n)
+      | inr e ↦
+          let now : get_or (set counts n (x + 1)) slot 0 ≡ get_or counts slot 0 = get_or-set_other counts n slot (x + 1) 0 e.1 in
+          omega (arith, now, few slot)
+    ]
+
+-- ---- a row
+
+-- a row that was written is the one that a number was put into
+pub put_there : (rows : List (Vec ℕ Global)) (at n : ℕ) (row after : Vec ℕ Global) → at < length rows → row ≡ get_or rows at row → after.items ≡ row.items ++ n ∷ [] → vec_len after ≡ vec_len row + 1
+    → vec_capacity row ≤ vec_capacity after → Put rows (set rows at after) at n
+put_there rows at n row after w is items len space =
+    let here : (d : Vec ℕ Global) → get_or (set rows at after) at d ≡ after = λ d. get_or-set_same rows at after d w in
+    let was : (d : Vec ℕ Global) → row ≡ get_or rows at d = λ d. get_or_read rows at row w is d in
+    record {
+      many = length-set rows at after;
+      items = λ d. ap (λ (v : Vec ℕ Global). v.items) (here d) ∙ items ∙ ap (λ (v : Vec ℕ Global). v.items ++ n ∷ []) (was d);
+      len = λ d. ap (λ (v : Vec ℕ Global). vec_len v) (here d) ∙ len ∙ ap (λ (v : Vec ℕ Global). vec_len v + 1) (was d);
+      space = λ d. subst (λ (v : Vec ℕ Global). vec_capacity (get_or rows at d) ≤ vec_capacity v) (sym (here d)) (subst (λ (v : Vec ℕ Global). vec_capacity v ≤ vec_capacity after) (was d) space);
+      others = λ i d apart. get_or-set_other rows at i after d apart;
+    }

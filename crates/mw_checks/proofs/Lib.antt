@@ -1,0 +1,6 @@
+pub mod Counting
+pub mod Giving
+pub mod Keeping
+pub mod News
+pub mod Numbering
+pub mod Tails

@@ -1,0 +1,179 @@
+ghost use Rattle.std.specs.Prelude.{◌≡◌, ◌+◌, ◌*◌, ◌<◌, ◌≤◌, ◌^◌, ◌++◌, ◌∷◌, [], true, false};
+ghost use Rattle.std.specs.Prelude.{IfOk, map, length, get_or, set, replicate};
+ghost use Rattle.std.specs.Prelude.{vec_len, vec_capacity};
+ghost use Rattle.std.specs.declared.alloc.Global.{Global};
+ghost use Rattle.mw_checks.specs.Kept.{KeptIn, HasPlaces};
+ghost use Rattle.mw_checks.specs.Rows.{seat, Counts, Empty, Put, receiver_of, finder_of};
+
+use crate::places::Places;
+use mw_base::{Memory, SlotId, TeamId};
+use mw_multidata::Held;
+use std::alloc::Global;
+
+/// The teams that there may be.
+const TEAMS: usize = 8;
+
+/// The slots that there may be, which count from 1.
+const SLOTS: usize = 1025;
+
+/// Where the flag of a number, or the row of a slot, of a team stands.
+fn seat(number: usize, team: TeamId) -> usize
+    requires { number < 2 ^ 60 }
+    ensures value { result ≡ seat number team }
+    ensures team { team < 8 }
+{
+    TEAMS * number + usize::from(team.get())
+}
+
+/// A flag for each location and team, and for each slot and team the numbers of what it received
+/// and of its checked locations. Each row has the memory for all that may still come.
+#[derive(Drop)]
+pub(crate) struct Rows {
+    done: Vec<bool>,
+    received: Vec<Vec<u32>>,
+    found: Vec<Vec<u32>>,
+}
+
+/// A count of 0 for each slot.
+fn no_counts(alloc: Global) -> Result<Vec<usize>, Memory>
+    ensures { IfOk result (λ cs. cs.items ≡ replicate 1025 0) }
+{
+    Ok(vec![in alloc; 0; SLOTS]?)
+}
+
+/// How many of these owners each slot is.
+fn counts_of(alloc: Global, owners: &[u16]) -> Result<Vec<usize>, Memory>
+    ensures many { IfOk result (λ cs. length cs.items ≡ 1025) }
+    ensures counts { IfOk result (λ cs. Counts owners.now cs.items) }
+{
+    let mut counts = no_counts(alloc)?;
+    for owner in owners {
+        let slot = usize::from(*owner);
+        if slot < SLOTS {
+            counts[slot] += 1;
+        }
+    }
+    Ok(counts)
+}
+
+/// Empty rows for each slot and team, with memory for as many as are counted for the slot.
+fn empty_rows(alloc: Global, counts: &[usize]) -> Result<Vec<Vec<u32>>, Memory>
+    requires { length counts.now ≡ 1025 }
+    ensures { IfOk result (λ rs. Empty counts.now rs.items) }
+{
+    let mut rows = Vec::new(alloc);
+    for at in 0..TEAMS * SLOTS {
+        let row = Vec::with_capacity(alloc, counts[at / TEAMS])?;
+        rows.push(row)?;
+    }
+    Ok(rows)
+}
+
+/// The receivers of the items.
+fn receivers_of(alloc: Global, locations: &[Held]) -> Result<Vec<u16>, Memory>
+    ensures { IfOk result (λ v. v.items ≡ map receiver_of locations.now) }
+{
+    let mut receivers = Vec::new(alloc);
+    for held in locations {
+        receivers.push(held.receiver)?;
+    }
+    Ok(receivers)
+}
+
+/// The finders of the items.
+fn finders_of(alloc: Global, locations: &[Held]) -> Result<Vec<u16>, Memory>
+    ensures { IfOk result (λ v. v.items ≡ map finder_of locations.now) }
+{
+    let mut finders = Vec::new(alloc);
+    for held in locations {
+        finders.push(held.slot.get())?;
+    }
+    Ok(finders)
+}
+
+/// A flag for each of so many locations and each team, none set.
+fn no_flags(alloc: Global, locations: usize) -> Result<Vec<bool>, Memory>
+    requires { locations ≤ 16777216 }
+    ensures { IfOk result (λ v. v.items ≡ replicate (8 * locations) false) }
+{
+    Ok(vec![in alloc; false; TEAMS * locations]?)
+}
+
+/// Puts an item at the end of a row that has memory for it.
+pub(crate) fn put<T: Drop>(row: &mut Vec<T>, item: T)
+    requires { vec_len row.old < vec_capacity row.old }
+    ensures items { row.new.items ≡ row.old.items ++ item ∷ [] }
+    ensures len { vec_len row.new ≡ vec_len row.old + 1 }
+    ensures space { vec_capacity row.old ≤ vec_capacity row.new }
+{
+    row.push(item).unwrap();
+}
+
+impl Rows {
+    /// No flag is set, and the rows are empty.
+    pub(crate) fn new(alloc: Global, places: &Places) -> Result<Rows, Memory>
+        ensures { IfOk result (λ r. KeptIn places.now [] r) }
+    {
+        let locations = places.locations();
+        let receivers = receivers_of(alloc, locations)?;
+        let receivers = counts_of(alloc, &receivers)?;
+        let finders = finders_of(alloc, locations)?;
+        let finders = counts_of(alloc, &finders)?;
+        let done = no_flags(alloc, locations.len())?;
+        let received = empty_rows(alloc, &receivers)?;
+        let found = empty_rows(alloc, &finders)?;
+        Ok(Rows {
+            done,
+            received,
+            found,
+        })
+    }
+
+    /// Whether a location's number is flagged in a team.
+    pub(crate) fn is_done(&self, team: TeamId, number: u32) -> bool
+        requires { 8 * number + 8 ≤ length self.now.done.items }
+        ensures value { result ≡ get_or self.now.done.items (seat number team) false }
+        ensures team { team < 8 }
+    {
+        self.done[seat(number as usize, team)]
+    }
+
+    /// The numbers of the items that a slot received in a team.
+    pub(crate) fn received_by(&self, team: TeamId, slot: SlotId) -> &Vec<u32>
+        requires { length self.now.received.items ≡ 8200 }
+        ensures row { result.now ≡ get_or self.now.received.items (seat slot team) result.now }
+        ensures ranges { (team < 8) × (slot ≤ 1024) }
+    {
+        &self.received[seat(usize::from(slot.get()), team)]
+    }
+
+    /// The numbers of a slot's checked locations in a team.
+    pub(crate) fn found_by(&self, team: TeamId, slot: SlotId) -> &Vec<u32>
+        requires { length self.now.found.items ≡ 8200 }
+        ensures row { result.now ≡ get_or self.now.found.items (seat slot team) result.now }
+        ensures ranges { (team < 8) × (slot ≤ 1024) }
+    {
+        &self.found[seat(usize::from(slot.get()), team)]
+    }
+
+    /// Flags a location in a team, and puts it into its receiver's and its finder's rows. It takes
+    /// no memory.
+    pub(crate) fn enter(&mut self, team: TeamId, number: u32, held: &Held)
+        requires { HasPlaces self.old team number held.now }
+        ensures flag { self.new.done.items ≡ set self.old.done.items (seat number team) true }
+        ensures received { Put self.old.received.items self.new.received.items
+            (seat held.now.receiver team) number }
+        ensures found { Put self.old.found.items self.new.found.items
+            (seat held.now.slot team) number }
+    {
+        self.done[seat(number as usize, team)] = true;
+        put(
+            &mut self.received[seat(usize::from(held.receiver), team)],
+            number,
+        );
+        put(
+            &mut self.found[seat(usize::from(held.slot.get()), team)],
+            number,
+        );
+    }
+}
