@@ -4,14 +4,14 @@ use Rattle.std.specs.Prelude.{IfErr, IsErrAnd}
 use Rattle.std.specs.Io.KnownBytes.{Appends}
 use Rattle.mw_edges.specs.Causes.{PutsFront}
 use Rattle.mw_model.specs.Seed.{Seed}
-use Rattle.mw_protocol.specs.Room.{Room, empty_room}
+use Rattle.mw_protocol.specs.Rooms.{empty_room}
 use Rattle.mw_offline.specs.Commands.{Command}
 use Rattle.mw_offline.specs.Drive.{drive_text}
 use Rattle.mw_offline.specs.Ends.{stop_with, HasLeft}
 use Rattle.mw_offline.specs.Gives.{GivesScript}
-use Rattle.mw_offline.specs.SeedFiles.{IsSeedStopped}
+use Rattle.mw_offline.specs.SeedFiles.{SeedIn, IsSeedStopped}
 use Rattle.mw_offline.specs.Script.{script_of}
-use Rattle.mw_offline.specs.Driving.{IsRead, HasSeed, IsSeedRefused, IsReady, HasDriveCause, halt_stop, script_stop, TextRead, Drives, PutsSome}
+use Rattle.mw_offline.specs.Driving.{IsRead, IsReady, HasDriveCause, halt_stop, script_stop, TextRead, Drives, PutsSome}
 use Rattle.mw_offline.specs.declared.drive.Halt.{Halt}
 use Rattle.mw_offline.specs.declared.drive.Halt.TheVariants as halted
 use Rattle.mw_offline.specs.declared.script.ScriptError.{ScriptError}
@@ -20,7 +20,7 @@ use Rattle.mw_offline.specs.declared.stop.Stop.{Stop}
 use Rattle.mw_offline.specs.declared.stop.Stop.TheVariants.{Fault, Memory, Refused}
 use Rattle.mw_offline.specs.declared.seed_cause.SeedCause.{SeedCause}
 use Rattle.mw_offline.specs.declared.drive_cause.DriveCause.{DriveCause}
-use Rattle.mw_offline.specs.declared.drive_cause.DriveCause.TheVariants.{SeedFile, SeedFileNotBuilt, Script, LineNotBuilt}
+use Rattle.mw_offline.specs.declared.drive_cause.DriveCause.TheVariants.{SeedFile}
 use Rattle.mw_offline.proofs.Endings.{passed_exit, left_some}
 use Rattle.mw_offline.proofs.Judged.{accepted_within}
 
@@ -43,29 +43,17 @@ script_late error.Memory e = cc
 script_late (error.Refused line) e = cc
 script_late (error.NotBuilt line) e = cc
 
-file_refused : (file : Option (Option (List ℕ))) (may_fail : Bool) (stop : Stop SeedCause) → IsSeedStopped file may_fail stop → IsSeedRefused file may_fail (stop_with SeedFile stop)
-file_refused file may_fail Fault h = h
-file_refused file may_fail Memory h = tt
-file_refused file may_fail (Refused cause) h = h
-
--- a seed file that gives no seed gives none of one team
-pub refused_seed : {T : Type 0} (file : Option (Option (List ℕ))) (may_fail : Bool) (answer : Result T (Stop DriveCause)) (stop : Stop SeedCause) → IsSeedStopped file may_fail stop → IsErrAnd answer (λ e. e ≡ stop_with SeedFile stop) → IfErr answer (IsSeedRefused file may_fail)
-refused_seed file may_fail answer stop h is = passed_exit (IsSeedRefused file may_fail) answer (stop_with SeedFile stop) (file_refused file may_fail stop h) is
-
 module _ {S : Type 0} (left : S → Option (List ℕ)) (file : Option (Option (List ℕ))) (may_fail : Bool) (before : S) where
   -- the source isn't touched before the seed file stands
-  seed_cause : (stop : Stop DriveCause) → IsSeedRefused file may_fail stop → HasDriveCause left file may_fail before before stop
+  seed_cause : (stop : Stop SeedCause) → IsSeedStopped file may_fail stop → HasDriveCause left file may_fail before before (stop_with SeedFile stop)
   seed_cause Fault h = inl (h, refl)
   seed_cause Memory h = tt
-  seed_cause (Refused (SeedFile cause)) h = (h, refl)
-  seed_cause (Refused SeedFileNotBuilt) h = (h, refl)
-  seed_cause (Refused (Script line)) h = absurd h
-  seed_cause (Refused (LineNotBuilt line)) h = absurd h
+  seed_cause (Refused cause) h = (h, refl)
 
-  pub seed_exit : {T : Type 0} (answer : Result T (Stop DriveCause)) (stop : Stop DriveCause) → IsSeedRefused file may_fail stop → IsErrAnd answer (λ e. e ≡ stop) → IfErr answer (HasDriveCause left file may_fail before before)
-  seed_exit answer stop h is = passed_exit (HasDriveCause left file may_fail before before) answer stop (seed_cause stop h) is
+  pub seed_exit : {T : Type 0} (answer : Result T (Stop DriveCause)) (stop : Stop SeedCause) → IsSeedStopped file may_fail stop → IsErrAnd answer (λ e. e ≡ stop_with SeedFile stop) → IfErr answer (HasDriveCause left file may_fail before before)
+  seed_exit answer stop h is = passed_exit (HasDriveCause left file may_fail before before) answer (stop_with SeedFile stop) (seed_cause stop h) is
 
-  module _ (after : S) (seed : Seed) (has : HasSeed file seed) where
+  module _ (after : S) (seed : Seed) (has : SeedIn file seed) where
     halt_by : (halt : Halt) → HasDriveCause left file may_fail before after (halt_stop halt)
     halt_by halted.Fault = inr (seed, has)
     halt_by halted.Memory = tt
@@ -75,30 +63,28 @@ module _ {S : Type 0} (left : S → Option (List ℕ)) (file : Option (Option (L
     halt_cause answer halt is = passed_exit (HasDriveCause left file may_fail before after) answer (halt_stop halt) (halt_by halt) is
 
     module _ (bytes script : List ℕ) (same : bytes ≡ script) (r : IsRead (left before) (left after) script) where
-      script_by : (e : ScriptError) → GivesScript (Err e) (script_of seed bytes) → HasDriveCause left file may_fail before after (script_stop e)
+      script_by : (e : ScriptError) → GivesScript (Err e) (script_of bytes) → HasDriveCause left file may_fail before after (script_stop e)
       script_by error.Memory h = tt
-      script_by (error.Refused line) h = record { seed = seed; has_seed = has; script = script; is_read = r; judged = ap (script_of seed) (sym same) ∙ h }
-      script_by (error.NotBuilt line) h = record { seed = seed; has_seed = has; script = script; is_read = r; judged = ap (script_of seed) (sym same) ∙ h }
+      script_by (error.Refused line) h = record { seed = seed; seed_in = has; script = script; is_read = r; judged = ap script_of (sym same) ∙ h }
+      script_by (error.NotBuilt line) h = record { seed = seed; seed_in = has; script = script; is_read = r; judged = ap script_of (sym same) ∙ h }
 
       -- a script that is refused
-      pub script_cause : {T : Type 0} (answer : Result T (Stop DriveCause)) (e : ScriptError) → GivesScript (Err e) (script_of seed bytes) → IsErrAnd answer (λ s. s ≡ script_stop e) → IfErr answer (HasDriveCause left file may_fail before after)
+      pub script_cause : {T : Type 0} (answer : Result T (Stop DriveCause)) (e : ScriptError) → GivesScript (Err e) (script_of bytes) → IsErrAnd answer (λ s. s ≡ script_stop e) → IfErr answer (HasDriveCause left file may_fail before after)
       script_cause answer e h is = passed_exit (HasDriveCause left file may_fail before after) answer (script_stop e) (script_by e h) is
 
 -- the text of commands that are ready
-text_read : (file : Option (Option (List ℕ))) (before after : Option (List ℕ)) (seed : Seed) (cs : List Command) (room : Room) → room ≡ empty_room seed → IsReady file before after seed cs → TextRead file before after (drive_text room cs)
-text_read file before after seed cs room is h = record {
-  bytes = h.has_seed.bytes;
+text_read : (file : Option (Option (List ℕ))) (before after : Option (List ℕ)) (seed : Seed) (cs : List Command) → IsReady file before after seed cs → TextRead file before after (drive_text (empty_room seed) cs)
+text_read file before after seed cs h = record {
+  bytes = h.seed_in.bytes;
   script = h.script;
-  is_file = h.has_seed.is_file;
+  is_file = h.seed_in.is_file;
   is_read = h.is_read;
-  at_end = h.is_read.ended (accepted_within seed h.script cs h.judged);
-  drive = record { seed = seed; file = h.has_seed.is_seed; commands = cs; judged = h.judged; printed = ap (λ r. drive_text r cs) is };
+  at_end = h.is_read.ended (accepted_within h.script cs h.judged);
+  drive = record { seed = seed; file = h.seed_in.is; commands = cs; judged = h.judged; printed = refl };
 }
 
-pub drives : (file : Option (Option (List ℕ))) (before after old new : Option (List ℕ)) (seed : Seed) (cs : List Command) (room : Room) → room ≡ empty_room seed → IsReady file before after seed cs
-    → Appends old new (drive_text room cs) → Drives file before after old new
-drives file before after old new seed cs room is h put = record { text = drive_text room cs; read = text_read file before after seed cs room is h; put = put }
+pub drives : (file : Option (Option (List ℕ))) (before after old new : Option (List ℕ)) (seed : Seed) (cs : List Command) → IsReady file before after seed cs → Appends old new (drive_text (empty_room seed) cs) → Drives file before after old new
+drives file before after old new seed cs h put = record { text = drive_text (empty_room seed) cs; read = text_read file before after seed cs h; put = put }
 
-pub puts_some : (file : Option (Option (List ℕ))) (before after old new : Option (List ℕ)) (seed : Seed) (cs : List Command) (room : Room) → room ≡ empty_room seed → IsReady file before after seed cs
-    → PutsFront old new (drive_text room cs) → PutsSome file before after old new
-puts_some file before after old new seed cs room is h put = record { text = drive_text room cs; read = text_read file before after seed cs room is h; put = put }
+pub puts_some : (file : Option (Option (List ℕ))) (before after old new : Option (List ℕ)) (seed : Seed) (cs : List Command) → IsReady file before after seed cs → PutsFront old new (drive_text (empty_room seed) cs) → PutsSome file before after old new
+puts_some file before after old new seed cs h put = record { text = drive_text (empty_room seed) cs; read = text_read file before after seed cs h; put = put }

@@ -1,11 +1,10 @@
-pub mod Adding
 pub mod Endings
 pub mod Causes
-pub mod Connections
 pub mod Digits
 pub mod Front
 pub mod Judged
 pub mod Puts
+pub mod Calls
 pub mod Steps
 pub mod Texts
 pub mod Walks

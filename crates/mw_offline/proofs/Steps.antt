@@ -1,13 +1,11 @@
 -- A script's lines are judged one after another.
-use Rattle.std.proofs.Common.{◌≡◌, ◌<◌, ◌+◌, ℕ, List, ◌∷◌, ◌++◌, length, Option, Some, None, true, false, cond, Err, ap, sym, ◌∙◌, subst, arith}
+use Rattle.std.proofs.Common.{◌≡◌, ◌<◌, ◌+◌, ℕ, List, [], ◌∷◌, ◌++◌, length, Option, Some, None, true, false, cond, Result, Ok, Err, refl, ap, sym, ◌∙◌, subst, arith, append_assoc, append-nil}
 use Rattle.std.specs.List.{position_or_len, before_first, after_first}
 use Rattle.std.specs.Option.{is_some, unwrap_or}
-use Rattle.mw_model.specs.Seed.{Seed}
 use Rattle.mw_offline.specs.Commands.{Command}
 use Rattle.mw_offline.specs.Gives.{IsAdded}
 use Rattle.mw_offline.specs.Lines.{is_end, line_of, lines_of, ended_lines}
-use Rattle.mw_offline.specs.Script.{not_built, connected, HaveSame, built_line, first_refused, or_stop, commands_from}
-use Rattle.mw_offline.proofs.Adding.{built_same}
+use Rattle.mw_offline.specs.Script.{ScriptRefusal, not_built, built_line, first_refused, before_others, with_line, commands_from}
 use Rattle.mw_offline.proofs.Walks.{lines_step, ended_step, ended_none}
 
 -- ---- the first line that the grammar refuses
@@ -55,24 +53,32 @@ too_long_next number bs none = ap (refused_or_next number) (ended_none bs none) 
 
 -- ---- the commands
 
-pub stops_here : (seed : Seed) (number : ℕ) (found : List Command) (sessions bs line : List ℕ) → 0 < length bs → line ≡ before_first is_end bs → HaveSame sessions (connected found)
-    → built_line seed sessions (line_of line) ≡ None → commands_from seed number found (lines_of bs) ≡ Err (not_built number)
-stops_here seed number found sessions bs line some is connects none =
-    let built : built_line seed (connected found) (line_of (before_first is_end bs)) ≡ None =
-    ap (λ l. built_line seed (connected found) (line_of l)) (sym is) ∙ sym (built_same seed sessions (connected found) (line_of line) connects) ∙ none in
-    ap (commands_from seed number found) (lines_step bs some)
-    ∙ ap (λ b. or_stop number b (λ cs. commands_from seed (number + 1) (found ++ cs) (lines_of (after_first is_end bs)))) built
+pub none_before : (found : Result (List Command) ScriptRefusal) → before_others [] found ≡ found
+none_before (Ok cs) = refl
+none_before (Err refusal) = refl
 
-goes_on : (seed : Seed) (number : ℕ) (found next : List Command) (lines : List (List ℕ)) (built : Option (List Command)) → IsAdded built found next
-    → commands_from seed (number + 1) next lines ≡ or_stop number built (λ cs. commands_from seed (number + 1) (found ++ cs) lines)
-goes_on seed number found next lines None added = absurd added
-goes_on seed number found next lines (Some cs) added = ap (λ n. commands_from seed (number + 1) n lines) added
+before_twice : (front cs : List Command) (found : Result (List Command) ScriptRefusal) → before_others (front ++ cs) found ≡ before_others front (before_others cs found)
+before_twice front cs (Ok others) = ap Ok (append_assoc front cs others)
+before_twice front cs (Err refusal) = refl
 
-pub goes_later : (seed : Seed) (number : ℕ) (found next : List Command) (sessions bs line rest : List ℕ) → 0 < length bs → line ≡ before_first is_end bs → rest ≡ after_first is_end bs → HaveSame sessions (connected found)
-    → IsAdded (built_line seed sessions (line_of line)) found next → commands_from seed (number + 1) next (lines_of rest) ≡ commands_from seed number found (lines_of bs)
-goes_later seed number found next sessions bs line rest some is after connects added =
-    let built : built_line seed sessions (line_of line) ≡ built_line seed (connected found) (line_of (before_first is_end bs)) =
-    built_same seed sessions (connected found) (line_of line) connects ∙ ap (λ l. built_line seed (connected found) (line_of l)) is in
-    ap (λ r. commands_from seed (number + 1) next (lines_of r)) after
-    ∙ goes_on seed number found next (lines_of (after_first is_end bs)) _ (subst (λ o. IsAdded o found next) built added)
-    ∙ ap (commands_from seed number found) (sym (lines_step bs some))
+-- all commands are found
+pub all_before : (found : List Command) → before_others found (Ok []) ≡ Ok found
+all_before found = ap Ok (append-nil found)
+
+pub stops_here : (number : ℕ) (found : List Command) (bs line : List ℕ) → 0 < length bs → line ≡ before_first is_end bs → built_line (line_of line) ≡ None → before_others found (commands_from number (lines_of bs)) ≡ Err (not_built number)
+stops_here number found bs line some is none =
+    let built : built_line (line_of (before_first is_end bs)) ≡ None = ap (λ l. built_line (line_of l)) (sym is) ∙ none in
+    ap (λ ls. before_others found (commands_from number ls)) (lines_step bs some)
+    ∙ ap (λ b. before_others found (with_line number b (commands_from (number + 1) (lines_of (after_first is_end bs))))) built
+
+goes_on : (number : ℕ) (found next : List Command) (others : Result (List Command) ScriptRefusal) (built : Option (List Command)) → IsAdded built found next → before_others next others ≡ before_others found (with_line number built others)
+goes_on number found next others None added = absurd added
+goes_on number found next others (Some cs) added = ap (λ n. before_others n others) added ∙ before_twice found cs others
+
+pub goes_later : (number : ℕ) (found next : List Command) (bs line rest : List ℕ) → 0 < length bs → line ≡ before_first is_end bs → rest ≡ after_first is_end bs → IsAdded (built_line (line_of line)) found next
+    → before_others next (commands_from (number + 1) (lines_of rest)) ≡ before_others found (commands_from number (lines_of bs))
+goes_later number found next bs line rest some is after added =
+    let built : built_line (line_of line) ≡ built_line (line_of (before_first is_end bs)) = ap (λ l. built_line (line_of l)) is in
+    ap (λ r. before_others next (commands_from (number + 1) (lines_of r))) after
+    ∙ goes_on number found next (commands_from (number + 1) (lines_of (after_first is_end bs))) _ (subst (λ o. IsAdded o found next) built added)
+    ∙ ap (λ ls. before_others found (commands_from number ls)) (sym (lines_step bs some))

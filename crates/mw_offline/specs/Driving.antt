@@ -1,15 +1,15 @@
 -- How `drive` ends.
-use Rattle.std.specs.Prelude.{◌≡◌, ◌<◌, ◌≤◌, ◌⊎◌, ◌++◌, ℕ, List, length, Option, Ok, Err, Bool, codes, decimal, ⊤}
+use Rattle.std.specs.Prelude.{◌≡◌, ◌≤◌, ◌⊎◌, ◌++◌, ℕ, List, length, Option, Ok, Err, Bool, codes, decimal, ⊤}
 use Rattle.std.specs.Io.KnownBytes.{Consumes, IsAtEnd, Keeps, Appends}
 use Rattle.mw_edges.specs.Causes.{PutsFront, Rose}
 use Rattle.mw_edges.specs.Folders.{MayBeUnread}
 use Rattle.mw_model.specs.Seed.{Seed}
-use Rattle.mw_protocol.specs.Room.{empty_room}
+use Rattle.mw_protocol.specs.Rooms.{empty_room}
 use Rattle.mw_multidata.specs.SeedOf.{SeedOf}
 use Rattle.mw_offline.specs.Commands.{Command}
 use Rattle.mw_offline.specs.Drive.{drive_text}
 use Rattle.mw_offline.specs.Ends.{Told, Ends}
-use Rattle.mw_offline.specs.SeedFiles.{IsFile, IsSeedStopped, seed_line}
+use Rattle.mw_offline.specs.SeedFiles.{IsFile, SeedIn, IsSeedStopped, seed_line}
 use Rattle.mw_offline.specs.Script.{ScriptRefusal, script_of, max_script, refused, not_built}
 use Rattle.mw_offline.specs.declared.drive.Halt.{Halt}
 use Rattle.mw_offline.specs.declared.drive.Halt.TheVariants as halted
@@ -18,7 +18,7 @@ use Rattle.mw_offline.specs.declared.script.ScriptError.TheVariants as error
 use Rattle.mw_offline.specs.declared.stop.Stop.{Stop}
 use Rattle.mw_offline.specs.declared.stop.Stop.TheVariants.{Fault, Memory, Refused}
 use Rattle.mw_offline.specs.declared.drive_cause.DriveCause.{DriveCause}
-use Rattle.mw_offline.specs.declared.drive_cause.DriveCause.TheVariants.{SeedFile, SeedFileNotBuilt, Script, LineNotBuilt}
+use Rattle.mw_offline.specs.declared.drive_cause.DriveCause.TheVariants.{SeedFile, Script, LineNotBuilt}
 
 -- ---- what was read
 
@@ -27,47 +27,28 @@ pub record IsRead (before after : Option (List ℕ)) (script : List ℕ) : Type 
   pub taken : Consumes before after script
   pub ended : length script ≤ max_script → IsAtEnd after
 
--- a seed file of one team stands for this seed
-pub record IsSeedFile (bytes : List ℕ) (seed : Seed) : Type 0 where
-  pub is : SeedOf bytes (Ok seed)
-  pub one_team : seed.teams ≡ 1
-
--- the same of a file that is read
-pub record HasSeed (file : Option (Option (List ℕ))) (seed : Seed) : Type 0 where
-  pub bytes : List ℕ
-  pub is_file : IsFile file bytes
-  pub is_seed : IsSeedFile bytes seed
-
--- it has more than one team
-pub record HasManyTeams (file : Option (Option (List ℕ))) : Type 0 where
-  pub bytes : List ℕ
-  pub seed : Seed
-  pub is_file : IsFile file bytes
-  pub is : SeedOf bytes (Ok seed)
-  pub many : 1 < seed.teams
-
 -- what was read gives these commands
 pub record IsReady (file : Option (Option (List ℕ))) (before after : Option (List ℕ)) (seed : Seed) (commands : List Command) : Type 0 where
-  pub has_seed : HasSeed file seed
+  pub seed_in : SeedIn file seed
   pub script : List ℕ
   pub is_read : IsRead before after script
-  pub judged : script_of seed script ≡ Ok commands
+  pub judged : script_of script ≡ Ok commands
 
 -- a script is refused, over a seed file that isn't
 pub record IsBadScript (file : Option (Option (List ℕ))) (before after : Option (List ℕ)) (refusal : ScriptRefusal) : Type 0 where
   pub seed : Seed
-  pub has_seed : HasSeed file seed
+  pub seed_in : SeedIn file seed
   pub script : List ℕ
   pub is_read : IsRead before after script
-  pub judged : script_of seed script ≡ Err refusal
+  pub judged : script_of script ≡ Err refusal
 
 -- ---- DriveText: what `drive` prints of a seed file and a script
 
 pub record DriveText (bytes script text : List ℕ) : Type 0 where
   pub seed : Seed
-  pub file : IsSeedFile bytes seed
+  pub file : SeedOf bytes (Ok seed)
   pub commands : List Command
-  pub judged : script_of seed script ≡ Ok commands
+  pub judged : script_of script ≡ Ok commands
   pub printed : text ≡ drive_text (empty_room seed) commands
 
 -- the same of what was read
@@ -92,26 +73,15 @@ script_stop error.Memory = Memory
 script_stop (error.Refused line) = Refused (Script line)
 script_stop (error.NotBuilt line) = Refused (LineNotBuilt line)
 
--- why a seed file gives no seed of one team
-abbrev pub IsSeedRefused : Option (Option (List ℕ)) → Bool → Stop DriveCause → Type 0
-IsSeedRefused file may_fail Fault = MayBeUnread file may_fail
-IsSeedRefused file may_fail Memory = ⊤
-IsSeedRefused file may_fail (Refused (SeedFile cause)) = IsSeedStopped file may_fail (Refused cause)
-IsSeedRefused file may_fail (Refused SeedFileNotBuilt) = HasManyTeams file
-IsSeedRefused file may_fail (Refused (Script line)) = ⊥
-IsSeedRefused file may_fail (Refused (LineNotBuilt line)) = ⊥
-
 -- why nothing is run, the source being this one before and after, and telling what is left so: where
 -- the seed file gives no seed it isn't touched
 abbrev pub HasDriveCause : {S : Type 0} → (S → Option (List ℕ)) → Option (Option (List ℕ)) → Bool
     → S → S → Stop DriveCause → Type 0
 HasDriveCause left file may_fail before after Fault =
-    (MayBeUnread file may_fail × (after ≡ before)) ⊎ ((seed : Seed) × HasSeed file seed)
+    (MayBeUnread file may_fail × (after ≡ before)) ⊎ ((seed : Seed) × SeedIn file seed)
 HasDriveCause left file may_fail before after Memory = ⊤
 HasDriveCause left file may_fail before after (Refused (SeedFile cause)) =
     IsSeedStopped file may_fail (Refused cause) × (after ≡ before)
-HasDriveCause left file may_fail before after (Refused SeedFileNotBuilt) =
-    HasManyTeams file × (after ≡ before)
 HasDriveCause left file may_fail before after (Refused (Script line)) =
     IsBadScript file (left before) (left after) (refused line)
 HasDriveCause left file may_fail before after (Refused (LineNotBuilt line)) =
@@ -122,7 +92,6 @@ drive_status cause = 7
 
 abbrev pub drive_line : DriveCause → List ℕ
 drive_line (SeedFile cause) = seed_line cause
-drive_line SeedFileNotBuilt = codes "not built: seed file\n"
 drive_line (Script line) = codes "script refused: line " ++ decimal line ++ codes "\n"
 drive_line (LineNotBuilt line) = codes "not built: line " ++ decimal line ++ codes "\n"
 

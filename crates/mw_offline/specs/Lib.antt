@@ -11,3 +11,4 @@ pub mod Reaching
 pub mod Generating
 pub mod Checking
 pub mod Laws
+pub mod Examples

@@ -1,97 +1,53 @@
 -- A script: the commands of its lines, or the line at which it is refused.
-use Rattle.std.specs.Prelude.{◌≡◌, ℕ, pos, ◌+◌, ◌==◌, ◌&&◌, ◌||◌, ◌++◌, ◌∷◌, [], List, Bool, Option, Some, None, true, false, not, codes, length, take, nat_le, is_some, unwrap_or, if◌then◌else◌, Result, Ok, Err}
-use Rattle.std.specs.Ordering.{int_eq}
-use Rattle.mw_model.specs.Seed.{Seed}
+use Rattle.std.specs.Prelude.{ℕ, ◌+◌, ◌==◌, ◌||◌, ◌++◌, ◌∷◌, [], List, Bool, Option, Some, None, true, false, not, codes, length, take, nat_le, is_some, unwrap_or, if◌then◌else◌, Result, Ok, Err}
+use Rattle.std.specs.List.{list_all}
 use Rattle.mw_protocol.specs.Connecting.{has_tag}
-use Rattle.mw_protocol.specs.Packets.{Packet, Connect, connect, connect_update, sync, location_checks, location_scouts, update_hint, status_update, say, get_data_package, bounce, get, change, set_notify, Inbound, good, wrong}
-use Rattle.mw_protocol.specs.Room.{made_by}
+use Rattle.mw_protocol.specs.Packets.{Packet, connect, connect_update, sync, location_checks, location_scouts, update_hint, status_update, say, get_data_package, bounce, get, change, set_notify, Inbound, good, wrong}
 use Rattle.mw_packets_in.specs.PacketsOf.{packets_of}
-use Rattle.mw_offline.specs.Commands.{Command, opens, sends, takes}
+use Rattle.mw_offline.specs.Commands.{Command, opens, sends, takes, loses}
 use Rattle.mw_offline.specs.Lines.{Line, nothing, open_line, text_line, take_line, lost_line, commit_line, crash_line, line_of, lines_of, ended_lines}
-
--- ---- the packet of a message
-
-abbrev pub sole : Inbound → Option Packet
-sole (good packet) = Some packet
-sole (wrong bad) = None
-
--- where there is just one element, its packet
-abbrev pub only : List Inbound → Option Packet
-only [] = None
-only (first ∷ []) = sole first
-only (first ∷ (second ∷ others)) = None
-
--- the packet of a message that is a list of just one
-abbrev pub message_packet : List ℕ → Option Packet
-message_packet message = only (packets_of message)
 
 -- ---- built lines
 
--- the session that a command connects
-abbrev pub connected_by : Command → List ℕ
-connected_by (opens time) = []
-connected_by (sends session (connect fields)) = session ∷ []
-connected_by (sends session sync) = []
-connected_by (sends session (connect_update u)) = []
-connected_by (sends session (location_scouts numbers as_hint)) = []
-connected_by (sends session (update_hint u)) = []
-connected_by (sends session (status_update s)) = []
-connected_by (sends session (say text)) = []
-connected_by (sends session (get_data_package games)) = []
-connected_by (sends session (bounce b)) = []
-connected_by (sends session (get keys further)) = []
-connected_by (sends session (change set)) = []
-connected_by (sends session (set_notify keys)) = []
-connected_by (sends session (location_checks locations)) = []
-connected_by (takes session) = []
+-- tags that want no texts of the room
+abbrev pub are_silent : Option (List (List ℕ)) → Bool
+are_silent tags = has_tag tags (codes "NoText")
 
--- the sessions that commands connect
-abbrev pub connected : List Command → List ℕ
-connected [] = []
-connected (c ∷ cs) = connected_by c ++ connected cs
+-- what the room answers so far
+abbrev pub is_built : Packet → Bool
+is_built (connect fields) = are_silent fields.tags
+is_built (connect_update u) = not (is_some u.tags) || are_silent u.tags
+is_built sync = true
+is_built (location_checks numbers) = true
+is_built (location_scouts numbers as_hint) = as_hint == 0
+is_built (update_hint u) = false
+is_built (status_update s) = false
+is_built (say text) = false
+is_built (get_data_package games) = true
+is_built (bounce b) = false
+is_built (get keys further) = false
+is_built (change set) = false
+is_built (set_notify keys) = false
 
-abbrev pub is_among : ℕ → List ℕ → Bool
-is_among session [] = false
-is_among session (first ∷ others) = first == session || is_among session others
+-- what is no packet is answered
+abbrev pub is_built_element : Inbound → Bool
+is_built_element (good packet) = is_built packet
+is_built_element (wrong bad) = true
 
--- the same sessions are among them
-abbrev pub HaveSame : List ℕ → List ℕ → Type 0
-HaveSame ones others = (session : ℕ) → is_among session ones ≡ is_among session others
+-- a message is built where each of its elements is
+abbrev pub built_message : ℕ → List Inbound → Option (List Command)
+built_message session message = if list_all is_built_element message then Some (sends session message ∷ []) else None
 
--- a session that plays all its items and wants no texts
-abbrev pub is_plain : Connect → Bool
-is_plain fields = int_eq (unwrap_or fields.items_handling (pos 0)) (pos 7) && has_tag fields.tags (codes "NoText")
-
--- a Connect is built where it is plain, the room accepts it, and it is its session's first one
-abbrev pub is_built : Seed → List ℕ → ℕ → Packet → Bool
-is_built seed before session (connect fields) = is_plain fields && is_some (made_by seed (connect fields) None) && not (is_among session before)
-is_built seed before session sync = true
-is_built seed before session (connect_update u) = false
-is_built seed before session (location_scouts numbers as_hint) = false
-is_built seed before session (update_hint u) = false
-is_built seed before session (status_update s) = false
-is_built seed before session (say text) = false
-is_built seed before session (get_data_package games) = false
-is_built seed before session (bounce b) = false
-is_built seed before session (get keys further) = false
-is_built seed before session (change set) = false
-is_built seed before session (set_notify keys) = false
-is_built seed before session (location_checks locations) = true
-
-abbrev pub built_packet : Seed → List ℕ → ℕ → Option Packet → Option (List Command)
-built_packet seed before session None = None
-built_packet seed before session (Some packet) = if is_built seed before session packet then Some (sends session packet ∷ []) else None
-
--- the commands of a line, where it is built, after lines that connected these sessions
-abbrev pub built_line : Seed → List ℕ → Option Line → Option (List Command)
-built_line seed before None = None
-built_line seed before (Some nothing) = Some []
-built_line seed before (Some (open_line time)) = Some (opens time ∷ [])
-built_line seed before (Some (text_line session message)) = built_packet seed before session (message_packet message)
-built_line seed before (Some (take_line session)) = Some (takes session ∷ [])
-built_line seed before (Some (lost_line session)) = None
-built_line seed before (Some commit_line) = None
-built_line seed before (Some crash_line) = None
+-- the commands of a line, where it is built
+abbrev pub built_line : Option Line → Option (List Command)
+built_line None = None
+built_line (Some nothing) = Some []
+built_line (Some (open_line time)) = Some (opens time ∷ [])
+built_line (Some (text_line session message)) = built_message session (packets_of message)
+built_line (Some (take_line session)) = Some (takes session ∷ [])
+built_line (Some (lost_line session)) = Some (loses session ∷ [])
+built_line (Some commit_line) = None
+built_line (Some crash_line) = None
 
 -- ---- the script
 
@@ -106,21 +62,25 @@ abbrev pub first_refused : ℕ → List (List ℕ) → Option ℕ
 first_refused number [] = None
 first_refused number (line ∷ others) = if is_some (line_of line) then first_refused (number + 1) others else Some number
 
--- goes on with the commands of a line, or stops at it
-abbrev pub or_stop : ℕ → Option (List Command) → (List Command → Result (List Command) ScriptRefusal) → Result (List Command) ScriptRefusal
-or_stop number None others = Err (not_built number)
-or_stop number (Some cs) others = others cs
+-- commands in front of others
+abbrev pub before_others : List Command → Result (List Command) ScriptRefusal → Result (List Command) ScriptRefusal
+before_others cs (Ok others) = Ok (cs ++ others)
+before_others cs (Err refusal) = Err refusal
 
--- the commands so far and those of the lines, which are counted from a number on
-abbrev pub commands_from : Seed → ℕ → List Command → List (List ℕ) → Result (List Command) ScriptRefusal
-commands_from seed number found [] = Ok found
-commands_from seed number found (line ∷ others) =
-    or_stop number (built_line seed (connected found) (line_of line)) (λ cs. commands_from seed (number + 1) (found ++ cs) others)
+-- the commands of a line and those of the others, unless it isn't built
+abbrev pub with_line : ℕ → Option (List Command) → Result (List Command) ScriptRefusal → Result (List Command) ScriptRefusal
+with_line number None others = Err (not_built number)
+with_line number (Some cs) others = before_others cs others
+
+-- the commands of lines, which are counted from a number on
+abbrev pub commands_from : ℕ → List (List ℕ) → Result (List Command) ScriptRefusal
+commands_from number [] = Ok []
+commands_from number (line ∷ others) = with_line number (built_line (line_of line)) (commands_from (number + 1) others)
 
 -- lines that the grammar has, and that are built
-abbrev pub judged : Seed → List (List ℕ) → Option ℕ → Result (List Command) ScriptRefusal
-judged seed lines None = commands_from seed 1 [] lines
-judged seed lines (Some number) = Err (refused number)
+abbrev pub judged : List (List ℕ) → Option ℕ → Result (List Command) ScriptRefusal
+judged lines None = commands_from 1 lines
+judged lines (Some number) = Err (refused number)
 
 -- the greatest length of a script
 abbrev pub max_script : ℕ
@@ -132,7 +92,7 @@ abbrev pub too_long : List (List ℕ) → ℕ
 too_long lines = unwrap_or (first_refused 1 lines) (1 + length lines)
 
 -- the commands of a script, or its refusal
-abbrev pub script_of : Seed → List ℕ → Result (List Command) ScriptRefusal
-script_of seed bytes =
-    if nat_le (length bytes) max_script then judged seed (lines_of bytes) (first_refused 1 (lines_of bytes))
+abbrev pub script_of : List ℕ → Result (List Command) ScriptRefusal
+script_of bytes =
+    if nat_le (length bytes) max_script then judged (lines_of bytes) (first_refused 1 (lines_of bytes))
     else Err (refused (too_long (ended_lines (take max_script bytes))))

@@ -16,8 +16,6 @@ pub enum DriveCause {
         /// The cause.
         cause: SeedCause,
     },
-    /// The seed file is for more than one team, which isn't built.
-    SeedFileNotBuilt,
     /// The script is refused at a line.
     Script {
         /// The line, counted from 1.
@@ -44,7 +42,6 @@ impl Cause for DriveCause {
     fn line(&self, alloc: Global) -> Result<String, Memory> {
         match self {
             DriveCause::SeedFile { cause } => cause.line(alloc),
-            DriveCause::SeedFileNotBuilt => Ok(String::from_str(alloc, "not built: seed file\n")?),
             DriveCause::Script { line } => Ok(format!(in alloc; "script refused: line {line}\n")?),
             DriveCause::LineNotBuilt { line } => Ok(format!(in alloc; "not built: line {line}\n")?),
         }

@@ -2,12 +2,12 @@
 ghost use Rattle.std.specs.Prelude.{◌≡◌, ◌≤◌, ◌⊎◌, IfOk, IfErr, OnOk, ℕ, List, map};
 ghost use Rattle.std.specs.Io.KnownBytes.{Keeps};
 ghost use Rattle.mw_edges.specs.Causes.{Rose};
-ghost use Rattle.mw_protocol.specs.Room.{empty_room};
+ghost use Rattle.mw_protocol.specs.Rooms.{empty_room};
 ghost use Rattle.mw_model.specs.Seed.{Seed};
-ghost use Rattle.mw_room.specs.Views.{room_view};
+ghost use Rattle.mw_room.specs.Stands.{Stands};
 ghost use Rattle.mw_offline.specs.Commands.{command_view};
 ghost use Rattle.mw_offline.specs.Ends.{HasLeft, told_by};
-ghost use Rattle.mw_offline.specs.Driving.{HasSeed, IsSeedRefused, IsReady, HasDriveCause, PutsSome, Drives, DriveEnds};
+ghost use Rattle.mw_offline.specs.Driving.{IsReady, HasDriveCause, PutsSome, Drives, DriveEnds};
 
 use crate::command::Command;
 use crate::drive::run_commands;
@@ -35,33 +35,9 @@ struct Prepared {
     commands: List<Command>,
 }
 
-/// Reads a seed file of one team.
-#[tactic(auto, using(crate::proofs::Causes::refused_seed))]
-fn read_team<F: Folder>(
-    alloc: Global,
-    folder: &mut F,
-    name: &Text,
-) -> Result<Multidata, Stop<DriveCause>>
-    ensures ok { IfOk result (HasSeed (F.holds folder.old name.now)) }
-    ensures err { IfErr result
-        (IsSeedRefused (F.holds folder.old name.now) (F.may_fail folder.old)) }
-    ensures fault { result ≡ Err Stop.Fault → Rose (F.faults folder.old) (F.faults folder.new) }
-    ensures later { F.faults folder.old ≤ F.faults folder.new }
-    ensures same { (n : List ℕ) → F.holds folder.new n ≡ F.holds folder.old n }
-{
-    let multidata = read_seed(alloc, folder, name)?;
-    if multidata.teams == 1 {
-        Ok(multidata)
-    } else {
-        Err(Stop::Refused {
-            cause: DriveCause::SeedFileNotBuilt,
-        })
-    }
-}
-
 /// A room that nobody has entered.
 fn room_of(alloc: Global, multidata: Multidata) -> Result<Room, Memory>
-    ensures { IfOk result (λ r. room_view r ≡ empty_room multidata) }
+    ensures { IfOk result (λ r. Stands r (empty_room multidata)) }
 {
     let tables = RoomTables::of(alloc, multidata)?;
     Room::new(alloc, tables)
@@ -75,7 +51,7 @@ fn prepare<F: Folder, S: Source>(
     folder: &mut F,
     input: &mut S,
 ) -> Result<Prepared, Stop<DriveCause>>
-    ensures ok { IfOk result (λ r. (seed : Seed) × (room_view r.room ≡ empty_room seed)
+    ensures ok { IfOk result (λ r. (seed : Seed) × Stands r.room (empty_room seed)
         × IsReady (F.holds folder.old words.now.multidata) (S.left input.old)
         (S.left input.new) seed (map command_view r.commands)) }
     ensures err { IfErr result
@@ -88,9 +64,9 @@ fn prepare<F: Folder, S: Source>(
         × (S.faults input.old ≤ S.faults input.new) }
     ensures same { (n : List ℕ) → F.holds folder.new n ≡ F.holds folder.old n }
 {
-    let multidata = read_team(alloc, folder, &words.multidata)?;
+    let multidata = read_seed(alloc, folder, &words.multidata)?;
     let script = read_script(alloc, input)?;
-    let commands = judge_script(alloc, &multidata, &script)?;
+    let commands = judge_script(alloc, &script)?;
     let room = room_of(alloc, multidata)?;
     Ok(Prepared { room, commands })
 }

@@ -21,7 +21,6 @@ mod reaching;
 mod script;
 mod seed;
 mod seed_cause;
-mod sessions;
 mod stop;
 mod table_cause;
 mod tables;

@@ -1,4 +1,4 @@
-ghost use Rattle.std.specs.Prelude.{◌≡◌, []};
+ghost use Rattle.std.specs.Prelude.{◌≡◌};
 ghost use Rattle.mw_offline.specs.Gives.{GivesScript};
 ghost use Rattle.mw_offline.specs.Lines.{lines_of, ended_lines};
 ghost use Rattle.mw_offline.specs.Script.{first_refused as first_refused_lem, too_long as too_long_lem, commands_from, script_of};
@@ -8,9 +8,7 @@ use crate::command::Command;
 use crate::line::is_line;
 use crate::lines::{split_ended, split_line};
 use mw_base::{List, Memory};
-use mw_multidata::Multidata;
 use std::alloc::Global;
-use std::collections::BTreeSet;
 use thiserror::Error;
 
 /// Why a script gives no commands. Lines are counted from 1.
@@ -72,16 +70,15 @@ fn too_long(front: &[u8]) -> u64
 }
 
 /// The commands of lines, all of which are built.
-fn commands_of(alloc: Global, seed: &Multidata, script: &[u8]) -> Result<List<Command>, ScriptError>
-    ensures { GivesScript result (commands_from seed.now 1 [] (lines_of script.now)) }
+fn commands_of(alloc: Global, script: &[u8]) -> Result<List<Command>, ScriptError>
+    ensures { GivesScript result (commands_from 1 (lines_of script.now)) }
 {
     let mut commands = List::new(alloc);
-    let mut sessions = BTreeSet::new(alloc);
     let mut rest = script;
     let mut number: u64 = 1;
     while !rest.is_empty() {
         let (line, others) = split_line(rest);
-        match add_line(alloc, seed, &mut commands, &mut sessions, line) {
+        match add_line(alloc, &mut commands, line) {
             Ok(()) => {}
             Err(Unbuilt::NotBuilt) => return Err(ScriptError::NotBuilt { line: number }),
             Err(Unbuilt::Memory) => return Err(ScriptError::Memory),
@@ -96,12 +93,8 @@ fn commands_of(alloc: Global, seed: &Multidata, script: &[u8]) -> Result<List<Co
 /// one it is enough to give one byte more. The errors are `Refused` at the first line that the
 /// grammar refuses, or else at the line that passes the limit; then `NotBuilt` at the first line
 /// that is not built; and `Memory`.
-pub fn judge_script(
-    alloc: Global,
-    seed: &Multidata,
-    script: &[u8],
-) -> Result<List<Command>, ScriptError>
-    ensures { GivesScript result (script_of seed.now script.now) }
+pub fn judge_script(alloc: Global, script: &[u8]) -> Result<List<Command>, ScriptError>
+    ensures { GivesScript result (script_of script.now) }
 {
     if script.len() > 67_108_864 {
         return Err(ScriptError::Refused {
@@ -111,5 +104,5 @@ pub fn judge_script(
     if let Some(line) = first_refused(script) {
         return Err(ScriptError::Refused { line });
     }
-    commands_of(alloc, seed, script)
+    commands_of(alloc, script)
 }

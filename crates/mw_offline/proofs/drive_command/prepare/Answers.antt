@@ -3,7 +3,8 @@ use Rattle.mw_offline.specs.Script.{script_of}
 use Rattle.mw_offline.specs.Driving.{HasDriveCause}
 use Rattle.mw_offline.specs.declared.stop.Stop.TheVariants.{Memory}
 use Rattle.mw_offline.proofs.Causes.{seed_exit, halt_cause, halt_fault, script_cause, script_late}
-use Rattle.mw_offline.proofs.Endings.{passed_exit, fault_passed, memory_late}
+use Rattle.mw_offline.specs.declared.drive_cause.DriveCause.TheVariants.{SeedFile}
+use Rattle.mw_offline.proofs.Endings.{passed_exit, fault_exit, fault_passed, memory_late}
 use Rattle.mw_offline.proofs.drive_command.prepare.Goals as goal
 
 pub returns-in_err-multidata-clause-err : goal.returns-in_err-multidata-clause-err
@@ -12,7 +13,7 @@ returns-in_err-multidata-clause-err g c =
     seed_exit g.S.Source.left file (g.F.Folder.may_fail c.args.folder.now) c.args.input.now c.from_residual.result _ c.in_err-multidata.ensures.err c.from_residual.ensures.1
 
 pub returns-in_err-multidata-clause-fault : goal.returns-in_err-multidata-clause-fault
-returns-in_err-multidata-clause-fault g c = λ e. inl (c.in_err-multidata.ensures.fault (ap Err (fault_passed c.from_residual.result _ c.from_residual.ensures.1 e)))
+returns-in_err-multidata-clause-fault g c = λ e. inl (c.in_err-multidata.ensures.fault (ap Err (fault_exit SeedFile c.from_residual.result _ c.from_residual.ensures.1 e)))
 
 pub returns-in_err-script-clause-err : goal.returns-in_err-script-clause-err
 returns-in_err-script-clause-err g c =
@@ -53,9 +54,9 @@ returns-clause-ok g c = (
   c.in_ok-multidata.multidata,
   c.in_ok-room.ensures,
   record {
-    has_seed = c.in_ok-multidata.ensures.ok;
+    seed_in = c.in_ok-multidata.ensures.ok;
     script = c.in_ok-script.script.items;
     is_read = c.in_ok-script.ensures.read;
-    judged = ap (script_of c.in_ok-multidata.multidata) (sym c.deref.ensures.value) ∙ c.in_ok-commands.ensures;
+    judged = ap script_of (sym c.deref.ensures.value) ∙ c.in_ok-commands.ensures;
   },
 )
