@@ -22,7 +22,8 @@ fn id_text(alloc: Global, id: i64) -> Result<Text, Memory>
     Ok(Text::from_string(format!(in alloc; "{id}")?))
 }
 
-/// A part of a print that is a text, after Archipelago's network protocol. `Memory` is its only error.
+/// A part of a print that is a text, after Archipelago's network protocol. `Memory` is its only
+/// error.
 pub fn part_text(alloc: Global, text: &Text) -> Result<Tree, Memory>
     ensures value { IfOk result (λ t. view t ≡ part_json (text_lem text.now)) }
     ensures writable { IfOk result (λ t. IsWritable (view t)) }

@@ -14,5 +14,7 @@ pub mod Records
 pub mod Room
 pub mod Rooms
 pub mod Sayings
+pub mod Spelled
+pub mod SpelledExamples
 pub mod Standing
 pub mod Words
