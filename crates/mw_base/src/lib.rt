@@ -2,19 +2,23 @@
 #![tactic(auto)]
 
 mod growth;
+mod hint;
 mod ids;
 mod item;
 mod list;
 mod memory;
 mod options;
 mod spheres;
+mod status;
 mod text;
 
 pub use growth::Growth;
+pub use hint::HintRecord;
 pub use ids::{ItemId, LocId, SessionId, SlotId, TeamId};
 pub use item::NetItem;
 pub use list::{Bytes, List};
 pub use memory::Memory;
 pub use options::{Permission, RoomOptions};
 pub use spheres::{SphereList, Spot};
+pub use status::{ClientStatus, HintStatus};
 pub use text::Text;

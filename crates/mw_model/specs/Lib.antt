@@ -5,5 +5,6 @@ pub mod Passed
 pub mod Seed
 pub mod Sets
 pub mod Spelling
+pub mod Statuses
 pub mod Texts
 pub mod Trees

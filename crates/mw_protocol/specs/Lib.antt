@@ -8,8 +8,13 @@ pub mod Owed
 pub mod Packages
 pub mod Packets
 pub mod Players
+pub mod PrintExamples
+pub mod Prints
 pub mod Records
 pub mod Room
 pub mod Rooms
+pub mod Sayings
+pub mod Spelled
+pub mod SpelledExamples
 pub mod Standing
 pub mod Words

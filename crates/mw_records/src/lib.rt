@@ -1,8 +1,21 @@
-//! What a room's journal records.
+//! What a room's journal records, as values and as bytes.
 #![tactic(auto)]
 
 mod checked;
+mod decoding;
+mod encoding;
+mod error;
+mod fields;
+mod kinds;
+mod parts;
 mod record;
+mod stop;
+mod stored;
+mod texts;
 
 pub use checked::CheckedLocations;
+pub use decoding::{decode, one_spelling};
+pub use encoding::encode;
+pub use error::RecordError;
 pub use record::Record;
+pub use stored::Stored;

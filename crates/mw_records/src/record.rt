@@ -3,13 +3,41 @@ ghost use Rattle.std.specs.Option.{option_to_list};
 ghost use Rattle.mw_protocol.specs.Effects.{checks_record};
 
 use crate::checked::CheckedLocations;
-use mw_base::{List, LocId, SlotId, TeamId};
+use crate::stored::Stored;
+use mw_base::{ClientStatus, HintRecord, List, LocId, SlotId, TeamId};
 
 /// An entry of a room's journal.
 #[derive(Debug, Drop)]
 pub enum Record {
     /// A slot of a team checked locations of its own.
     Checks(CheckedLocations),
+    /// A slot of a team gave all that its world holds.
+    Release {
+        /// The team.
+        team: TeamId,
+        /// The slot.
+        slot: SlotId,
+    },
+    /// A slot of a team got all that other worlds hold for it.
+    Collect {
+        /// The team.
+        team: TeamId,
+        /// The slot.
+        slot: SlotId,
+    },
+    /// A slot of a team has a status.
+    Status {
+        /// The team.
+        team: TeamId,
+        /// The slot.
+        slot: SlotId,
+        /// The status.
+        status: ClientStatus,
+    },
+    /// A hint is made, or has another status.
+    Hint(HintRecord),
+    /// A key of the data storage holds a value.
+    Store(Stored),
 }
 
 impl Record {
