@@ -2,8 +2,10 @@ pub mod Asked
 pub mod Checks
 pub mod Connecting
 pub mod Effects
+pub mod Equal
 pub mod Examples
 pub mod Messages
+pub mod Operations
 pub mod Owed
 pub mod Packages
 pub mod Packets
@@ -12,4 +14,6 @@ pub mod Records
 pub mod Room
 pub mod Rooms
 pub mod Standing
+pub mod Storage
+pub mod StorageExamples
 pub mod Words
