@@ -47,6 +47,9 @@ floor_quotient (negsuc a) (negsuc b) = pos (suc a / suc b)
 abbrev pub modulo : ℤ → ℤ → ℤ
 modulo z divisor = z -ℤ divisor *ℤ floor_quotient z divisor
 
+abbrev pub remainder : ℤ → ℤ → Result Json Fault
+remainder z divisor = if int_eq divisor (pos 0) then Err bad_operation else in_range (modulo z divisor)
+
 -- by how many bits a number shifts: 0 to 63
 abbrev pub shift_by : ℤ → Option ℕ
 shift_by (pos n) = if nat_lt n 64 then Some n else None
@@ -63,7 +66,7 @@ shifted_right z (Some n) = in_range (floor_quotient z (pos (2 ^ n)))
 shifted_right z None = Err bad_operation
 
 -- two numbers as 64 bits in two's complement
-abbrev pub of_bits : List ℕ → ℤ → ℤ → Result Json Fault
+unfoldable pub of_bits : List ℕ → ℤ → ℤ → Result Json Fault
 of_bits name z n =
   if bytes_eq name (codes "and") then in_range (int_bit_and w64 z n)
   else (if bytes_eq name (codes "or") then in_range (int_bit_or w64 z n)
@@ -73,13 +76,13 @@ of_bits name z n =
   else Err bad_operation))))
 
 -- the number z and the operand n
-abbrev pub of_numbers : List ℕ → ℤ → ℤ → Result Json Fault
+unfoldable pub of_numbers : List ℕ → ℤ → ℤ → Result Json Fault
 of_numbers name z n =
   if bytes_eq name (codes "add") then in_range (z +ℤ n)
   else (if bytes_eq name (codes "mul") then in_range (z *ℤ n)
   else (if bytes_eq name (codes "max") then in_range (int_max z n)
   else (if bytes_eq name (codes "min") then in_range (int_min z n)
-  else (if bytes_eq name (codes "mod") then (if int_eq n (pos 0) then Err bad_operation else in_range (modulo z n))
+  else (if bytes_eq name (codes "mod") then remainder z n
   else of_bits name z n))))
 
 abbrev pub of_both : List ℕ → Option ℤ → Option ℤ → Result Json Fault
@@ -193,7 +196,7 @@ updated (members ms) operand = updated_object ms operand
 updated _ operand = Err bad_operation
 
 -- what an operation makes of a value
-abbrev pub operated : Operation → Json → Result Json Fault
+unfoldable pub operated : Operation → Json → Result Json Fault
 operated o j =
   if bytes_eq o.name (codes "replace") then Ok o.value
   else (if bytes_eq o.name (codes "default") then Ok j
