@@ -1,3 +1,4 @@
 pub mod Elements
 pub mod Equal
 pub mod Named
+pub mod Printed

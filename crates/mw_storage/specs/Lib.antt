@@ -1,2 +1,4 @@
 pub mod Answers
 pub mod Places
+pub mod Refusals
+pub mod Sizes

@@ -6,3 +6,8 @@ mod lists;
 mod numbers;
 mod objects;
 mod operate;
+mod refusal;
+mod run;
+mod size;
+
+pub use refusal::StoreRefusal;
