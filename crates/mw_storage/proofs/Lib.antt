@@ -2,3 +2,5 @@ pub mod Elements
 pub mod Equal
 pub mod Named
 pub mod Printed
+pub mod Entries
+pub mod Counting

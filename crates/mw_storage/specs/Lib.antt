@@ -2,3 +2,4 @@ pub mod Answers
 pub mod Places
 pub mod Refusals
 pub mod Sizes
+pub mod Stored

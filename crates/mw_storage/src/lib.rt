@@ -1,7 +1,10 @@
 //! The data storage of a room: values under keys, and the operations that change them.
 #![tactic(auto)]
 
+mod bytes;
 mod fault;
+mod growth;
+mod keys;
 mod lists;
 mod numbers;
 mod objects;
@@ -9,5 +12,8 @@ mod operate;
 mod refusal;
 mod run;
 mod size;
+mod store;
 
+pub use growth::StoreGrowth;
 pub use refusal::StoreRefusal;
+pub use store::Store;
