@@ -1,9 +1,8 @@
 -- What an operation of the data storage makes of a value.
 use Rattle.std.specs.Prelude.{ℕ, zero, suc, ℤ, pos, negsuc, ◌+◌, ◌/◌, ◌^◌, ◌+ℤ◌, ◌-ℤ◌, ◌*ℤ◌, List, Bool, Option, Some, None, Result, Ok, Err, nat_lt, is_some, bytes_eq, codes, if◌then◌else◌}
-use Rattle.std.specs.Int.{w64, int_max, int_min, int_bit_and, int_bit_or, int_bit_xor, int_shr}
+use Rattle.std.specs.Int.{w64, int_max, int_min, int_bit_and, int_bit_or, int_bit_xor}
 use Rattle.std.specs.Ordering.{nat_cmp, int_eq}
 use Rattle.std.specs.Cmp.Lexicographic.{slice_cmp}
-use Rattle.std.specs.declared.cmp.Ordering.{Ordering}
 use Rattle.std.specs.declared.cmp.Ordering.TheVariants.{Less, Equal, Greater}
 use Rattle.mw_model.specs.Json.{Json, null, flag, whole, not_whole, words, many, members, Items, no_items, item, Members, no_members, member}
 use Rattle.mw_model.specs.Sets.{Operation}
@@ -68,22 +67,22 @@ shifted_right z None = Err bad_operation
 -- two numbers as 64 bits in two's complement
 unfoldable pub of_bits : List ℕ → ℤ → ℤ → Result Json Fault
 of_bits name z n =
-  if bytes_eq name (codes "and") then in_range (int_bit_and w64 z n)
-  else (if bytes_eq name (codes "or") then in_range (int_bit_or w64 z n)
-  else (if bytes_eq name (codes "xor") then in_range (int_bit_xor w64 z n)
-  else (if bytes_eq name (codes "left_shift") then shifted_left z (shift_by n)
-  else (if bytes_eq name (codes "right_shift") then shifted_right z (shift_by n)
-  else Err bad_operation))))
+    if bytes_eq name (codes "and") then in_range (int_bit_and w64 z n)
+    else (if bytes_eq name (codes "or") then in_range (int_bit_or w64 z n)
+    else (if bytes_eq name (codes "xor") then in_range (int_bit_xor w64 z n)
+    else (if bytes_eq name (codes "left_shift") then shifted_left z (shift_by n)
+    else (if bytes_eq name (codes "right_shift") then shifted_right z (shift_by n)
+    else Err bad_operation))))
 
 -- the number z and the operand n
 unfoldable pub of_numbers : List ℕ → ℤ → ℤ → Result Json Fault
 of_numbers name z n =
-  if bytes_eq name (codes "add") then in_range (z +ℤ n)
-  else (if bytes_eq name (codes "mul") then in_range (z *ℤ n)
-  else (if bytes_eq name (codes "max") then in_range (int_max z n)
-  else (if bytes_eq name (codes "min") then in_range (int_min z n)
-  else (if bytes_eq name (codes "mod") then remainder z n
-  else of_bits name z n))))
+    if bytes_eq name (codes "add") then in_range (z +ℤ n)
+    else (if bytes_eq name (codes "mul") then in_range (z *ℤ n)
+    else (if bytes_eq name (codes "max") then in_range (int_max z n)
+    else (if bytes_eq name (codes "min") then in_range (int_min z n)
+    else (if bytes_eq name (codes "mod") then remainder z n
+    else of_bits name z n))))
 
 abbrev pub of_both : List ℕ → Option ℤ → Option ℤ → Result Json Fault
 of_both name (Some z) (Some n) = of_numbers name z n
@@ -198,12 +197,12 @@ updated _ operand = Err bad_operation
 -- what an operation makes of a value
 unfoldable pub operated : Operation → Json → Result Json Fault
 operated o j =
-  if bytes_eq o.name (codes "replace") then Ok o.value
-  else (if bytes_eq o.name (codes "default") then Ok j
-  else (if bytes_eq o.name (codes "floor") then itself j
-  else (if bytes_eq o.name (codes "ceil") then itself j
-  else (if bytes_eq o.name (codes "add") then added j o.value
-  else (if bytes_eq o.name (codes "remove") then removed j o.value
-  else (if bytes_eq o.name (codes "pop") then popped j o.value
-  else (if bytes_eq o.name (codes "update") then updated j o.value
-  else by_number o.name j o.value)))))))
+    if bytes_eq o.name (codes "replace") then Ok o.value
+    else (if bytes_eq o.name (codes "default") then Ok j
+    else (if bytes_eq o.name (codes "floor") then itself j
+    else (if bytes_eq o.name (codes "ceil") then itself j
+    else (if bytes_eq o.name (codes "add") then added j o.value
+    else (if bytes_eq o.name (codes "remove") then removed j o.value
+    else (if bytes_eq o.name (codes "pop") then popped j o.value
+    else (if bytes_eq o.name (codes "update") then updated j o.value
+    else by_number o.name j o.value)))))))

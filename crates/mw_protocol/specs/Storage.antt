@@ -61,7 +61,7 @@ pub record Changed : Type 0 where
 
 -- it begins with the word for what is read alone
 abbrev pub is_private : List ℕ → Bool
-is_private key = bytes_eq (take 6 key) (codes "_read_")
+is_private key = bytes_eq (codes "_read_") (take 6 key)
 
 -- more than 65,536 keys, or more than 4,194,304 bytes
 abbrev pub is_too_much : List Kept → Bool

@@ -1,8 +1,8 @@
 -- Rows of the data storage beside its definitions.
-use Rattle.std.specs.Prelude.{ℕ, ℤ, pos, negsuc, ◌≡◌, ◌∷◌, [], List, Result, Ok, Err, true, false, refl, codes}
+use Rattle.std.specs.Prelude.{ℕ, pos, negsuc, ◌≡◌, ◌∷◌, [], List, Result, Ok, Err, true, refl, codes}
 use Rattle.mw_model.specs.Json.{Json, whole, many, no_items, item, no_members}
 use Rattle.mw_model.specs.Sets.{Operation, SetPacket}
-use Rattle.mw_protocol.specs.Storage.{Kept, Refused, private_key, bad_operation_at, out_of_range_at, before, run_from, set_case, storage}
+use Rattle.mw_protocol.specs.Storage.{Refused, private_key, bad_operation_at, out_of_range_at, before, run_from, set_case, storage}
 use Rattle.mw_protocol.specs.Operations.{operated, of_numbers, of_bits}
 use Rattle.mw_protocol.specs.Records.{store, release}
 

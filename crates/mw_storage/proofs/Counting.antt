@@ -1,6 +1,6 @@
 -- What stands once a value is kept under a key.
-use Rattle.std.proofs.Common.{◌≡◌, ◌+◌, ℕ, Bool, true, false, List, [], ◌∷◌, length, Option, Some, None, bytes_eq, refl, ap, sym, ◌∙◌, subst, option_map, arith}
-use Rattle.std.specs.Prelude.{if◌then◌else◌, IfSome, is_some}
+use Rattle.std.proofs.Common.{◌≡◌, ◌+◌, ℕ, Bool, true, false, List, [], ◌∷◌, length, Option, Some, None, bytes_eq, refl, ap, sym, subst, option_map, arith}
+use Rattle.std.specs.Prelude.{if◌then◌else◌, IfSome}
 use denote.Ref.{Bor}
 use Rattle.mw_json.specs.View.{view}
 use Rattle.mw_json.specs.declared.tree.Tree.{Tree}

@@ -1,7 +1,7 @@
 -- Lists of trees beside the plain lists that they stand for.
-use Rattle.std.proofs.Common.{◌≡◌, ◌<◌, ◌≤◌, ◌+◌, ℕ, ℤ, pos, zero, suc, List, [], ◌∷◌, ◌++◌, length, is_some, false, refl, ap, sym, ◌∙◌, arith}
+use Rattle.std.proofs.Common.{◌≡◌, ◌≤◌, ℕ, ℤ, pos, zero, suc, List, [], ◌∷◌, ◌++◌, length, is_some, false, refl, ap, sym, ◌∙◌, arith}
 use Rattle.std.specs.Prelude.{remove}
-use Rattle.mw_model.specs.Json.{Json, Items, no_items, item}
+use Rattle.mw_model.specs.Json.{Items, no_items, item}
 use Rattle.mw_json.specs.View.{view, items_view}
 use Rattle.mw_json.specs.declared.tree.Tree.{Tree}
 use Rattle.mw_protocol.specs.Operations.{append_items, without_at, without_index, place_from, lacking}

@@ -4,3 +4,4 @@ pub mod Named
 pub mod Printed
 pub mod Entries
 pub mod Counting
+pub mod Keeping

@@ -1,6 +1,5 @@
 -- The compact text of a value is as long as its parts say.
-use Rattle.std.proofs.Common.{◌≡◌, ◌+◌, ◌<◌, ◌≤◌, ◌^◌, ◌/◌, ℕ, ℤ, pos, negsuc, max, Bool, true, false, cond, List, [], ◌∷◌, ◌++◌, length, decimal, refl, ap, sym, ◌∙◌, append_assoc, append-nil, length-append, arith}
-use Rattle.std.specs.Prelude.{if◌then◌else◌}
+use Rattle.std.proofs.Common.{◌≡◌, ◌+◌, ◌<◌, ◌≤◌, ◌^◌, ◌/◌, ℕ, max, Bool, true, false, List, [], ◌∷◌, ◌++◌, length, decimal, refl, ap, ◌∙◌, append_assoc, append-nil, length-append, arith}
 use Rattle.std.proofs.lemmas.Fmt.{decimal_by_steps, decimal_step}
 use Rattle.json.specs.Token.{Token}
 use Rattle.json.specs.Print.{print_from, escape, quoted, begins, ends, token_text}
@@ -31,6 +30,7 @@ size_of_key s = omega (arith, length-append (quoted s) (58 ∷ []), size_of_quot
 
 mutual
   unfolding print_from
+
   printed : (after : Bool) (j : Json) (ts : List Token) → text_size after (json_tokens (outline j) ++ ts) ≡ comma after + size j + text_size true ts
   printed after null ts = head after Token.null ts refl
   printed after (flag true) ts = head after (Token.boolean true) ts refl

@@ -1,5 +1,5 @@
-ghost use Rattle.std.specs.Prelude.{◌≡◌, List, IfSome, MatchOption, option_map};
-ghost use Rattle.mw_model.specs.Json.{IsWritable};
+ghost use Rattle.std.specs.Prelude.{◌≡◌, ◌<◌, ◌^◌, ℕ, List, length, IfSome, MatchOption, option_map};
+ghost use Rattle.mw_model.specs.Json.{Json, IsWritable};
 ghost use Rattle.mw_json.specs.View.{view};
 ghost use Rattle.mw_protocol.specs.Storage.{Kept, put, value_of, bytes_kept};
 
@@ -26,5 +26,19 @@ pub(crate) fn bytes_after(
     match old {
         Some(old) => total.checked_sub(text_size(old)?)?.checked_add(new),
         None => total.checked_add(key.len() as u64)?.checked_add(new),
+    }
+}
+
+/// The keys that stand once a key is kept, of which `old` is the value before.
+#[tactic(auto, using(crate::proofs::Counting::keys_there, crate::proofs::Counting::keys_new))]
+pub(crate) fn keys_after(keys: usize, old: Option<&Tree>) -> u64
+    requires { keys < 2 ^ 63 }
+    ensures { (kept : List Kept) → keys ≡ length kept → (key : List ℕ) (value : Json)
+        → option_map (λ t. view t.now) old.entry ≡ value_of key kept
+        → result ≡ length (put key value kept) }
+{
+    match old {
+        Some(_) => keys as u64,
+        None => keys as u64 + 1,
     }
 }

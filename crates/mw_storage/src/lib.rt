@@ -1,6 +1,7 @@
 //! The data storage of a room: values under keys, and the operations that change them.
 #![tactic(auto)]
 
+mod apply;
 mod bytes;
 mod fault;
 mod growth;
@@ -14,6 +15,7 @@ mod run;
 mod size;
 mod store;
 
+pub use apply::Changed;
 pub use growth::StoreGrowth;
 pub use refusal::StoreRefusal;
 pub use store::Store;

@@ -31,12 +31,7 @@ fn place_for(members: &[Member], name: &str) -> Place
     Place::Before(members.len())
 }
 
-fn insert(
-    members: List<Member>,
-    at: usize,
-    name: Text,
-    value: Tree,
-) -> Result<List<Member>, Memory>
+fn insert(members: List<Member>, at: usize, name: Text, value: Tree) -> Result<List<Member>, Memory>
     requires { at ≤ length members }
     ensures { IfOk result (λ all. members_view all
         ≡ in_front (take at members) (member name (view value) (members_view (drop at members)))) }
@@ -90,7 +85,7 @@ fn place_of(members: &[Member], name: &str) -> Option<usize>
     ensures { MatchOption result
         (without_member name.now (members_view members.now) ≡ members_view members.now)
         (λ i. (i < length members.now) × (without_member name.now (members_view members.now)
-            ≡ in_front (take i members.now) (members_view (drop (i + 1) members.now)))) }
+        ≡ in_front (take i members.now) (members_view (drop (i + 1) members.now)))) }
 {
     for (i, member) in members.iter().enumerate() {
         if member.name.as_str() == name {

@@ -1,15 +1,19 @@
 ghost use Rattle.std.specs.Prelude.{◌≡◌, [], IfOk, OnOk, OnErr, option_map};
 ghost use Rattle.mw_model.specs.Json.{IsWritable, IsOrdered};
 ghost use Rattle.mw_json.specs.View.{view};
-ghost use Rattle.mw_protocol.specs.Storage.{put, value_of};
-ghost use Rattle.mw_storage.specs.Stored.{HasRoom};
+ghost use Rattle.mw_protocol.specs.Storage.{put, value_of, set_case};
+ghost use Rattle.mw_storage.specs.Refusals.{GivesBy, changed_view};
+ghost use Rattle.mw_storage.specs.Stored.{HasRoom, IsKept};
 
-use crate::bytes::bytes_after;
+use crate::apply::{Changed, first_value, is_private, within_limits};
+use crate::bytes::{bytes_after, keys_after};
 use crate::growth::StoreGrowth;
 use crate::keys::{find, insert};
+use crate::refusal::StoreRefusal;
+use crate::run::run;
 use indexmap::IndexMap;
 use mw_base::{Memory, Text};
-use mw_json::Tree;
+use mw_json::{SetPacket, Tree, copy};
 use std::alloc::Global;
 use std::marker::Model;
 
@@ -88,5 +92,24 @@ impl Store {
         let key = Text::of(self.alloc, key.as_str())?;
         self.put_grown(key, value, growth);
         Ok(())
+    }
+
+    /// What a change makes of its key's value, or why it is refused, judged in this order: a private
+    /// key, the first operation that fails, what would stand. The store stays as it is.
+    pub fn apply(&self, set: &SetPacket) -> Result<Changed, StoreRefusal>
+        ensures answer { GivesBy changed_view result (set_case self.now.kept set.now) }
+        ensures kept { IfOk result (λ c. IsKept (view c.old) × IsKept (view c.new)) }
+    {
+        let key = set.key.as_str();
+        if is_private(key) {
+            return Err(StoreRefusal::PrivateKey);
+        }
+        let found = find(&self.kept, key);
+        let old = first_value(self.alloc, found, &set.default)?;
+        let start = copy(self.alloc, &old)?;
+        let new = run(self.alloc, set.operations.as_slice(), start)?;
+        let bytes = bytes_after(self.bytes, found, key, &new);
+        let keys = keys_after(self.kept.len(), found);
+        within_limits(bytes, keys, Changed { old, new })
     }
 }

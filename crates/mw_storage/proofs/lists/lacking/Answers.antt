@@ -1,4 +1,4 @@
-use Rattle.std.proofs.Common.{◌≡◌, ◌+◌, ◌∷◌, [], drop, suc, is_some, false, ap, sym, ◌∙◌, add-one, drop-cons}
+use Rattle.std.proofs.Common.{◌≡◌, ◌+◌, ◌∷◌, drop, suc, is_some, false, ap, sym, ◌∙◌, add-one, drop-cons}
 use Rattle.std.proofs.Math.ListN.{drop_of_length-le}
 use Rattle.mw_json.specs.View.{view, items_view}
 use Rattle.mw_protocol.specs.Operations.{append_items, place_from, lacking}
@@ -15,9 +15,9 @@ loop-item-preserved c =
     drop-cons more at x c.loop-item-test.true ∙ rw add-one (ap (λ y. y ∷ drop (suc at) more) (sym c.item-item.is)) in
     let none : is_some (place_from 0 (view x) items) ≡ false = ap is_some (sym c.place_of.ensures.place) ∙ sym c.is_some.ensures ∙ c.if-is_some.false in
     ap (λ ts. append_items (items_view ts) (lacking items (items_view (drop (at + 1) more)))) c.in_ok-push.ensures.ok
-        ∙ found_one items c.loop-item.found x c.in_ok-copy.field-0 (items_view (drop (at + 1) more)) none c.in_ok-copy.ensures
-        ∙ ap (λ ts. append_items (items_view c.loop-item.found) (lacking items (items_view ts))) (sym front)
-        ∙ c.loop-item.invariant
+    ∙ found_one items c.loop-item.found x c.in_ok-copy.field-0 (items_view (drop (at + 1) more)) none c.in_ok-copy.ensures
+    ∙ ap (λ ts. append_items (items_view c.loop-item.found) (lacking items (items_view ts))) (sym front)
+    ∙ c.loop-item.invariant
 
 pub returns : goal.returns
 returns c =
@@ -25,5 +25,5 @@ returns c =
     let items = items_view c.args.items.now in
     let found = items_view c.loop-item.found in
     sym (append_none found)
-        ∙ ap (λ ts. append_items found (lacking items (items_view ts))) (sym (drop_of_length-le more c.loop-item-test.false))
-        ∙ c.loop-item.invariant
+    ∙ ap (λ ts. append_items found (lacking items (items_view ts))) (sym (drop_of_length-le more c.loop-item-test.false))
+    ∙ c.loop-item.invariant

@@ -1,4 +1,4 @@
-use Rattle.std.proofs.Common.{◌≤◌, length, of_z, arith}
+use Rattle.std.proofs.Common.{of_z, arith}
 use Rattle.std.specs.Int.{w64}
 use Rattle.std.proofs.lemmas.Int.{ints}
 use Rattle.mw_storage.proofs.Elements.{past_end}

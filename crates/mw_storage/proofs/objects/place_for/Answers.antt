@@ -8,4 +8,4 @@ loop-i-preserved c = λ j.
     let name = c.args.name.now in
     c.loop-i.invariant j
     ∙ not_before name j c.args.members.now c.loop-i.i c.index-members-i.result c.loop-i-test.true c.index-members-i.is
-        (ap (slice_cmp nat_cmp name) (sym c.as_str.ensures) ∙ sym c.in-Greater.ensures)
+    (ap (slice_cmp nat_cmp name) (sym c.as_str.ensures) ∙ sym c.in-Greater.ensures)

@@ -11,7 +11,7 @@ loop-i-preserved c =
     let name = c.args.name.now in
     c.loop-i.invariant
     ∙ not_yet name c.args.members.now c.loop-i.i c.index-members-i.result c.loop-i-test.true c.index-members-i.is
-        (ap (λ text. bytes_eq text name) (sym c.as_str.ensures) ∙ sym c.if-eq.ensures)
+    (ap (λ text. bytes_eq text name) (sym c.as_str.ensures) ∙ sym c.if-eq.ensures)
 
 pub returns : goal.returns
 returns c =
