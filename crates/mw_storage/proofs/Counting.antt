@@ -74,3 +74,7 @@ put_kept key new (k ∷ ks) n h = by (bytes_eq key k.key) (put_kept key new ks n
 pub found_kept : (found : Option (Bor Tree)) (value : Option Json) → option_map (λ t. view t.now) found ≡ value → IfSome value IsKept → IfSome found (λ t. IsWritable (view t.now))
 found_kept None value e h = tt
 found_kept (Some t) value e h = (subst (λ v. IfSome v IsKept) (sym e) h).writable
+
+pub found_is_kept : (found : Option (Bor Tree)) (value : Option Json) → option_map (λ t. view t.now) found ≡ value → IfSome value IsKept → IfSome found (λ t. IsKept (view t.now))
+found_is_kept None value e h = tt
+found_is_kept (Some t) value e h = subst (λ v. IfSome v IsKept) (sym e) h

@@ -5,3 +5,4 @@ pub mod Printed
 pub mod Entries
 pub mod Counting
 pub mod Keeping
+pub mod Shallow

@@ -10,7 +10,8 @@ use mw_json::Tree;
 
 /// The value of a key.
 pub(crate) fn find<'a>(kept: &'a IndexMap<String, Tree>, key: &str) -> Option<&'a Tree>
-    ensures { option_map (λ t. view t.now) result ≡ value_of key.now (map entry_view kept.now.entries) }
+    ensures { option_map (λ t. view t.now) result
+        ≡ value_of key.now (map entry_view kept.now.entries) }
 {
     kept.get(key)
 }

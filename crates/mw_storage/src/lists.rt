@@ -64,7 +64,8 @@ pub(crate) fn without_index(items: List<Tree>, index: i64) -> List<Tree>
 /// The elements of two lists.
 #[tactic(auto, using(crate::proofs::Elements::append_view))]
 pub(crate) fn append(items: List<Tree>, more: List<Tree>) -> Result<List<Tree>, Memory>
-    ensures { IfOk result (λ all. items_view all ≡ append_items (items_view items) (items_view more)) }
+    ensures { IfOk result (λ all.
+        items_view all ≡ append_items (items_view items) (items_view more)) }
 {
     let mut items = items.into_vec();
     let mut more = more.into_vec();
@@ -74,7 +75,8 @@ pub(crate) fn append(items: List<Tree>, more: List<Tree>) -> Result<List<Tree>, 
 
 /// Copies of the elements of the second list that are none of the first.
 pub(crate) fn lacking(alloc: Global, items: &[Tree], more: &[Tree]) -> Result<List<Tree>, Memory>
-    ensures { IfOk result (λ new. items_view new ≡ lacking (items_view items.now) (items_view more.now)) }
+    ensures { IfOk result (λ new.
+        items_view new ≡ lacking (items_view items.now) (items_view more.now)) }
 {
     let mut found = List::new(alloc);
     for item in more {

@@ -17,8 +17,8 @@ pub(crate) enum Place {
 }
 
 fn place_for(members: &[Member], name: &str) -> Place
-    ensures meaning { (j : Json)
-        → set_member name.now j (members_view members.now) ≡ set_at members.now result name.now j }
+    ensures meaning { (j : Json) → set_member name.now j (members_view members.now)
+        ≡ set_at members.now result name.now j }
     ensures within { IsPlace members.now result }
 {
     for (i, member) in members.iter().enumerate() {
@@ -33,8 +33,8 @@ fn place_for(members: &[Member], name: &str) -> Place
 
 fn insert(members: List<Member>, at: usize, name: Text, value: Tree) -> Result<List<Member>, Memory>
     requires { at ≤ length members }
-    ensures { IfOk result (λ all. members_view all
-        ≡ in_front (take at members) (member name (view value) (members_view (drop at members)))) }
+    ensures { IfOk result (λ all. members_view all ≡ in_front (take at members)
+        (member name (view value) (members_view (drop at members)))) }
 {
     let mut members = members.into_vec();
     members.insert(at, Member { name, value })?;
@@ -43,8 +43,8 @@ fn insert(members: List<Member>, at: usize, name: Text, value: Tree) -> Result<L
 
 fn with_value(members: List<Member>, at: usize, value: Tree) -> List<Member>
     requires { at < length members }
-    ensures { members_view result
-        ≡ in_front (take at members) (with_first_value (view value) (members_view (drop at members))) }
+    ensures { members_view result ≡ in_front (take at members)
+        (with_first_value (view value) (members_view (drop at members))) }
 {
     let mut members = members.into_vec();
     members[at].value = value;
@@ -53,7 +53,8 @@ fn with_value(members: List<Member>, at: usize, value: Tree) -> List<Member>
 
 /// A member with this value: the one of this name, or a new one at its place.
 fn set_member(members: List<Member>, name: Text, value: Tree) -> Result<List<Member>, Memory>
-    ensures { IfOk result (λ all. members_view all ≡ set_member name (view value) (members_view members)) }
+    ensures { IfOk result (λ all.
+        members_view all ≡ set_member name (view value) (members_view members)) }
 {
     match place_for(members.as_slice(), name.as_str()) {
         Place::At(at) => Ok(with_value(members, at, value)),
@@ -70,7 +71,8 @@ pub(crate) fn set_members(
     members: List<Member>,
     more: &[Member],
 ) -> Result<List<Member>, Memory>
-    ensures { IfOk result (λ all. members_view all ≡ set_members (members_view members) (members_view more.now)) }
+    ensures { IfOk result (λ all.
+        members_view all ≡ set_members (members_view members) (members_view more.now)) }
 {
     let mut members = members;
     for member in more {
@@ -107,7 +109,8 @@ pub(crate) fn without_member(members: List<Member>, name: &str) -> List<Member>
 
 fn without_at(members: List<Member>, at: usize) -> List<Member>
     requires { at < length members }
-    ensures { members_view result ≡ in_front (take at members) (members_view (drop (at + 1) members)) }
+    ensures { members_view result
+        ≡ in_front (take at members) (members_view (drop (at + 1) members)) }
 {
     let mut members = members.into_vec();
     let _gone = members.remove(at);

@@ -1,7 +1,7 @@
-ghost use Rattle.std.specs.Prelude.{◌≡◌, [], IfOk, OnOk, OnErr, option_map};
-ghost use Rattle.mw_model.specs.Json.{IsWritable, IsOrdered};
+ghost use Rattle.std.specs.Prelude.{◌≡◌, ◌≤◌, ℕ, [], IfOk, IfSome, OnOk, OnErr, option_map};
+ghost use Rattle.mw_model.specs.Json.{depth, IsWritable, IsOrdered};
 ghost use Rattle.mw_json.specs.View.{view};
-ghost use Rattle.mw_protocol.specs.Storage.{put, value_of, set_case};
+ghost use Rattle.mw_protocol.specs.Storage.{put, value_of, before, set_case};
 ghost use Rattle.mw_storage.specs.Refusals.{GivesBy, changed_view};
 ghost use Rattle.mw_storage.specs.Stored.{HasRoom, IsKept};
 
@@ -55,7 +55,8 @@ impl Store {
 
     /// The value of a key; None exactly where the key isn't kept. It takes no memory.
     pub fn get(&self, key: &Text) -> Option<&Tree>
-        ensures { option_map (λ t. view t.now) result ≡ value_of key.now self.now.kept }
+        ensures value { option_map (λ t. view t.now) result ≡ value_of key.now self.now.kept }
+        ensures kept { IfSome result (λ t. IsKept (view t.now)) }
     {
         find(&self.kept, key.as_str())
     }
@@ -94,11 +95,15 @@ impl Store {
         Ok(())
     }
 
-    /// What a change makes of its key's value, or why it is refused, judged in this order: a private
-    /// key, the first operation that fails, what would stand. The store stays as it is.
+    /// What a change makes of its key's value, or why it is refused, judged in this order: a
+    /// private key, the first operation that fails, what would stand. The store stays as it is.
+    ///
+    /// The operations are those of Archipelago's network protocol for data storage, but `pow`.
     pub fn apply(&self, set: &SetPacket) -> Result<Changed, StoreRefusal>
         ensures answer { GivesBy changed_view result (set_case self.now.kept set.now) }
         ensures kept { IfOk result (λ c. IsKept (view c.old) × IsKept (view c.new)) }
+        ensures shallow { (n : ℕ) → 62 ≤ n → depth (before self.now.kept set.now) ≤ n
+            → IfOk result (λ c. depth (view c.new) ≤ n) }
     {
         let key = set.key.as_str();
         if is_private(key) {
