@@ -4,7 +4,7 @@ use Rattle.std.specs.Prelude.{if◌then◌else◌, IfSome}
 use denote.Ref.{Bor}
 use Rattle.mw_json.specs.View.{view}
 use Rattle.mw_json.specs.declared.tree.Tree.{Tree}
-use Rattle.mw_model.specs.Json.{Json, IsWritable}
+use Rattle.mw_model.specs.Json.{Json}
 use Rattle.mw_model.specs.Spelling.{spelling}
 use Rattle.mw_protocol.specs.Storage.{Kept, put, value_of, bytes_kept}
 use Rattle.mw_storage.specs.Stored.{IsKept, AreKept}
@@ -71,10 +71,6 @@ put_kept key new (k ∷ ks) n h = by (bytes_eq key k.key) (put_kept key new ks n
     by true rest = (n, h.1)
     by false rest = (h.0, rest)
 
-pub found_kept : (found : Option (Bor Tree)) (value : Option Json) → option_map (λ t. view t.now) found ≡ value → IfSome value IsKept → IfSome found (λ t. IsWritable (view t.now))
+pub found_kept : (found : Option (Bor Tree)) (value : Option Json) → option_map (λ t. view t.now) found ≡ value → IfSome value IsKept → IfSome found (λ t. IsKept (view t.now))
 found_kept None value e h = tt
-found_kept (Some t) value e h = (subst (λ v. IfSome v IsKept) (sym e) h).writable
-
-pub found_is_kept : (found : Option (Bor Tree)) (value : Option Json) → option_map (λ t. view t.now) found ≡ value → IfSome value IsKept → IfSome found (λ t. IsKept (view t.now))
-found_is_kept None value e h = tt
-found_is_kept (Some t) value e h = subst (λ v. IfSome v IsKept) (sym e) h
+found_kept (Some t) value e h = subst (λ v. IfSome v IsKept) (sym e) h
