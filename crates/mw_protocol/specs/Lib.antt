@@ -2,8 +2,10 @@ pub mod Asked
 pub mod Checks
 pub mod Connecting
 pub mod Effects
+pub mod Equal
 pub mod Examples
 pub mod Messages
+pub mod Operations
 pub mod Owed
 pub mod Packages
 pub mod Packets
@@ -17,4 +19,6 @@ pub mod Sayings
 pub mod Spelled
 pub mod SpelledExamples
 pub mod Standing
+pub mod Storage
+pub mod StorageExamples
 pub mod Words

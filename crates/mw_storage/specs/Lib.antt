@@ -1,0 +1,5 @@
+pub mod Answers
+pub mod Places
+pub mod Refusals
+pub mod Sizes
+pub mod Stored

@@ -1,0 +1,35 @@
+-- What a store keeps, and its room for more.
+use Rattle.std.specs.Prelude.{◌≡◌, ◌≤◌, ◌+◌, ℕ, List, [], ◌∷◌, Option, String, string_bytes, IfSome, MatchOption, length}
+use Rattle.std.specs.declared.alloc.Global.{Global}
+use Rattle.indexmap.specs.IndexMap.{IsEmpty, spare}
+use Rattle.mw_model.specs.Json.{Json, IsWritable, IsOrdered}
+use Rattle.mw_json.specs.View.{view}
+use Rattle.mw_json.specs.declared.tree.Tree.{Tree}
+use Rattle.mw_protocol.specs.Storage.{Kept, bytes_kept}
+use Rattle.mw_storage.specs.declared.growth.StoreGrowth.{StoreGrowth}
+
+-- keys with their values, and how many more keys find their place with no memory
+pub record Stored : Type 0 where
+  pub kept : List Kept
+  pub room : ℕ
+
+abbrev pub entry_view : String Global × Tree → Kept
+entry_view e = record { key = string_bytes e.0; value = view e.1 }
+
+-- it can be written, and its objects are in order
+pub record IsKept (j : Json) : Type 0 where
+  pub writable : IsWritable j
+  pub ordered : IsOrdered j
+
+abbrev pub AreKept : List Kept → Type 0
+AreKept [] = Unit {0}
+AreKept (k ∷ ks) = IsKept k.value × AreKept ks
+
+-- the count, where a u64 has it, is of what is kept; each value can be written
+pub record IsStore (kept : List Kept) (bytes : Option ℕ) : Type 0 where
+  pub counted : IfSome bytes (λ n. n ≡ bytes_kept kept)
+  pub valid : AreKept kept
+
+-- this many more keys have their place, here or in the wider map
+abbrev pub HasRoom : Stored → StoreGrowth → ℕ → Type 0
+HasRoom store growth more = MatchOption growth.wide (more ≤ store.room) (λ m. IsEmpty m × (length store.kept + more ≤ spare m))
