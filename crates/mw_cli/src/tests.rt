@@ -8,7 +8,9 @@ use mw_edges::{MemoryFolder, MemorySink, MemorySource, Sink, SinkError, Tally};
 use std::alloc::Global;
 use std::test::Fail;
 
-const ROOM_A: &str =
+/// A room of one team: Ann starts with Boots, and finds Bob's Sword and her own Coin; Bob finds
+/// Ann's Map.
+pub(crate) const ROOM_A: &str =
     r#"{"format":"mw-multidata-1","games":{"G":{"item_name_to_id":{"Boots":5,"Coin":8,"Map":9,"Sword":7},"location_name_to_id":{"A1":101,"A2":102,"B1":201}}},"locations":[[1,101,7,2,1],[1,102,8,1,0],[2,201,9,1,2]],"seed_name":"A","server":{"collect":"goal","hint_cost":10,"location_check_points":1,"password":"","release":"goal","remaining":"goal"},"slots":[{"game":"G","names":["Ann"],"start":[[5,0]]},{"game":"G","names":["Bob"],"start":[]}],"spheres":[],"teams":1}"#;
 
 /// A folder that has this file as `A`, whose call of this number fails.
@@ -236,16 +238,9 @@ fn each_status_has_its_line(rt: HostRuntime) -> Result<(), Fail> {
             "open\nlost 1\ncommit\n",
             none,
             7,
-            "not built: line 2\n",
+            "not built: line 3\n",
         ),
-        (
-            "drive A",
-            ROOM_A,
-            "text 1 []\n",
-            none,
-            7,
-            "not built: line 1\n",
-        ),
+        ("drive A", ROOM_A, "crash\n", none, 7, "not built: line 1\n"),
     ];
     for (name, file, script, failing, status, line) in cases {
         let outcome = run_words(

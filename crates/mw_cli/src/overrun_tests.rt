@@ -1,0 +1,119 @@
+use crate::session_harness::{add_parts, driven, marked, room_with, script_of};
+use crate::tests::ROOM_A;
+use std::alloc::Global;
+use std::test::Fail;
+
+/// What Ann's session is owed for a Sync, on a line.
+const SYNCED: &str =
+    r#"1 [{"cmd":"ReceivedItems","index":0,"items":[{"class":"NetworkItem","flags":0,"item":5,"location":-2,"player":0}]}]
+"#;
+
+/// Short lines in which Ann connects, which owes two messages, and sends so many Syncs.
+fn syncing(alloc: Global, count: usize, rest: &str) -> Result<String, Fail> {
+    let mut lines = String::from_str(alloc, "open\nconnect 1 Ann 7\n")?;
+    lines.push_str("sync 1\n".repeat(alloc, count)?.as_str())?;
+    lines.push_str(rest)?;
+    Ok(lines)
+}
+
+/// What is told of them.
+fn told_of_syncs(alloc: Global, count: usize, rest: &str) -> Result<String, Fail> {
+    let lines = syncing(alloc, count, rest)?;
+    let script = script_of(alloc, lines.as_str())?;
+    driven(alloc, ROOM_A, script.as_str())
+}
+
+#[test]
+fn overrun_of_4096_messages(rt: HostRuntime) -> Result<(), Fail> {
+    let most = told_of_syncs(rt.alloc(), 4_094, "take 1\n")?;
+    let synced = SYNCED.repeat(rt.alloc(), 4_094)?;
+    assert_eq!(rt; most.as_str().lines().count(), 4_096);
+    assert!(rt; most.as_str().ends_with(synced.as_str()));
+    let more = told_of_syncs(rt.alloc(), 4_095, "take 1\n")?;
+    assert_eq!(rt; more.as_str(), "0 1 overrun\n");
+    Ok(())
+}
+
+#[test]
+fn taken_messages_do_not_count(rt: HostRuntime) -> Result<(), Fail> {
+    let lines = syncing(rt.alloc(), 4_094, "take 1\nmark\nsync 1\ntake 1\n")?;
+    let text = marked(rt.alloc(), ROOM_A, lines.as_str())?;
+    assert_eq!(rt; text.as_str(), SYNCED);
+    Ok(())
+}
+
+/// What is printed once the second of three Syncs in one text was owed too many, while another
+/// session of the slot goes on.
+fn once_overrun(alloc: Global) -> Result<String, Fail> {
+    let rest = r#"open
+connect 2 Ann 7
+take 2
+mark
+text 1 [{"cmd":"Sync"},{"cmd":"Sync"},{"cmd":"Sync"}]
+text 1 []
+text 1 7
+text 1 [7,7]
+checks 1 [101]
+take 1
+checks 2 [102]
+take 1
+lost 1
+take 1
+take 2
+"#;
+    let lines = syncing(alloc, 4_093, rest)?;
+    marked(alloc, ROOM_A, lines.as_str())
+}
+
+#[test]
+fn lines_of_an_overrun_session(rt: HostRuntime) -> Result<(), Fail> {
+    let expected = r#"1 overrun
+1 overrun
+1 overrun
+1 overrun
+1 overrun
+1 overrun
+1 gone
+2 [{"checked_locations":[102],"cmd":"RoomUpdate","hint_points":1},{"cmd":"ReceivedItems","index":1,"items":[{"class":"NetworkItem","flags":0,"item":8,"location":102,"player":1}]}]
+"#;
+    let text = once_overrun(rt.alloc())?;
+    assert_eq!(rt; text.as_str(), expected);
+    Ok(())
+}
+
+/// The room, where Ann starts with Boots 256 times.
+fn boots_room(alloc: Global) -> Result<String, Fail> {
+    let boots = "[5,0],".repeat(alloc, 256)?;
+    room_with(
+        alloc,
+        "[5,0]",
+        boots.as_str().strip_suffix(",").unwrap_or(""),
+    )
+}
+
+/// What is told of Ann's session there. RoomInfo and Connected have 384 and 17,903 bytes, each
+/// answer to a Sync 17,453, and that to an unknown cmd of so many letters 77 more. Then one more
+/// message is owed.
+fn told_of_bytes(alloc: Global, letters: usize) -> Result<String, Fail> {
+    let room = boots_room(alloc)?;
+    let word = "x".repeat(alloc, letters)?;
+    let mut last = String::new(alloc);
+    let parts = [
+        "text 1 [{\"cmd\":\"",
+        word.as_str(),
+        "\"}]\ntext 1 7\ntake 1\n",
+    ];
+    add_parts(&mut last, &parts)?;
+    let lines = syncing(alloc, 960, last.as_str())?;
+    let script = script_of(alloc, lines.as_str())?;
+    driven(alloc, room.as_str(), script.as_str())
+}
+
+#[test]
+fn overrun_of_16777216_bytes(rt: HostRuntime) -> Result<(), Fail> {
+    let most = told_of_bytes(rt.alloc(), 3_971)?;
+    assert_eq!(rt; most.as_str().lines().count(), 964);
+    let more = told_of_bytes(rt.alloc(), 3_972)?;
+    assert_eq!(rt; more.as_str(), "0 1 overrun\n");
+    Ok(())
+}
