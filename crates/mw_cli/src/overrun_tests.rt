@@ -1,5 +1,5 @@
 use crate::session_harness::{add_parts, driven, marked, room_with, script_of};
-use crate::tests::ROOM_A;
+use crate::tests::{FIRST_LINES, ROOM_A};
 use std::alloc::Global;
 use std::test::Fail;
 
@@ -23,12 +23,21 @@ fn told_of_syncs(alloc: Global, count: usize, rest: &str) -> Result<String, Fail
     driven(alloc, ROOM_A, script.as_str())
 }
 
+/// Status 0, and what Ann's session is owed before any check: RoomInfo, Connected, and the answers
+/// to so many Syncs.
+fn messages_before(alloc: Global, count: usize) -> Result<String, Fail> {
+    let (before, _) = FIRST_LINES
+        .split_once("1 [{\"checked_locations\":[101]")
+        .ok_or("no check")?;
+    let synced = SYNCED.repeat(alloc, count)?;
+    Ok(format!(in alloc; "0 {before}{}", synced.as_str())?)
+}
+
 #[test]
 fn overrun_of_4096_messages(rt: HostRuntime) -> Result<(), Fail> {
     let most = told_of_syncs(rt.alloc(), 4_094, "take 1\n")?;
-    let synced = SYNCED.repeat(rt.alloc(), 4_094)?;
-    assert_eq!(rt; most.as_str().lines().count(), 4_096);
-    assert!(rt; most.as_str().ends_with(synced.as_str()));
+    let all = messages_before(rt.alloc(), 4_094)?;
+    assert_eq!(rt; most.as_str(), all.as_str());
     let more = told_of_syncs(rt.alloc(), 4_095, "take 1\n")?;
     assert_eq!(rt; more.as_str(), "0 1 overrun\n");
     Ok(())
@@ -81,6 +90,10 @@ fn lines_of_an_overrun_session(rt: HostRuntime) -> Result<(), Fail> {
     Ok(())
 }
 
+/// The end of the answer to a message that is no list.
+const NO_LIST: &str = r#""original_cmd":null,"text":"no JSON list","type":"cmd"}]
+"#;
+
 /// The room, where Ann starts with Boots 256 times.
 fn boots_room(alloc: Global) -> Result<String, Fail> {
     let boots = "[5,0],".repeat(alloc, 256)?;
@@ -112,7 +125,8 @@ fn told_of_bytes(alloc: Global, letters: usize) -> Result<String, Fail> {
 #[test]
 fn overrun_of_16777216_bytes(rt: HostRuntime) -> Result<(), Fail> {
     let most = told_of_bytes(rt.alloc(), 3_971)?;
-    assert_eq!(rt; most.as_str().lines().count(), 964);
+    assert!(rt; most.as_str().starts_with("0 1 [{\"cmd\":\"RoomInfo\""));
+    assert!(rt; most.as_str().ends_with(NO_LIST));
     let more = told_of_bytes(rt.alloc(), 3_972)?;
     assert_eq!(rt; more.as_str(), "0 1 overrun\n");
     Ok(())

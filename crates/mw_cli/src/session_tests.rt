@@ -138,6 +138,54 @@ take 7
 }
 
 #[test]
+fn each_mask_has_its_own_index(rt: HostRuntime) -> Result<(), Fail> {
+    let lines = r#"open
+connect 1 Bob 7
+open
+connect 2 Ann 0
+take 2
+open
+connect 3 Ann 1
+take 3
+open
+connect 4 Ann 3
+take 4
+open
+connect 5 Ann 5
+take 5
+open
+connect 6 Ann 7
+take 6
+mark
+checks 3 [102]
+take 2
+take 3
+take 4
+take 5
+take 6
+checks 1 [201]
+take 2
+take 3
+take 4
+take 5
+take 6
+"#;
+    let text = marked(rt.alloc(), ROOM_A, lines)?;
+    let expected = r#"2 [{"checked_locations":[102],"cmd":"RoomUpdate","hint_points":1}]
+3 [{"checked_locations":[102],"cmd":"RoomUpdate","hint_points":1}]
+4 [{"checked_locations":[102],"cmd":"RoomUpdate","hint_points":1},{"cmd":"ReceivedItems","index":0,"items":[{"class":"NetworkItem","flags":0,"item":8,"location":102,"player":1}]}]
+5 [{"checked_locations":[102],"cmd":"RoomUpdate","hint_points":1}]
+6 [{"checked_locations":[102],"cmd":"RoomUpdate","hint_points":1},{"cmd":"ReceivedItems","index":1,"items":[{"class":"NetworkItem","flags":0,"item":8,"location":102,"player":1}]}]
+3 [{"cmd":"ReceivedItems","index":0,"items":[{"class":"NetworkItem","flags":2,"item":9,"location":201,"player":2}]}]
+4 [{"cmd":"ReceivedItems","index":1,"items":[{"class":"NetworkItem","flags":2,"item":9,"location":201,"player":2}]}]
+5 [{"cmd":"ReceivedItems","index":1,"items":[{"class":"NetworkItem","flags":2,"item":9,"location":201,"player":2}]}]
+6 [{"cmd":"ReceivedItems","index":2,"items":[{"class":"NetworkItem","flags":2,"item":9,"location":201,"player":2}]}]
+"#;
+    assert_eq!(rt; text.as_str(), expected);
+    Ok(())
+}
+
+#[test]
 fn a_new_mask_owes_from_the_start(rt: HostRuntime) -> Result<(), Fail> {
     let lines = r#"open
 connect 1 Ann 1
