@@ -1,5 +1,6 @@
 #!/usr/bin/env bash
-# Prints the time (passed, and of the processor) and memory of `drive` on a seed file of about 17 MB with a script of 2,000 checks over two slots, and on one of about 60 MB.
+# Prints the time (passed, and of the processor) and memory of `drive` on a seed file of about 17 MB with a script of 2,000 checks over two slots, and on one of about 60 MB;
+# then on one of 64 slots with 3,125 locations each, with 20,000 checks over all slots and with 200,000, and a take after each twentieth. A run is stopped after 120 s.
 # Run after `rt run` in crates/mw_cli, which leaves the program.
 set -eu
 cd "$(dirname "$0")/.."
@@ -10,10 +11,9 @@ trap 'rm -rf "$room"' EXIT
 python3 - "$room" <<'PY'
 import json, sys
 folder = sys.argv[1]
-per = 10000
 
-def write_seed(name, slots):
-    """A seed file of so many slots with 10,000 locations each, written entry by entry."""
+def write_seed(name, slots, per):
+    """A seed file of so many slots with so many locations each, written entry by entry."""
     games = {"G": {"item_name_to_id": {"Item": 1}, "location_name_to_id": {"L%d" % n: n for n in range(1, per + 1)}}}
     server = {"collect": "goal", "hint_cost": 10, "location_check_points": 1, "password": "", "release": "goal", "remaining": "goal"}
     people = [{"names": ["P%d" % s], "game": "G", "start": []} for s in range(1, slots + 1)]
@@ -26,30 +26,52 @@ def write_seed(name, slots):
             f.write(entries if s == 1 else "," + entries)
         f.write("]}")
 
-write_seed("seed.json", 100)
-write_seed("large_seed.json", 340)
+write_seed("seed.json", 100, 10000)
+write_seed("large_seed.json", 340, 10000)
+write_seed("many_slots_seed.json", 64, 3125)
 connect = '[{"cmd":"Connect","game":"G","items_handling":7,"name":"P%d","tags":["NoText"],"version":{"build":0,"class":"Version","major":0,"minor":5}}]'
-lines = []
-for s in (1, 2):
-    lines += ["open", "text %d %s" % (s, connect % s)]
-for n in range(1, 1001):
-    for s in (1, 2):
-        lines.append('text %d [{"cmd":"LocationChecks","locations":[%d]}]' % (s, n))
-lines += ["take 1", "take 2"]
-with open(folder + "/script.txt", "w") as f:
-    f.write("\n".join(lines) + "\n")
+
+def write_script(name, slots, checks, pace):
+    """A script in which each slot connects, and the slots check their locations in turn; after each so many checks a session takes, one after the other, and all do at the end."""
+    lines = []
+    for s in range(1, slots + 1):
+        lines += ["open", "text %d %s" % (s, connect % s)]
+    for k in range(checks):
+        lines.append('text %d [{"cmd":"LocationChecks","locations":[%d]}]' % (k % slots + 1, k // slots + 1))
+        if k % pace == pace - 1:
+            lines.append("take %d" % (k // pace % slots + 1))
+    lines += ["take %d" % s for s in range(1, slots + 1)]
+    with open(folder + "/" + name, "w") as f:
+        f.write("\n".join(lines) + "\n")
+
+write_script("few.txt", 2, 2000, 2001)
+write_script("many.txt", 64, 20000, 20)
+write_script("most.txt", 64, 200000, 20)
+open(folder + "/empty.txt", "w").close()
 PY
 ls -l "$room"/*seed.json | awk '{print $9 ": " $5 " bytes"}' | sed 's|.*/||'
 python3 - "$program" "$room" <<'PY'
 import resource, subprocess, sys, time
 program, folder = sys.argv[1:]
+limit = 120
 before = 0.0
-checks = open(folder + "/script.txt", "rb").read()
-for seed, name, script in (("seed.json", "empty script", b""), ("seed.json", "2,000 checks", checks), ("large_seed.json", "empty script", b"")):
+runs = [
+    ("seed.json", "empty script", "empty.txt"),
+    ("seed.json", "2,000 checks over 2 slots", "few.txt"),
+    ("large_seed.json", "empty script", "empty.txt"),
+    ("many_slots_seed.json", "20,000 checks over 64 slots", "many.txt"),
+    ("many_slots_seed.json", "200,000 checks over 64 slots", "most.txt"),
+]
+for seed, name, script in runs:
     begin = time.time()
-    run = subprocess.run([program, "drive", folder + "/" + seed], input=script, stdout=subprocess.PIPE)
-    passed = time.time() - begin
+    try:
+        with open(folder + "/" + script, "rb") as lines:
+            run = subprocess.run([program, "drive", folder + "/" + seed], stdin=lines, stdout=subprocess.PIPE, timeout=limit)
+        end = "status %d, %.2f s" % (run.returncode, time.time() - begin)
+        out = "%d bytes out" % len(run.stdout)
+    except subprocess.TimeoutExpired:
+        end, out = "not done after %d s, stopped" % limit, "what it had put is dropped"
     usage = resource.getrusage(resource.RUSAGE_CHILDREN)
     spent, before = usage.ru_utime + usage.ru_stime - before, usage.ru_utime + usage.ru_stime
-    print("%s, %s: status %d, %.2f s (processor %.2f s), %d MB at most so far, %d bytes out" % (seed, name, run.returncode, passed, spent, usage.ru_maxrss // 1024, len(run.stdout)))
+    print("%s, %s: %s (processor %.2f s), %d MB at most so far, %s" % (seed, name, end, spent, usage.ru_maxrss // 1024, out))
 PY

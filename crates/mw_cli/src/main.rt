@@ -54,13 +54,23 @@ fn main(rt: HostRuntime) -> ExitCode {
 }
 
 #[cfg(test)]
+mod connect_tests;
+#[cfg(test)]
 mod generate_tests;
 #[cfg(test)]
 mod harness;
 #[cfg(test)]
 mod large_tests;
 #[cfg(test)]
+mod overrun_tests;
+#[cfg(test)]
 mod reach_tests;
+#[cfg(test)]
+mod session_harness;
+#[cfg(test)]
+mod session_tests;
+#[cfg(test)]
+mod team_tests;
 #[cfg(test)]
 mod tests;
 #[cfg(test)]

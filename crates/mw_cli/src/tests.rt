@@ -8,7 +8,9 @@ use mw_edges::{MemoryFolder, MemorySink, MemorySource, Sink, SinkError, Tally};
 use std::alloc::Global;
 use std::test::Fail;
 
-const ROOM_A: &str =
+/// A room of one team: Ann starts with Boots, and finds Bob's Sword and her own Coin; Bob finds
+/// Ann's Map.
+pub(crate) const ROOM_A: &str =
     r#"{"format":"mw-multidata-1","games":{"G":{"item_name_to_id":{"Boots":5,"Coin":8,"Map":9,"Sword":7},"location_name_to_id":{"A1":101,"A2":102,"B1":201}}},"locations":[[1,101,7,2,1],[1,102,8,1,0],[2,201,9,1,2]],"seed_name":"A","server":{"collect":"goal","hint_cost":10,"location_check_points":1,"password":"","release":"goal","remaining":"goal"},"slots":[{"game":"G","names":["Ann"],"start":[[5,0]]},{"game":"G","names":["Bob"],"start":[]}],"spheres":[],"teams":1}"#;
 
 /// A folder that has this file as `A`, whose call of this number fails.
@@ -73,7 +75,7 @@ fn after_connecting(alloc: Global, script: &str) -> Result<String, Fail> {
 }
 
 /// What the session of `open` and a Connect of Ann is owed, and then a check of 101.
-const FIRST_LINES: &str =
+pub(crate) const FIRST_LINES: &str =
     r#"1 [{"cmd":"RoomInfo","datapackage_checksums":{"G":"3140df20051ca1c7a5dd4f886f8945c613c6fbba"},"games":["G"],"generator_version":{"build":0,"class":"Version","major":0,"minor":5},"hint_cost":10,"location_check_points":1,"password":false,"permissions":{"collect":2,"release":2,"remaining":2},"seed_name":"A","tags":[],"time":0,"version":{"build":0,"class":"Version","major":0,"minor":5}}]
 1 [{"checked_locations":[],"cmd":"Connected","hint_points":0,"missing_locations":[101,102],"players":[{"alias":"Ann","class":"NetworkPlayer","name":"Ann","slot":1,"team":0},{"alias":"Bob","class":"NetworkPlayer","name":"Bob","slot":2,"team":0}],"slot":1,"slot_data":{},"slot_info":{"1":{"class":"NetworkSlot","game":"G","group_members":[],"name":"Ann","type":1},"2":{"class":"NetworkSlot","game":"G","group_members":[],"name":"Bob","type":1}},"team":0},{"cmd":"ReceivedItems","index":0,"items":[{"class":"NetworkItem","flags":0,"item":5,"location":-2,"player":0}]}]
 1 [{"checked_locations":[101],"cmd":"RoomUpdate","hint_points":1}]
@@ -236,16 +238,9 @@ fn each_status_has_its_line(rt: HostRuntime) -> Result<(), Fail> {
             "open\nlost 1\ncommit\n",
             none,
             7,
-            "not built: line 2\n",
+            "not built: line 3\n",
         ),
-        (
-            "drive A",
-            ROOM_A,
-            "text 1 []\n",
-            none,
-            7,
-            "not built: line 1\n",
-        ),
+        ("drive A", ROOM_A, "crash\n", none, 7, "not built: line 1\n"),
     ];
     for (name, file, script, failing, status, line) in cases {
         let outcome = run_words(

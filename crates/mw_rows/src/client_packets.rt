@@ -25,12 +25,12 @@ fn checks(packet: &Packet, wanted: &[i128]) -> bool {
 }
 
 /// The packets of a message.
-fn packets_in(alloc: Global, message: &str) -> Result<List<Inbound>, Fail> {
+pub(crate) fn packets_in(alloc: Global, message: &str) -> Result<List<Inbound>, Fail> {
     Ok(packets_of(alloc, &Text::of(alloc, message)?)?)
 }
 
 /// The packet of a message that has just one element.
-fn sole(found: &List<Inbound>) -> Option<&Packet> {
+pub(crate) fn sole(found: &List<Inbound>) -> Option<&Packet> {
     match found.as_slice() {
         [Inbound::Good(packet)] => Some(packet),
         _ => None,
@@ -46,7 +46,7 @@ fn is_cmd(given: &Option<Text>, wanted: Option<&str>) -> bool {
 }
 
 /// Whether a message has just one element, which is no packet for this reason.
-fn is_bad(found: &List<Inbound>, kind: BadKind, cmd: Option<&str>, why: &str) -> bool {
+pub(crate) fn is_bad(found: &List<Inbound>, kind: BadKind, cmd: Option<&str>, why: &str) -> bool {
     match found.as_slice() {
         [Inbound::Wrong(bad)] => {
             bad.kind == kind && bad.why.as_str() == why && is_cmd(&bad.cmd, cmd)

@@ -2,6 +2,8 @@
 #![tactic(auto)]
 
 #[cfg(test)]
+mod client_members;
+#[cfg(test)]
 mod client_packets;
 #[cfg(test)]
 mod draws;
