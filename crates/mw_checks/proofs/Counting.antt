@@ -2,7 +2,7 @@
 use Rattle.std.proofs.Common.{◌≡◌, ◌≢◌, ℕ, zero, suc, ◌+◌, ◌/◌, ◌<◌, ◌≤◌, ◌==◌, ◌&&◌, inl, inr, Vec, Global, List, [], ◌∷◌, ◌++◌, Bool, true, false, not, length, get_or, set, drop, replicate, refl, sym, ap, ap₂, ◌∙◌, subst, arith}
 use Rattle.std.proofs.lemmas.Bool.{eq-eqb}
 use Rattle.std.proofs.lemmas.Bool.Decides.{eqb_tells}
-use Rattle.std.proofs.lemmas.List.{drop_more, get_or_read, length-set, get_or-set_same, get_or-set_other}
+use Rattle.std.proofs.lemmas.List.{drop_more, get_or_read, get_or-set_same, get_or-set_other}
 use Rattle.std.specs.Prelude.{vec_len, vec_capacity}
 use Rattle.mw_checks.specs.Rows.{seat, one_if, many_of, awaited, AllBelow, Fit, Put, Counts, Empty}
 
@@ -154,19 +154,3 @@ few_more counts i n x slot is within few =
           let now : get_or (set counts n (x + 1)) slot 0 ≡ get_or counts slot 0 = get_or-set_other counts n slot (x + 1) 0 e.1 in
           omega (arith, now, few slot)
     ]
-
--- ---- a row
-
--- a row that was written is the one that a number was put into
-pub put_there : (rows : List (Vec ℕ Global)) (at n : ℕ) (row after : Vec ℕ Global) → at < length rows → row ≡ get_or rows at row → after.items ≡ row.items ++ n ∷ [] → vec_len after ≡ vec_len row + 1
-    → vec_capacity row ≤ vec_capacity after → Put rows (set rows at after) at n
-put_there rows at n row after w is items len space =
-    let here : (d : Vec ℕ Global) → get_or (set rows at after) at d ≡ after = λ d. get_or-set_same rows at after d w in
-    let was : (d : Vec ℕ Global) → row ≡ get_or rows at d = λ d. get_or_read rows at row w is d in
-    record {
-      many = length-set rows at after;
-      items = λ d. ap (λ (v : Vec ℕ Global). v.items) (here d) ∙ items ∙ ap (λ (v : Vec ℕ Global). v.items ++ n ∷ []) (was d);
-      len = λ d. ap (λ (v : Vec ℕ Global). vec_len v) (here d) ∙ len ∙ ap (λ (v : Vec ℕ Global). vec_len v + 1) (was d);
-      space = λ d. subst (λ (v : Vec ℕ Global). vec_capacity (get_or rows at d) ≤ vec_capacity v) (sym (here d)) (subst (λ (v : Vec ℕ Global). vec_capacity v ≤ vec_capacity after) (was d) space);
-      others = λ i d apart. get_or-set_other rows at i after d apart;
-    }

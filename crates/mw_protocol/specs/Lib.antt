@@ -13,7 +13,6 @@ pub mod Players
 pub mod PrintExamples
 pub mod Prints
 pub mod Records
-pub mod Room
 pub mod Rooms
 pub mod Sayings
 pub mod Spelled
