@@ -2,6 +2,10 @@
 #![tactic(auto)]
 
 #[cfg(test)]
+mod chat;
+#[cfg(test)]
+mod checks;
+#[cfg(test)]
 mod client_members;
 #[cfg(test)]
 mod client_packets;
@@ -24,6 +28,8 @@ mod native;
 #[cfg(test)]
 mod reaching;
 #[cfg(test)]
+mod records;
+#[cfg(test)]
 mod room_a;
 #[cfg(test)]
 mod rooms;
@@ -33,6 +39,8 @@ mod rules;
 mod seed_files;
 #[cfg(test)]
 mod server_packets;
+#[cfg(test)]
+mod storage;
 #[cfg(test)]
 mod tables;
 #[cfg(test)]
