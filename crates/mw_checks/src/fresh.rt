@@ -63,7 +63,8 @@ fn note_number(
     number: i128,
     found: &mut Pairs,
 ) -> Result<(), Memory>
-    ensures { OnOk result (Notes log.now.seed [] team (slot, number) found.old.keys found.new.keys) }
+    ensures { OnOk result (Notes log.now.seed [] team
+        (slot, number) found.old.keys found.new.keys) }
 {
     match log.id_of(number) {
         Some(location) => note_known(log, team, (slot, location), found),
@@ -79,7 +80,8 @@ pub(crate) fn known_numbers(
     slot: SlotId,
     numbers: &[i128],
 ) -> Result<List<(SlotId, LocId)>, Memory>
-    ensures { IfOk result (λ ps. checks_of team ps ≡ new_checks log.now.seed [] (checks_at team slot numbers.now)) }
+    ensures { IfOk result (λ ps. checks_of team ps
+        ≡ new_checks log.now.seed [] (checks_at team slot numbers.now)) }
 {
     let mut found = IndexSet::new(alloc);
     for number in numbers {

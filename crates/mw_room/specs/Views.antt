@@ -3,12 +3,13 @@ use Rattle.std.specs.Prelude.{◌≡◌, ℕ, zero, suc, ◌+◌, ◌==◌, ◌+
 use Rattle.mw_base.specs.Space.{HasSpace}
 use Rattle.mw_protocol.specs.Connecting.{Member}
 use Rattle.mw_protocol.specs.Effects as plain_effects
+use Rattle.mw_protocol.specs.Owed.{owed}
 use Rattle.mw_protocol.specs.Records as recorded
 use Rattle.mw_protocol.specs.Rooms as plain
 use Rattle.mw_protocol.specs.Standing.{steps}
 use Rattle.mw_packets_out.specs.View as told_by
 use Rattle.mw_records.specs.Records.{record_view}
-use Rattle.mw_room.specs.Known.{Shown, Known, told, with_member, leaves}
+use Rattle.mw_room.specs.Known.{Shown, Known, message_of, shown_after, told, with_member, leaves}
 use Rattle.mw_checks.specs.Log.{Log, AreFresh, checks_of}
 use Rattle.mw_protocol.specs.Checks.{Check}
 use Rattle.mw_room.specs.News.{grown}
@@ -80,6 +81,14 @@ effect_view e = record { records = map record_view e.records; answers = map told
 -- the checks that its records come to
 abbrev pub news_of : Effect → List Check
 news_of effect = checks_of effect.team effect.new
+
+-- the text that an effect of the sender's, or of another's, owes a session which is this member after it
+abbrev pub due_text : Log → Effect → Bool → Option Member → Option (List ℕ)
+due_text log e sends member = message_of (owed log.seed (standing_of log) (grown log (news_of e)) (effect_view e) sends member)
+
+-- a session after an effect of the sender's, at a length of the journal
+abbrev pub due_after : Log → Effect → ℕ → ℕ → Shown → Shown
+due_after log e sender length s = shown_after log.seed (standing_of log) (grown log (news_of e)) (effect_view e) sender length s
 
 -- it records nothing
 abbrev pub IsQuiet : Effect → Type 0

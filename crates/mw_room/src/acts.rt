@@ -64,7 +64,8 @@ impl Room {
     /// Decides what an event records and owes, and takes the memory for it.
     pub fn plan(&self, event: &Event) -> Result<Plan, Memory>
         ensures fits { IfOk result (λ p. Fits self.now p) }
-        ensures plans { IfOk result (λ p. (r : plain.Room) → Stands self.now r → Plans p r (event_view event.now)) }
+        ensures plans { IfOk result (λ p. (r : plain.Room) → Stands self.now r
+            → Plans p r (event_view event.now)) }
     {
         let plan = self.plan_known(event)?;
         Ok(plan)
@@ -118,7 +119,8 @@ impl Room {
 
     fn plan_packet(&self, sender: u64, packet: &Packet) -> Result<Plan, Memory>
         ensures fits { IfOk result (λ p. Fits self.now p) }
-        ensures known { IfOk result (λ p. IsPlan p (room_view self.now) (plain.sent sender (packet_view packet.now))) }
+        ensures known { IfOk result (λ p. IsPlan p (room_view self.now) (plain.sent sender
+            (packet_view packet.now))) }
     {
         let member = member_of(&self.sessions, sender);
         let effect = effect_of(self.alloc, &self.log, member, packet)?;
@@ -128,7 +130,8 @@ impl Room {
 
     fn plan_bad(&self, sender: u64, bad: &Bad) -> Result<Plan, Memory>
         ensures fits { IfOk result (λ p. Fits self.now p) }
-        ensures known { IfOk result (λ p. IsPlan p (room_view self.now) (plain.failed sender (bad_view bad.now))) }
+        ensures known { IfOk result (λ p. IsPlan p (room_view self.now) (plain.failed sender
+            (bad_view bad.now))) }
     {
         let effect = bad_effect(self.alloc, bad)?;
         let plan = self.plan_effect(sender, effect)?;
@@ -154,7 +157,8 @@ impl Room {
         requires { IsLogged self.now.log effect }
         ensures fits { IfOk result (λ p. Fits self.now p) }
         ensures records { IfOk result (λ p. plan_records p ≡ (effect_view effect).records) }
-        ensures after { IfOk result (λ p. planned p (room_view self.now) ≡ known_affected (room_view self.now) sender (effect_view effect)) }
+        ensures after { IfOk result (λ p. planned p (room_view self.now)
+            ≡ known_affected (room_view self.now) sender (effect_view effect)) }
     {
         let alloc = self.alloc;
         let changes = changes_for(alloc, &self.log, &effect, sender, &self.sessions)?;
@@ -174,7 +178,8 @@ impl Room {
         requires logged { IsLogged self.now.log effect }
         ensures fits { IfOk result (λ p. Fits self.now p) }
         ensures records { IfOk result (λ p. plan_records p ≡ (effect_view effect).records) }
-        ensures made { IfOk result (λ p. planned p (room_view self.now) ≡ made (room_view self.now) effect changes.items lost new_sessions.items) }
+        ensures made { IfOk result (λ p. planned p (room_view self.now)
+            ≡ made (room_view self.now) effect changes.items lost new_sessions.items) }
     {
         let alloc = self.alloc;
         let length = self
@@ -205,7 +210,8 @@ impl Room {
     /// Does what a plan of this room says. It takes no memory.
     pub fn apply(&mut self, plan: Plan)
         requires { Fits self.old plan }
-        ensures stands { (r : plain.Room) (e : plain.Event) → Stands self.old r → Plans plan r e → Stands self.new (plain.next r e) }
+        ensures stands { (r : plain.Room) (e : plain.Event) → Stands self.old r
+            → Plans plan r e → Stands self.new (plain.next r e) }
     {
         self.apply_known(plan);
     }
@@ -235,8 +241,10 @@ impl Room {
 
     /// Gives a session's untaken messages, and leaves it none. It takes no memory.
     pub fn take(&mut self, session: SessionId) -> List<Text>
-        ensures given { (r : plain.Room) → Stands self.old r → result ≡ map plain.text_of (plain.untaken_of (plain.session_in r.sessions session)) }
-        ensures left { (r : plain.Room) → Stands self.old r → Stands self.new (plain.taken r session) }
+        ensures given { (r : plain.Room) → Stands self.old r
+            → result ≡ map plain.text_of (plain.untaken_of (plain.session_in r.sessions session)) }
+        ensures left { (r : plain.Room) → Stands self.old r
+            → Stands self.new (plain.taken r session) }
     {
         List::from_vec(self.take_known(session.get()))
     }
@@ -250,7 +258,8 @@ impl Room {
 
     /// How a session stands.
     pub fn state(&self, session: SessionId) -> SessionState
-        ensures { (r : plain.Room) → Stands self.now r → result ≡ state_of (plain.session_in r.sessions session) }
+        ensures { (r : plain.Room) → Stands self.now r
+            → result ≡ state_of (plain.session_in r.sessions session) }
     {
         state_in(&self.sessions, session.get())
     }

@@ -6,7 +6,7 @@ ghost use Rattle.mw_room.specs.Fits.{ChangesFit};
 ghost use Rattle.mw_room.specs.Known.{shown_after, message_of};
 ghost use Rattle.mw_room.specs.News.{grown};
 ghost use Rattle.mw_checks.specs.Log.{standing_of};
-ghost use Rattle.mw_room.specs.Views.{session_view, changed, effect_view, news_of, made_for, due_by, IsChange, IsLogged};
+ghost use Rattle.mw_room.specs.Views.{session_view, changed, due_after, due_text, effect_view, made_for, due_by, IsChange, IsLogged};
 
 use crate::effect::Effect;
 use crate::member::Member;
@@ -23,7 +23,8 @@ pub fn message_text(
     answers: &[ServerPacket],
     others: &[ServerPacket],
 ) -> Result<Option<Text>, Memory>
-    ensures { IfOk result (λ t. t ≡ message_of (map packet_view answers.now ++ map packet_view others.now)) }
+    ensures { IfOk result (λ t. t
+        ≡ message_of (map packet_view answers.now ++ map packet_view others.now)) }
 {
     if answers.len() == 0 && others.len() == 0 {
         return Ok(None);
@@ -51,7 +52,7 @@ fn owed_text(
     member: &Option<Member>,
 ) -> Result<Option<Text>, Memory>
     requires { IsLogged log.now effect.now }
-    ensures { IfOk result (λ t. t ≡ message_of (owed log.now.seed (standing_of log.now) (grown log.now (news_of effect.now)) (effect_view effect.now) sends member.now)) }
+    ensures { IfOk result (λ t. t ≡ due_text log.now effect.now sends member.now) }
 {
     let whole = effect.whole & sends;
     let others = growth_owed(alloc, log, effect, whole, member)?;
@@ -111,7 +112,7 @@ fn change_of(
     session: &Session,
 ) -> Result<Option<Change>, Memory>
     requires { IsLogged log.now effect.now }
-    ensures { IfOk result (λ o. IsChange o at (shown_after log.now.seed (standing_of log.now) (grown log.now (news_of effect.now)) (effect_view effect.now) sender) session.now) }
+    ensures { IfOk result (λ o. IsChange o at (due_after log.now effect.now sender) session.now) }
 {
     let sends = session.number == sender;
     let member = member_after(effect, sends, session);
@@ -140,8 +141,9 @@ pub fn changes_for(
     sessions: &[Session],
 ) -> Result<Vec<Change>, Memory>
     requires { IsLogged log.now effect.now }
-    ensures changes { IfOk result (λ cs. (length : ℕ) → changed length (map session_view sessions.now) cs.items
-        ≡ map (shown_after log.now.seed (standing_of log.now) (grown log.now (news_of effect.now)) (effect_view effect.now) sender length) (map session_view sessions.now)) }
+    ensures changes { IfOk result (λ cs. (length : ℕ)
+        → changed length (map session_view sessions.now) cs.items
+        ≡ map (due_after log.now effect.now sender length) (map session_view sessions.now)) }
     ensures fit { IfOk result (λ cs. ChangesFit 0 sessions.now cs.items) }
 {
     let mut changes = Vec::new(alloc);

@@ -5,7 +5,8 @@ use mw_packets_out::ServerPacket;
 use mw_records::Record;
 
 /// What an event does: what it records, the checks that this comes to, all in one team, its answers
-/// to the sender, whether the sender is owed its whole view, and the member that it becomes, if it becomes one.
+/// to the sender, whether the sender is owed its whole view, and the member that it becomes, if it
+/// becomes one.
 #[derive(Drop)]
 pub struct Effect {
     pub records: List<Record>,

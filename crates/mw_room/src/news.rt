@@ -36,7 +36,8 @@ pub fn add_locations(
     pairs: &[Pair],
     member: &Member,
 ) -> Result<(), Memory>
-    ensures added { OnOk result (found.new ≡ found.old ++ locations_in member.now.team member.now.slot (checks_of team pairs.now)) }
+    ensures added { OnOk result (found.new
+        ≡ found.old ++ locations_in member.now.team member.now.slot (checks_of team pairs.now)) }
 {
     for pair in pairs {
         let (slot, location) = *pair;

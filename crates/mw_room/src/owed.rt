@@ -29,7 +29,8 @@ fn worth(log: &CheckLog, count: u64) -> Result<u64, Memory>
 
 /// The points of the member's slot.
 pub fn points_of(log: &CheckLog, member: &Member) -> Result<u64, Memory>
-    ensures { IfOk result (λ p. p ≡ points log.now.seed (standing_of log.now) member.now.team member.now.slot) }
+    ensures { IfOk result (λ p. p
+        ≡ points log.now.seed (standing_of log.now) member.now.team member.now.slot) }
 {
     worth(log, log.checked_len(member.team, member.slot))
 }
@@ -49,7 +50,8 @@ fn push_update(
     checked_locations: List<i64>,
     hint_points: u64,
 ) -> Result<(), Memory>
-    ensures { OnOk result (map packet_view packets.new ≡ map packet_view packets.old ++ update_with hint_points checked_locations) }
+    ensures { OnOk result (map packet_view packets.new
+        ≡ map packet_view packets.old ++ update_with hint_points checked_locations) }
 {
     if checked_locations.len() > 0 {
         packets.push(ServerPacket::RoomUpdate {
@@ -70,7 +72,9 @@ fn add_update(
     member: &Member,
 ) -> Result<(), Memory>
     ensures { OnOk result (map packet_view packets.new ≡ map packet_view packets.old
-        ++ update_with (points log.now.seed (grown log.now (news_of effect.now)) member.now.team member.now.slot) (locations_in member.now.team member.now.slot (news_of effect.now))) }
+        ++ update_with (points log.now.seed (grown log.now
+        (news_of effect.now)) member.now.team member.now.slot)
+        (locations_in member.now.team member.now.slot (news_of effect.now))) }
 {
     let mut locations = List::new(alloc);
     add_locations(&mut locations, effect.team, effect.new.as_slice(), member)?;
@@ -85,7 +89,8 @@ fn add_received(
     index: u64,
     items: List<NetItem>,
 ) -> Result<(), Memory>
-    ensures { OnOk result (map packet_view packets.new ≡ map packet_view packets.old ++ items_from index items) }
+    ensures { OnOk result (map packet_view packets.new
+        ≡ map packet_view packets.old ++ items_from index items) }
 {
     if items.len() > 0 {
         packets.push(ServerPacket::ReceivedItems { index, items })?;
@@ -111,7 +116,8 @@ fn add_whole_view(
     member: &Member,
 ) -> Result<(), Memory>
     ensures { OnOk result (map packet_view packets.new ≡ map packet_view packets.old
-        ++ items_from 0 (view_for log.now member.now ++ items_for log.now.seed member.now (news_of effect.now))) }
+        ++ items_from 0 (view_for log.now member.now
+        ++ items_for log.now.seed member.now (news_of effect.now))) }
 {
     let seen = log.view(member.team, member.slot, member.mask, 0)?;
     let items = items_for_member(alloc, log, effect, member)?;
@@ -127,7 +133,8 @@ fn add_new_items(
     member: &Member,
 ) -> Result<(), Memory>
     ensures { OnOk result (map packet_view packets.new ≡ map packet_view packets.old
-        ++ items_from (length (view_for log.now member.now)) (items_for log.now.seed member.now (news_of effect.now))) }
+        ++ items_from (length (view_for log.now member.now)) (items_for log.now.seed member.now
+        (news_of effect.now))) }
 {
     let items = items_for_member(alloc, log, effect, member)?;
     if items.len() == 0 {
@@ -146,7 +153,9 @@ fn add_items_owed(
     whole: bool,
     member: &Member,
 ) -> Result<(), Memory>
-    ensures { OnOk result (map packet_view packets.new ≡ map packet_view packets.old ++ received_in whole log.now member.now (news_of effect.now)) }
+    ensures { OnOk result (map packet_view packets.new
+        ≡ map packet_view packets.old
+        ++ received_in whole log.now member.now (news_of effect.now)) }
 {
     if whole {
         return add_whole_view(alloc, packets, log, effect, member);
@@ -162,7 +171,8 @@ fn growth_of(
     whole: bool,
     member: &Member,
 ) -> Result<List<ServerPacket>, Memory>
-    ensures { IfOk result (λ ps. map packet_view ps ≡ growth_in whole log.now member.now (news_of effect.now)) }
+    ensures { IfOk result (λ ps. map packet_view ps
+        ≡ growth_in whole log.now member.now (news_of effect.now)) }
 {
     let mut packets = List::new(alloc);
     add_update(alloc, &mut packets, log, effect, member)?;
@@ -180,7 +190,8 @@ pub fn growth_owed(
     member: &Option<Member>,
 ) -> Result<List<ServerPacket>, Memory>
     ensures { IfOk result (λ ps. map packet_view ps
-        ≡ growth_owed_lem whole log.now.seed (standing_of log.now) (grown log.now (news_of effect.now)) member.now) }
+        ≡ growth_owed_lem whole log.now.seed (standing_of log.now) (grown log.now
+        (news_of effect.now)) member.now) }
 {
     match member {
         Some(member) => growth_of(alloc, log, effect, whole, member),

@@ -79,7 +79,8 @@ pub fn bad_effect(alloc: Global, bad: &Bad) -> Result<Effect, Memory>
 #[tactic(auto, using(crate::proofs::Effects::quiet_is))]
 fn joining(alloc: Global, log: &CheckLog, fields: &Connect) -> Result<Effect, Memory>
     ensures quiet { IfOk result (λ e. IsQuiet e) }
-    ensures is { IfOk result (λ e. effect_view e ≡ stranger_effect_lem log.now.seed (standing_of log.now) (plain.connect fields.now)) }
+    ensures is { IfOk result (λ e. effect_view e
+        ≡ stranger_effect_lem log.now.seed (standing_of log.now) (plain.connect fields.now)) }
 {
     let seed = log.tables().multidata();
     let mut answers = List::new(alloc);
@@ -111,7 +112,8 @@ fn updating(alloc: Global, member: &Member, update: &ConnectUpdate) -> Result<Ef
 #[tactic(auto, using(crate::proofs::Effects::quiet_is))]
 fn syncing(alloc: Global) -> Effect
     ensures quiet { IsQuiet result }
-    ensures is { effect_view result ≡ record { records = []; answers = []; whole = true; member = None } }
+    ensures is { effect_view result
+        ≡ record { records = []; answers = []; whole = true; member = None } }
 {
     quiet(alloc, List::new(alloc), true, None)
 }
@@ -123,7 +125,8 @@ fn packaging(
     games: &Option<List<Text>>,
 ) -> Result<Effect, Memory>
     ensures quiet { IfOk result (λ e. IsQuiet e) }
-    ensures is { IfOk result (λ e. effect_view e ≡ answering_lem (plain_answer.data_package (package_json tables.now games.now))) }
+    ensures is { IfOk result (λ e. effect_view e
+        ≡ answering_lem (plain_answer.data_package (package_json tables.now games.now))) }
 {
     let packet = data_package(alloc, tables, games)?;
     let effect = answering(alloc, packet)?;
@@ -138,7 +141,9 @@ fn scouting(
     scouts: &LocationScouts,
 ) -> Result<Effect, Memory>
     ensures quiet { IfOk result (λ e. IsQuiet e) }
-    ensures is { IfOk result (λ e. effect_view e ≡ answering_lem (plain_answer.location_info (scouted_lem log.now.seed member.now scouts.now.locations))) }
+    ensures is { IfOk result (λ e. effect_view e
+        ≡ answering_lem (plain_answer.location_info
+        (scouted_lem log.now.seed member.now scouts.now.locations))) }
 {
     let locations = scouted(alloc, log, member, scouts.locations.as_slice())?;
     let effect = answering(alloc, ServerPacket::LocationInfo { locations })?;
@@ -148,7 +153,8 @@ fn scouting(
 /// The effect of a Connect of a session that plays a slot already.
 fn refusing(alloc: Global) -> Result<Effect, Memory>
     ensures quiet { IfOk result (λ e. IsQuiet e) }
-    ensures is { IfOk result (λ e. effect_view e ≡ answering_lem (plain_answer.invalid_packet already_connected_lem)) }
+    ensures is { IfOk result (λ e. effect_view e
+        ≡ answering_lem (plain_answer.invalid_packet already_connected_lem)) }
 {
     let packet = already_connected(alloc)?;
     let effect = answering(alloc, packet)?;
@@ -158,7 +164,8 @@ fn refusing(alloc: Global) -> Result<Effect, Memory>
 /// What a stranger's packet does, which records nothing.
 fn stranger_effect(alloc: Global, log: &CheckLog, packet: &Packet) -> Result<Effect, Memory>
     ensures quiet { IfOk result (λ e. IsQuiet e) }
-    ensures is { IfOk result (λ e. effect_view e ≡ stranger_effect_lem log.now.seed (standing_of log.now) (asked.packet_view packet.now)) }
+    ensures is { IfOk result (λ e. effect_view e
+        ≡ stranger_effect_lem log.now.seed (standing_of log.now) (asked.packet_view packet.now)) }
 {
     match packet {
         Packet::Connect(fields) => joining(alloc, log, fields),
@@ -181,7 +188,9 @@ fn locations_in(alloc: Global, new: &[Pair]) -> Result<List<LocId>, Memory>
 
 /// The record of new checks of a member's slot, where there are some.
 fn records_for(alloc: Global, member: &Member, new: &[Pair]) -> Result<List<Record>, Memory>
-    ensures { IfOk result (λ rs. map record_view rs ≡ checks_record member.now.team member.now.slot (map location_of (checks_of member.now.team new.now))) }
+    ensures { IfOk result (λ rs. map record_view rs
+        ≡ checks_record member.now.team member.now.slot (map location_of
+        (checks_of member.now.team new.now))) }
 {
     let mut records = List::new(alloc);
     let locations = locations_in(alloc, new)?;
@@ -193,7 +202,9 @@ fn records_for(alloc: Global, member: &Member, new: &[Pair]) -> Result<List<Reco
 
 /// Those of the numbers that are unchecked locations of the member's slot, each once.
 fn fresh_of(log: &CheckLog, member: &Member, numbers: &[i128]) -> Result<List<Pair>, Memory>
-    ensures checks { IfOk result (λ ps. checks_of member.now.team ps ≡ new_checks log.now.seed (standing_of log.now) member.now.team member.now.slot numbers.now) }
+    ensures checks { IfOk result (λ ps. checks_of member.now.team ps
+        ≡ new_checks log.now.seed
+        (standing_of log.now) member.now.team member.now.slot numbers.now) }
     ensures fresh { IfOk result (λ ps. AreFresh log.now.seed log.now.checked member.now.team ps) }
 {
     log.fresh_of(member.team, member.slot, numbers)
@@ -206,7 +217,8 @@ fn checking(
     member: &Member,
     numbers: &[i128],
 ) -> Result<Effect, Memory>
-    ensures { IfOk result (λ e. IsEffect e log.now (checking_lem log.now.seed (standing_of log.now) member.now numbers.now)) }
+    ensures { IfOk result (λ e. IsEffect e log.now (checking_lem log.now.seed
+        (standing_of log.now) member.now numbers.now)) }
 {
     let new = fresh_of(log, member, numbers)?;
     let records = records_for(alloc, member, new.as_slice())?;
@@ -218,7 +230,8 @@ fn checked(alloc: Global, records: List<Record>, member: &Member, new: List<Pair
     ensures records { result.records ≡ records }
     ensures team { result.team ≡ member.now.team }
     ensures new { result.new ≡ new }
-    ensures is { effect_view result ≡ record { records = map record_view records; answers = []; whole = false; member = None } }
+    ensures is { effect_view result
+        ≡ record { records = map record_view records; answers = []; whole = false; member = None } }
 {
     Effect {
         records,
@@ -238,7 +251,8 @@ fn member_effect(
     member: &Member,
     packet: &Packet,
 ) -> Result<Effect, Memory>
-    ensures { IfOk result (λ e. IsEffect e log.now (member_effect_lem log.now.seed (standing_of log.now) member.now (asked.packet_view packet.now))) }
+    ensures { IfOk result (λ e. IsEffect e log.now (member_effect_lem log.now.seed
+        (standing_of log.now) member.now (asked.packet_view packet.now))) }
 {
     let effect = match packet {
         Packet::Connect(_) => refusing(alloc)?,
@@ -262,7 +276,8 @@ pub fn effect_of(
     member: Option<&Member>,
     packet: &Packet,
 ) -> Result<Effect, Memory>
-    ensures { IfOk result (λ e. IsEffect e log.now (effect_of_lem log.now.seed (standing_of log.now) (option_copied member.entry) (asked.packet_view packet.now))) }
+    ensures { IfOk result (λ e. IsEffect e log.now (effect_of_lem log.now.seed
+        (standing_of log.now) (option_copied member.entry) (asked.packet_view packet.now))) }
 {
     match member {
         Some(member) => member_effect(alloc, log, member, packet),

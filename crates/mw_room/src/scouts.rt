@@ -39,7 +39,8 @@ fn scouts_of(
     member: &Member,
     pairs: &[Pair],
 ) -> Result<List<NetItem>, Memory>
-    ensures { IfOk result (λ is. is ≡ scouted_at log.now.seed member.now.slot (checks_of member.now.team pairs.now)) }
+    ensures { IfOk result (λ is. is
+        ≡ scouted_at log.now.seed member.now.slot (checks_of member.now.team pairs.now)) }
 {
     let mut found = List::new(alloc);
     for pair in pairs {

@@ -13,7 +13,8 @@ use std::alloc::Global;
 /// Makes the changes, each to the session at its index.
 pub fn change_all(sessions: &mut [Session], changes: Vec<Change>, length: u64)
     requires { ChangesFit 0 sessions.old changes.items }
-    ensures { map session_view sessions.new ≡ changed length (map session_view sessions.old) changes.items }
+    ensures { map session_view sessions.new
+        ≡ changed length (map session_view sessions.old) changes.items }
 {
     for change in changes {
         let session = &mut sessions[change.at];
@@ -71,7 +72,8 @@ pub fn place_of(sessions: &[Session], number: u64) -> usize
 
 /// Ends the first session of a number.
 fn close(sessions: &mut Vec<Session>, number: u64)
-    ensures { map session_view sessions.new.items ≡ leaves number (map session_view sessions.old.items) }
+    ensures { map session_view sessions.new.items
+        ≡ leaves number (map session_view sessions.old.items) }
 {
     let at = place_of(sessions, number);
     if at < sessions.len() {
@@ -81,7 +83,8 @@ fn close(sessions: &mut Vec<Session>, number: u64)
 
 /// Ends the session that is lost, if one is.
 pub fn close_lost(sessions: &mut Vec<Session>, lost: Option<u64>)
-    ensures { map session_view sessions.new.items ≡ left lost (map session_view sessions.old.items) }
+    ensures { map session_view sessions.new.items
+        ≡ left lost (map session_view sessions.old.items) }
 {
     if let Some(number) = lost {
         close(sessions, number);
@@ -91,7 +94,8 @@ pub fn close_lost(sessions: &mut Vec<Session>, lost: Option<u64>)
 /// Gives the texts of the first session of a number, and leaves it none.
 pub fn take_texts(alloc: Global, sessions: &mut [Session], number: u64) -> Vec<Text>
     ensures given { result.items ≡ texts_at number (map session_view sessions.old) }
-    ensures left { map session_view sessions.new ≡ emptied_among number (map session_view sessions.old) }
+    ensures left { map session_view sessions.new
+        ≡ emptied_among number (map session_view sessions.old) }
 {
     let at = place_of(sessions, number);
     if at < sessions.len() {
