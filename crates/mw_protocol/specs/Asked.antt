@@ -2,7 +2,7 @@
 use Rattle.std.specs.Prelude.{ℕ, ℤ, ◌==◌, ◌++◌, ◌∷◌, [], List, if◌then◌else◌}
 use Rattle.mw_model.specs.Seed.{Seed, Held}
 use Rattle.mw_model.specs.Items.{NetItem}
-use Rattle.mw_protocol.specs.Records.{Record, Hint, checks, release, collect, status, hint, hint_status, store}
+use Rattle.mw_protocol.specs.Records.{Record, checks, release, collect, status, hint, hint_status, store}
 use Rattle.mw_protocol.specs.Checks.{Check, checks_at, distinct, is_owner, received_in, view_in}
 
 -- the locations of a slot, by id

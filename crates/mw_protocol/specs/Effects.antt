@@ -1,6 +1,5 @@
 -- What a client's packet does: its records, and what it answers and changes.
-use Rattle.std.specs.Prelude.{ℕ, ℤ, ◌==◌, ◌++◌, ◌∷◌, [], List, Bool, Option, Some, None, true, false, not, is_some, filter, map, option_to_list, if◌then◌else◌}
-use Rattle.std.specs.Ordering.{int_eq}
+use Rattle.std.specs.Prelude.{ℕ, ℤ, ◌==◌, ◌++◌, ◌∷◌, [], List, Bool, Option, Some, None, true, false, not, is_some, filter, map}
 use Rattle.mw_model.specs.Items.{NetItem}
 use Rattle.mw_model.specs.Seed.{Seed, Held, held_at}
 use Rattle.mw_protocol.specs.Checks.{Check, checks_at, unseen, distinct}

@@ -1,14 +1,14 @@
 -- Rows of Room A beside the definitions: Ann has slot 1 and starts with item 5, Bob has slot 2.
-use Rattle.std.specs.Prelude.{ℕ, ℤ, pos, negsuc, ◌≡◌, ◌∷◌, [], List, Some, None, true, false, refl, codes}
+use Rattle.std.specs.Prelude.{ℕ, ℤ, pos, negsuc, ◌≡◌, ◌∷◌, [], List, Some, false, refl, codes}
 use Rattle.mw_model.specs.Items.{NetItem}
 use Rattle.mw_model.specs.Seed.{Seed, Held, RoomOptions}
 use Rattle.mw_protocol.specs.Asked.{received, view, checked}
 use Rattle.mw_protocol.specs.Checks.{Check}
 use Rattle.mw_protocol.specs.Connecting.{Member, connect_errors}
-use Rattle.mw_protocol.specs.Effects.{Effect, new_checks, effect_of, scouted}
+use Rattle.mw_protocol.specs.Effects.{new_checks, effect_of, scouted}
 use Rattle.mw_protocol.specs.Messages.{ServerPacket, received_items, room_update, invalid_packet}
-use Rattle.mw_protocol.specs.Owed.{growth_owed, owed}
-use Rattle.mw_protocol.specs.Packets.{Connect, connect, sync, connect_update}
+use Rattle.mw_protocol.specs.Owed.{growth_owed}
+use Rattle.mw_protocol.specs.Packets.{Connect, connect}
 use Rattle.mw_protocol.specs.Records.{Record, checks, release, collect}
 use Rattle.mw_protocol.specs.Standing.{Standing, start, standing}
 use Rattle.mw_protocol.specs.Words.{already_connected}

@@ -1,9 +1,13 @@
 pub mod Asked
 pub mod Checks
+pub mod CommandExamples
+pub mod Commands
 pub mod Connecting
 pub mod Effects
 pub mod Equal
 pub mod Examples
+pub mod HintExamples
+pub mod Hints
 pub mod Messages
 pub mod Operations
 pub mod Owed

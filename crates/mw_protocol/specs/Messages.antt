@@ -1,7 +1,7 @@
 -- What a room tells a session, and its JSON, after Archipelago's network protocol.
 use Rattle.std.specs.Prelude.{ℕ, ℤ, pos, ◌∷◌, [], List, Bool, Option, Some, None, codes, decimal, map}
 use Rattle.mw_model.specs.Items.{NetItem}
-use Rattle.mw_model.specs.Json.{Json, null, flag, whole, words, many, members, Items, no_items, item, Members, no_members, member}
+use Rattle.mw_model.specs.Json.{Json, null, flag, whole, words, many, members, no_items, Members, no_members, member}
 use Rattle.mw_model.specs.Spelling.{spelling}
 use Rattle.mw_model.specs.Trees.{items_of, put_member, text_json, id_json}
 use Rattle.mw_protocol.specs.Packets.{Bad, BadKind, bad_cmd, bad_arguments}

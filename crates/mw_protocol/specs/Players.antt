@@ -1,5 +1,5 @@
 -- Who plays what, as RoomInfo and Connected tell it.
-use Rattle.std.specs.Prelude.{ℕ, ℤ, zero, suc, ◌+◌, ◌==◌, ◌||◌, ◌++◌, ◌∷◌, [], List, Bool, false, not, length, filter, slice_get, unwrap_or, bytes_eq, if◌then◌else◌}
+use Rattle.std.specs.Prelude.{ℕ, zero, suc, ◌+◌, ◌==◌, ◌||◌, ◌++◌, ◌∷◌, [], List, Bool, false, not, length, filter, slice_get, unwrap_or, bytes_eq, if◌then◌else◌}
 use Rattle.mw_model.specs.Games.{checksum_of}
 use Rattle.mw_model.specs.Seed.{Seed, Slot, Game}
 use Rattle.mw_protocol.specs.Asked.{locations_of}

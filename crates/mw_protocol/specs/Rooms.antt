@@ -1,5 +1,5 @@
 -- The room: what each event makes of it.
-use Rattle.std.specs.Prelude.{ℕ, ◌+◌, ◌≤◌, ◌==◌, ◌&&◌, ◌||◌, ◌++◌, ◌∷◌, [], List, Bool, Option, Some, None, true, false, map, length, take, drop, max, nat_le, if◌then◌else◌}
+use Rattle.std.specs.Prelude.{ℕ, ◌+◌, ◌≤◌, ◌==◌, ◌||◌, ◌++◌, ◌∷◌, [], List, Bool, Option, Some, None, true, false, map, length, take, drop, max, nat_le, if◌then◌else◌}
 use Rattle.mw_model.specs.Seed.{Seed}
 use Rattle.mw_protocol.specs.Connecting.{Member}
 use Rattle.mw_protocol.specs.Effects.{Effect, nothing, effect_of, bad_effect}
@@ -8,7 +8,7 @@ use Rattle.mw_protocol.specs.Owed.{owed}
 use Rattle.mw_protocol.specs.Packets.{Packet, Bad}
 use Rattle.mw_protocol.specs.Players.{room_info_of}
 use Rattle.mw_protocol.specs.Records.{Record}
-use Rattle.mw_protocol.specs.Standing.{Standing, steps, standing}
+use Rattle.mw_protocol.specs.Standing.{Standing, standing}
 
 -- its packets, and the journal's length that it carries
 pub record Message : Type 0 where
