@@ -17,6 +17,13 @@ abbrev pub has_check : List Check → Check → Bool
 has_check [] check = false
 has_check (first ∷ others) check = same_check first check || has_check others check
 
+-- whether a slot's location is checked in a team
+abbrev pub CheckedAt : Type 0
+CheckedAt = ℕ → ℕ → ℤ → Bool
+
+abbrev pub is_among : List Check → CheckedAt
+is_among checks team slot location = has_check checks record { team = team; slot = slot; location = location }
+
 -- locations of a slot, checked in a team
 abbrev pub checks_at : ℕ → ℕ → List ℤ → List Check
 checks_at team slot [] = []

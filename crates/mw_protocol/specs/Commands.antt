@@ -1,44 +1,14 @@
--- Statuses of slots, and what the commands of a text do: their records, and the text that answers them.
+-- What the commands of a text do: their records, and the text that answers them.
 use Rattle.std.specs.Prelude.{ℕ, ℤ, ◌+◌, ◌/◌, ◌%◌, ◌==◌, ◌&&◌, ◌||◌, ◌++◌, ◌∷◌, [], List, Bool, false, not, Option, Some, None, filter, map, length, decimal, codes, if◌then◌else◌}
 use Rattle.std.specs.Ordering.{int_eq}
 use Rattle.mw_model.specs.Seed.{Seed, Slot, Game, NamedId, Held, slot_of}
 use Rattle.mw_protocol.specs.Asked.{asked_by, locations_of}
-use Rattle.mw_protocol.specs.Checks.{is_owner, unseen}
+use Rattle.mw_protocol.specs.Checks.{CheckedAt, is_owner, unseen}
 use Rattle.mw_protocol.specs.Connecting.{Member}
-use Rattle.mw_protocol.specs.Hints.{cost, game_played, points_left}
+use Rattle.mw_protocol.specs.Hints.{game_played}
 use Rattle.mw_protocol.specs.Players.{name_in}
-use Rattle.mw_protocol.specs.Records.{Record, Hint, checks, release, collect, status, hint, hint_status, store}
-use Rattle.mw_protocol.specs.Sayings as said
-use Rattle.mw_protocol.specs.Standing.{Standing, steps, is_checked}
-
--- ---- statuses
-
-pub record SlotStatus : Type 0 where
-  pub team : ℕ
-  pub slot : ℕ
-  pub status : ℕ
-
--- the status of a slot in a team, 0 where none was given
-abbrev pub status_of : List SlotStatus → ℕ → ℕ → ℕ
-status_of [] team slot = 0
-status_of (s ∷ ss) team slot = if (s.team == team) && (s.slot == slot) then s.status else status_of ss team slot
-
-abbrev pub stated : List SlotStatus → Record → List SlotStatus
-stated ss (checks team slot locations) = ss
-stated ss (release team slot) = ss
-stated ss (collect team slot) = ss
-stated ss (status team slot s) = record { team = team; slot = slot; status = s } ∷ ss
-stated ss (hint h) = ss
-stated ss (hint_status team finder location s) = ss
-stated ss (store key value) = ss
-
-abbrev pub stated_all : List SlotStatus → List Record → List SlotStatus
-stated_all ss [] = ss
-stated_all ss (r ∷ rs) = stated_all (stated ss r) rs
-
--- Status: the last one that a journal gives each slot
-abbrev pub statuses : List Record → List SlotStatus
-statuses journal = stated_all [] journal
+use Rattle.mw_protocol.specs.Records.{Record, release, collect, status}
+use Rattle.mw_protocol.specs.Standing.{Standing, steps, status_in}
 
 -- ---- release and collect
 
@@ -68,11 +38,14 @@ at_goal_from seed now team slot collected = collected ++ at_goal_released seed (
 abbrev pub at_goal : Seed → Standing → ℕ → ℕ → List Record
 at_goal seed now team slot = at_goal_from seed now team slot (if is_automatic seed.server.collect then where_new seed now (collect team slot) else [])
 
--- the records of a new status: none once the goal is reached, or where it is the same
-abbrev pub status_records : Seed → Standing → ℕ → Member → ℕ → List Record
-status_records seed now before m s =
+-- the records of a new status of a slot that has this one: none once the goal is reached, or where it is the same
+abbrev pub status_after : Seed → Standing → Member → ℕ → ℕ → List Record
+status_after seed now m before s =
     if (before == 30) || (before == s) then []
     else status m.team m.slot s ∷ (if s == 30 then at_goal seed now m.team m.slot else [])
+
+abbrev pub status_records : Seed → Standing → Member → ℕ → List Record
+status_records seed now m s = status_after seed now m (status_in now m.team m.slot) s
 
 -- ---- texts of commands
 
@@ -104,25 +77,23 @@ abbrev pub game_of : Seed → ℕ → Option Game
 game_of seed slot = game_played seed.games (slot_of seed slot)
 
 -- the slot's missing locations, and its checked ones, by id
-abbrev pub missing_text : Seed → Standing → Member → List ℕ
-missing_text seed now m =
-    counted (codes " missing: ") (map (location_name (game_of seed m.slot)) (filter (λ l. not (is_checked now m.team m.slot l)) (locations_of seed m.slot)))
+abbrev pub missing_text : Seed → CheckedAt → ℕ → ℕ → List ℕ
+missing_text seed is_found team slot =
+    counted (codes " missing: ") (map (location_name (game_of seed slot)) (filter (λ l. not (is_found team slot l)) (locations_of seed slot)))
 
-abbrev pub checked_text : Seed → Standing → Member → List ℕ
-checked_text seed now m =
-    counted (codes " checked: ") (map (location_name (game_of seed m.slot)) (filter (λ l. is_checked now m.team m.slot l) (locations_of seed m.slot)))
+abbrev pub checked_text : Seed → CheckedAt → ℕ → ℕ → List ℕ
+checked_text seed is_found team slot =
+    counted (codes " checked: ") (map (location_name (game_of seed slot)) (filter (λ l. is_found team slot l) (locations_of seed slot)))
 
 -- the slot's items at unchecked locations, by finder, then id
-abbrev pub remaining_items : Seed → Standing → ℕ → ℕ → List Held → List ℤ
-remaining_items seed now team slot [] = []
-remaining_items seed now team slot (h ∷ hs) =
-    if is_owner seed h.receiver slot && not (is_checked now team h.slot h.location) then h.item ∷ remaining_items seed now team slot hs else remaining_items seed now team slot hs
+abbrev pub remaining_items : Seed → CheckedAt → ℕ → ℕ → List Held → List ℤ
+remaining_items seed is_found team slot [] = []
+remaining_items seed is_found team slot (h ∷ hs) =
+    if is_owner seed h.receiver slot && not (is_found team h.slot h.location) then h.item ∷ remaining_items seed is_found team slot hs else remaining_items seed is_found team slot hs
 
-abbrev pub remaining_text : Seed → Standing → ℕ → Member → List ℕ
-remaining_text seed now s m =
-    if is_allowed seed.server.remaining s
-    then counted (codes " remaining: ") (map (item_name (game_of seed m.slot)) (remaining_items seed now m.team m.slot seed.locations))
-    else codes "not allowed"
+abbrev pub remaining_text : Seed → CheckedAt → ℕ → ℕ → List ℕ
+remaining_text seed is_found team slot =
+    counted (codes " remaining: ") (map (item_name (game_of seed slot)) (remaining_items seed is_found team slot seed.locations))
 
 -- those of a team that are among the members
 abbrev pub plays_in : ℕ → ℕ → List Member → Bool
@@ -142,36 +113,3 @@ help_text = codes "!help !players !missing !checked !remaining !release !collect
 
 abbrev pub points_text : ℕ → ℕ → List ℕ
 points_text left price = decimal left ++ codes " points, a hint costs " ++ decimal price
-
--- ---- what a command does that buys no hint
-
--- its records, and the text that answers it, if one does
-pub record Done : Type 0 where
-  pub records : List Record
-  pub result : Option (List ℕ)
-
-abbrev pub telling : List ℕ → Done
-telling t = record { records = []; result = Some t }
-
--- records stand for themselves
-abbrev pub recording : List Record → Done
-recording [] = telling (codes "nothing left")
-recording (r ∷ rs) = record { records = r ∷ rs; result = None }
-
-abbrev pub where_allowed : ℕ → ℕ → List Record → Done
-where_allowed permission s records = if is_allowed permission s then recording records else telling (codes "not allowed")
-
--- of a member whose slot has this status, among the members of all open sessions; a text for all does nothing here, nor does a hint that is wanted by a name
-abbrev pub done_by : Seed → Standing → List Hint → ℕ → List Member → Member → said.Said → Done
-done_by seed now hs s members m (said.chat text) = record { records = []; result = None }
-done_by seed now hs s members m said.help = telling help_text
-done_by seed now hs s members m said.players = telling (players_text seed m.team members)
-done_by seed now hs s members m said.missing = telling (missing_text seed now m)
-done_by seed now hs s members m said.checked = telling (checked_text seed now m)
-done_by seed now hs s members m said.remaining = telling (remaining_text seed now s m)
-done_by seed now hs s members m said.release = where_allowed seed.server.release s (where_new seed now (release m.team m.slot))
-done_by seed now hs s members m said.collect = where_allowed seed.server.collect s (where_new seed now (collect m.team m.slot))
-done_by seed now hs s members m (said.hint []) = telling (points_text (points_left seed now hs m.team m.slot) (cost seed m.slot))
-done_by seed now hs s members m (said.hint (c ∷ cs)) = record { records = []; result = None }
-done_by seed now hs s members m (said.hint_location name) = record { records = []; result = None }
-done_by seed now hs s members m said.unknown_command = telling (codes "unknown command")

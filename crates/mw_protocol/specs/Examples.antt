@@ -1,14 +1,16 @@
 -- Rows of Room A beside the definitions: Ann has slot 1 and starts with item 5, Bob has slot 2.
-use Rattle.std.specs.Prelude.{ℕ, ℤ, pos, negsuc, ◌≡◌, ◌∷◌, [], List, Some, false, refl, codes}
+use Rattle.std.specs.Prelude.{ℕ, ℤ, pos, negsuc, ◌≡◌, ◌∷◌, [], List, Some, true, false, refl, codes}
 use Rattle.mw_model.specs.Items.{NetItem}
 use Rattle.mw_model.specs.Seed.{Seed, Held, RoomOptions}
 use Rattle.mw_protocol.specs.Asked.{received, view, checked}
 use Rattle.mw_protocol.specs.Checks.{Check}
 use Rattle.mw_protocol.specs.Connecting.{Member, connect_errors}
-use Rattle.mw_protocol.specs.Effects.{new_checks, effect_of, scouted}
+use Rattle.mw_protocol.specs.Effects.{effect_of}
+use Rattle.mw_protocol.specs.Locations.{new_checks, scouted}
 use Rattle.mw_protocol.specs.Messages.{ServerPacket, received_items, room_update, invalid_packet}
-use Rattle.mw_protocol.specs.Owed.{growth_owed}
-use Rattle.mw_protocol.specs.Packets.{Connect, connect}
+use Rattle.mw_protocol.specs.Owed.{growth_owed, owed}
+use Rattle.mw_protocol.specs.Packets.{Connect, connect, location_checks}
+use Rattle.mw_protocol.specs.Prints.{printed, item_send}
 use Rattle.mw_protocol.specs.Records.{Record, checks, release, collect}
 use Rattle.mw_protocol.specs.Standing.{Standing, start, standing}
 use Rattle.mw_protocol.specs.Words.{already_connected}
@@ -51,11 +53,11 @@ abbrev pub owed_by : List Record → Member → List ServerPacket
 owed_by records m = growth_owed false room_a start (after records) (Some m)
 
 -- numbers that are no location's and locations that stand twice are left out
-pub each_once : new_checks room_a start 0 1 (pos 101 ∷ pos 101 ∷ pos 999 ∷ pos 101 ∷ []) ≡ check_of 1 (pos 101) ∷ []
+pub each_once : new_checks room_a [] 0 1 (pos 101 ∷ pos 101 ∷ pos 999 ∷ pos 101 ∷ []) ≡ check_of 1 (pos 101) ∷ []
 each_once = refl
 
 -- a repeated check records nothing
-pub none_twice : new_checks room_a (after (checks 0 1 (pos 101 ∷ []) ∷ [])) 0 1 (pos 101 ∷ []) ≡ []
+pub none_twice : new_checks room_a (after (checks 0 1 (pos 101 ∷ []) ∷ [])).checked 0 1 (pos 101 ∷ []) ≡ []
 none_twice = refl
 
 -- the starting items come first, then items in the order of the checks
@@ -85,12 +87,26 @@ two_sessions_of_a_slot = refl
 pub mask_without_own_items : owed_by (checks 0 1 (pos 102 ∷ []) ∷ []) (ann 1) ≡ room_update (pos 102 ∷ []) 1 ∷ []
 mask_without_own_items = refl
 
+-- Ann, with these tags, is told of a check of her own
+abbrev pub check_owed : List (List ℕ) → List ServerPacket
+check_owed tags =
+    let m : Member = record { team = 0; slot = 1; mask = 7; tags = tags } in
+    let effect = effect_of room_a start [] (Some m) (location_checks (pos 101 ∷ [])) in
+    owed room_a start (after effect.records) effect true (Some m)
+
+pub item_is_sent : check_owed [] ≡ room_update (pos 101 ∷ []) 1 ∷ printed (item_send (net_item (pos 7) (pos 101) 1 1) 2) ∷ []
+item_is_sent = refl
+
+-- with the tag NoText nothing is printed
+pub no_text : check_owed (codes "NoText" ∷ []) ≡ room_update (pos 101 ∷ []) 1 ∷ []
+no_text = refl
+
 -- Ann's scouting gives what stands at her own locations, with the receiver as player
-pub scouted_once : scouted room_a (ann 7) (pos 201 ∷ pos 101 ∷ pos 101 ∷ []) ≡ net_item (pos 7) (pos 101) 2 1 ∷ []
+pub scouted_once : scouted room_a 0 1 (pos 201 ∷ pos 101 ∷ pos 101 ∷ []) ≡ net_item (pos 7) (pos 101) 2 1 ∷ []
 scouted_once = refl
 
 -- a session that plays a slot can't connect again
-pub not_twice : (c : Connect) → (effect_of room_a start (Some (ann 7)) (connect c)).answers ≡ invalid_packet already_connected ∷ []
+pub not_twice : (c : Connect) → (effect_of room_a start [] (Some (ann 7)) (connect c)).answers ≡ invalid_packet already_connected ∷ []
 not_twice c = refl
 
 abbrev pub cat : Connect

@@ -1,67 +1,12 @@
--- Hints: what a journal says of them, what they cost, and who gets which.
-use Rattle.std.specs.Prelude.{ℕ, ℤ, ◌-◌, ◌*◌, ◌/◌, ◌==◌, ◌&&◌, ◌||◌, ◌++◌, ◌∷◌, [], List, Bool, true, false, not, Option, Some, None, filter, length, max, nat_lt, is_some, bytes_eq, if◌then◌else◌}
+-- Hints: who gets which, and how they are told.
+use Rattle.std.specs.Prelude.{ℕ, ℤ, ◌==◌, ◌&&◌, ◌||◌, ◌++◌, ◌∷◌, [], List, Bool, true, false, not, Option, Some, None, nat_lt, is_some, bytes_eq, if◌then◌else◌}
 use Rattle.std.specs.Ordering.{int_eq}
 use Rattle.mw_model.specs.Seed.{Seed, Slot, Game, NamedId, Held, slot_of, held_at}
-use Rattle.mw_protocol.specs.Asked.{locations_of}
-use Rattle.mw_protocol.specs.Checks.{Check, checks_at, distinct, is_owner}
-use Rattle.mw_protocol.specs.Effects.{known}
-use Rattle.mw_protocol.specs.Records.{Record, Hint, checks, release, collect, status, hint, hint_status, store}
-use Rattle.mw_protocol.specs.Standing.{Standing, is_checked, checked_of}
-
--- ---- what a journal says of hints
-
--- it is the hint of a finder's location in a team
-abbrev pub is_at : ℕ → ℕ → ℤ → Hint → Bool
-is_at team finder location h = (h.team == team) && (h.finder == finder) && int_eq h.location location
-
--- the hint of a finder's location in a team, if there is one
-abbrev pub hint_at : List Hint → ℕ → ℕ → ℤ → Option Hint
-hint_at [] team finder location = None
-hint_at (h ∷ hs) team finder location = if is_at team finder location h then Some h else hint_at hs team finder location
-
-abbrev pub with_status : ℕ → Hint → Hint
-with_status s h = record { team = h.team; finder = h.finder; location = h.location; bought = h.bought; buyer = h.buyer; status = s }
-
--- the hint of a finder's location in a team has another status, where there is one
-abbrev pub marked : List Hint → ℕ → ℕ → ℤ → ℕ → List Hint
-marked [] team finder location s = []
-marked (h ∷ hs) team finder location s = if is_at team finder location h then with_status s h ∷ hs else h ∷ marked hs team finder location s
-
--- a location has one hint at most
-abbrev pub made : List Hint → Hint → List Hint
-made hs h = if is_some (hint_at hs h.team h.finder h.location) then hs else hs ++ h ∷ []
-
-abbrev pub hinted : List Hint → Record → List Hint
-hinted hs (checks team slot locations) = hs
-hinted hs (release team slot) = hs
-hinted hs (collect team slot) = hs
-hinted hs (status team slot s) = hs
-hinted hs (hint h) = made hs h
-hinted hs (hint_status team finder location s) = marked hs team finder location s
-hinted hs (store key value) = hs
-
-abbrev pub hinted_all : List Hint → List Record → List Hint
-hinted_all hs [] = hs
-hinted_all hs (r ∷ rs) = hinted_all (hinted hs r) rs
-
--- Hints: those of a journal, in the order in which they were made
-abbrev pub hints : List Record → List Hint
-hints journal = hinted_all [] journal
-
--- ---- what they cost
-
--- the hints that a slot of a team paid for
-abbrev pub bought_by : List Hint → ℕ → ℕ → List Hint
-bought_by hs team slot = filter (λ h. h.bought && (h.team == team) && (h.buyer == slot)) hs
-
--- so many hundredths of the slot's locations, and at least 1
-abbrev pub cost : Seed → ℕ → ℕ
-cost seed slot = max 1 (seed.server.hint_cost * length (locations_of seed slot) / 100)
-
--- Points: what the slot's checked locations are worth, less what its hints cost
-abbrev pub points_left : Seed → Standing → List Hint → ℕ → ℕ → ℕ
-points_left seed now hs team slot =
-    seed.server.location_check_points * length (checked_of now team slot) - cost seed slot * length (bought_by hs team slot)
+use Rattle.mw_protocol.specs.Checks.{Check, CheckedAt, is_owner}
+use Rattle.mw_protocol.specs.HintList.{hint_at}
+use Rattle.mw_protocol.specs.Locations.{known_checks}
+use Rattle.mw_protocol.specs.Records.{Hint}
+use Rattle.mw_protocol.specs.Standing.{cost}
 
 -- ---- names
 
@@ -108,8 +53,8 @@ pub data Answer : Type 0 where
   too_dear : ℕ → ℕ → Answer
 
 -- it isn't checked and has no hint
-abbrev pub is_open : Standing → List Hint → ℕ → Held → Bool
-is_open now hs team h = not (is_checked now team h.slot h.location) && not (is_some (hint_at hs team h.slot h.location))
+abbrev pub is_open : CheckedAt → List Hint → ℕ → Held → Bool
+is_open is_found hs team h = not (is_found team h.slot h.location) && not (is_some (hint_at hs team h.slot h.location))
 
 abbrev pub first_where : (Held → Bool) → List Held → Option Held
 first_where p [] = None
@@ -132,25 +77,25 @@ paid team slot price left None = nothing_to_hint
 paid team slot price left (Some h) = if nat_lt left price then too_dear price left else bought (bought_hint team slot h)
 
 -- the first location by finder, then id, that holds the slot's item
-abbrev pub item_bought : Seed → Standing → List Hint → ℕ → ℕ → Option ℤ → Answer
-item_bought seed now hs team slot None = no_such_name
-item_bought seed now hs team slot (Some id) =
-    paid team slot (cost seed slot) (points_left seed now hs team slot)
-    (first_where (λ h. is_owner seed h.receiver slot && int_eq h.item id && is_open now hs team h) seed.locations)
+abbrev pub item_bought : Seed → CheckedAt → ℕ → List Hint → ℕ → ℕ → Option ℤ → Answer
+item_bought seed is_found left hs team slot None = no_such_name
+item_bought seed is_found left hs team slot (Some id) =
+    paid team slot (cost seed slot) left
+    (first_where (λ h. is_owner seed h.receiver slot && int_eq h.item id && is_open is_found hs team h) seed.locations)
 
-abbrev pub location_bought : Seed → Standing → List Hint → ℕ → ℕ → Option Held → Answer
-location_bought seed now hs team slot None = no_such_name
-location_bought seed now hs team slot (Some h) =
-    paid team slot (cost seed slot) (points_left seed now hs team slot) (first_if (is_open now hs team) (Some h))
+abbrev pub location_bought : Seed → CheckedAt → ℕ → List Hint → ℕ → ℕ → Option Held → Answer
+location_bought seed is_found left hs team slot None = no_such_name
+location_bought seed is_found left hs team slot (Some h) =
+    paid team slot (cost seed slot) left (first_if (is_open is_found hs team) (Some h))
 
 abbrev pub held_named : Seed → ℕ → Option ℤ → Option Held
 held_named seed slot None = None
 held_named seed slot (Some id) = held_at seed slot id
 
--- what a slot of a team is answered that wants to buy a hint
-abbrev pub bought_for : Seed → Standing → List Hint → ℕ → ℕ → Wanted → Answer
-bought_for seed now hs team slot (item_wanted name) = item_bought seed now hs team slot (item_named seed slot name)
-bought_for seed now hs team slot (location_wanted name) = location_bought seed now hs team slot (held_named seed slot (location_named seed slot name))
+-- what a slot of a team is answered that wants to buy a hint with the points that it has left
+abbrev pub bought_for : Seed → CheckedAt → ℕ → List Hint → ℕ → ℕ → Wanted → Answer
+bought_for seed is_found left hs team slot (item_wanted name) = item_bought seed is_found left hs team slot (item_named seed slot name)
+bought_for seed is_found left hs team slot (location_wanted name) = location_bought seed is_found left hs team slot (held_named seed slot (location_named seed slot name))
 
 -- ---- hints that are scouted, and their statuses
 
@@ -158,14 +103,14 @@ abbrev pub scouted_hint : ℕ → ℕ → Check → Hint
 scouted_hint team slot c = record { team = team; finder = slot; location = c.location; bought = false; buyer = slot; status = 0 }
 
 -- one for each known location among the numbers that isn't checked and has no hint, once, in order
-abbrev pub scouted_among : Standing → List Hint → ℕ → ℕ → List Check → List Hint
-scouted_among now hs team slot [] = []
-scouted_among now hs team slot (c ∷ cs) =
-    if is_checked now team slot c.location || is_some (hint_at hs team slot c.location) then scouted_among now hs team slot cs
-    else scouted_hint team slot c ∷ scouted_among now hs team slot cs
+abbrev pub scouted_among : CheckedAt → List Hint → ℕ → ℕ → List Check → List Hint
+scouted_among is_found hs team slot [] = []
+scouted_among is_found hs team slot (c ∷ cs) =
+    if is_found team slot c.location || is_some (hint_at hs team slot c.location) then scouted_among is_found hs team slot cs
+    else scouted_hint team slot c ∷ scouted_among is_found hs team slot cs
 
-abbrev pub scouted_for : Seed → Standing → List Hint → ℕ → ℕ → List ℤ → List Hint
-scouted_for seed now hs team slot numbers = scouted_among now hs team slot (distinct (checks_at team slot (known seed slot numbers)))
+abbrev pub scouted_for : Seed → CheckedAt → List Hint → ℕ → ℕ → List ℤ → List Hint
+scouted_for seed is_found hs team slot numbers = scouted_among is_found hs team slot (known_checks seed team slot numbers)
 
 abbrev pub receives : Seed → ℕ → Option Held → Bool
 receives seed slot None = false
@@ -176,9 +121,9 @@ differs None s = false
 differs (Some h) s = not (h.status == s)
 
 -- whether a slot of a team gives the hint of a finder's location this status: it receives what stands there, which isn't found, and the status is another
-abbrev pub marks : Seed → Standing → List Hint → ℕ → ℕ → ℕ → ℤ → ℕ → Bool
-marks seed now hs team slot finder location s =
-    receives seed slot (held_at seed finder location) && not (is_checked now team finder location) && differs (hint_at hs team finder location) s
+abbrev pub marks : Seed → CheckedAt → List Hint → ℕ → ℕ → ℕ → ℤ → ℕ → Bool
+marks seed is_found hs team slot finder location s =
+    receives seed slot (held_at seed finder location) && not (is_found team finder location) && differs (hint_at hs team finder location) s
 
 -- ---- hints as they are told
 
@@ -196,21 +141,21 @@ pub record ToldHint : Type 0 where
 abbrev pub shown_status : Bool → ℕ → ℕ
 shown_status found s = if found then 40 else s
 
-abbrev pub told_hint : Standing → Hint → Option Held → List ToldHint
-told_hint now h None = []
-told_hint now h (Some at) = record {
+abbrev pub told_hint : CheckedAt → Hint → Option Held → List ToldHint
+told_hint is_found h None = []
+told_hint is_found h (Some at) = record {
   receiving_player = at.receiver;
   finding_player = h.finder;
   location = h.location;
   item = at.item;
-  found = is_checked now h.team h.finder h.location;
+  found = is_found h.team h.finder h.location;
   item_flags = at.flags;
-  status = shown_status (is_checked now h.team h.finder h.location) h.status;
+  status = shown_status (is_found h.team h.finder h.location) h.status;
 } ∷ []
 
 -- the hints of a team whose finder or receiver is the slot, in the order in which they were made
-abbrev pub told_hints : Seed → Standing → ℕ → ℕ → List Hint → List ToldHint
-told_hints seed now team slot [] = []
-told_hints seed now team slot (h ∷ hs) =
-    (if (h.team == team) && ((h.finder == slot) || receives seed slot (held_at seed h.finder h.location)) then told_hint now h (held_at seed h.finder h.location) else [])
-    ++ told_hints seed now team slot hs
+abbrev pub told_hints : Seed → CheckedAt → ℕ → ℕ → List Hint → List ToldHint
+told_hints seed is_found team slot [] = []
+told_hints seed is_found team slot (h ∷ hs) =
+    (if (h.team == team) && ((h.finder == slot) || receives seed slot (held_at seed h.finder h.location)) then told_hint is_found h (held_at seed h.finder h.location) else [])
+    ++ told_hints seed is_found team slot hs

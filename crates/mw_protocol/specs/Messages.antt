@@ -4,7 +4,7 @@ use Rattle.mw_model.specs.Items.{NetItem}
 use Rattle.mw_model.specs.Json.{Json, null, flag, whole, words, many, members, no_items, Members, no_members, member}
 use Rattle.mw_model.specs.Spelling.{spelling}
 use Rattle.mw_model.specs.Trees.{items_of, put_member, text_json, id_json}
-use Rattle.mw_protocol.specs.Packets.{Bad, BadKind, bad_cmd, bad_arguments}
+use Rattle.mw_protocol.specs.Packets.{Bad, BadKind, bad_cmd, bad_arguments, Bounce}
 
 -- a game, and the checksum of its names
 pub record GameSum : Type 0 where
@@ -41,6 +41,25 @@ pub record Connected : Type 0 where
   pub slot_info : List NetworkSlot
   pub hint_points : ℕ
 
+-- a text of the room for its players: its kind, the members that a print of this kind has further, in byte order, and its parts
+pub record PrintJson : Type 0 where
+  pub kind : List ℕ
+  pub further : Members
+  pub content : List Json
+
+-- the values of keys, in the byte order of the keys, and the further members of the question
+pub record Retrieved : Type 0 where
+  pub keys : Members
+  pub further : Members
+
+-- a key's value after a change and before it, the slot that changed it, and the further members of the change
+pub record SetReply : Type 0 where
+  pub key : List ℕ
+  pub value : Json
+  pub original_value : Json
+  pub slot : ℕ
+  pub further : Members
+
 pub data ServerPacket : Type 0 where
   room_info : RoomInfo → ServerPacket
   connected : Connected → ServerPacket
@@ -56,6 +75,11 @@ pub data ServerPacket : Type 0 where
   data_package : Json → ServerPacket
   -- what a client sent that is no packet, or that can't be done
   invalid_packet : Bad → ServerPacket
+  print : PrintJson → ServerPacket
+  retrieved : Retrieved → ServerPacket
+  set_reply : SetReply → ServerPacket
+  -- what a session sends to those who share a game, a slot or a tag
+  bounced : Bounce → ServerPacket
 
 -- ---- JSON
 
@@ -178,6 +202,46 @@ invalid_packet_json b =
     (member (codes "text") (words b.why)
     (member (codes "type") (words (kind_text b.kind)) no_members))))
 
+-- these members, and then the kind
+abbrev pub then_kind : Members → List ℕ → Members
+then_kind no_members kind = member (codes "type") (words kind) no_members
+then_kind (member name j ms) kind = member name j (then_kind ms kind)
+
+abbrev pub print_json : PrintJson → Json
+print_json p =
+    members (member (codes "cmd") (words (codes "PrintJSON"))
+    (member (codes "data") (many (items_of p.content)) (then_kind p.further p.kind)))
+
+-- the packet's own members at their places among the further ones
+abbrev pub retrieved_json : Retrieved → Json
+retrieved_json r = members (put_member (codes "cmd") (words (codes "Retrieved")) (put_member (codes "keys") (members r.keys) r.further))
+
+abbrev pub set_reply_json : SetReply → Json
+set_reply_json r =
+    members (put_member (codes "cmd") (words (codes "SetReply"))
+    (put_member (codes "key") (words r.key)
+    (put_member (codes "original_value") r.original_value
+    (put_member (codes "slot") (whole (pos r.slot))
+    (put_member (codes "value") r.value r.further)))))
+
+abbrev pub texts_json : List (List ℕ) → Json
+texts_json texts = many (items_of (map text_json texts))
+
+abbrev pub ids_json : List ℤ → Json
+ids_json ids = many (items_of (map id_json ids))
+
+-- a member, where it is given
+abbrev pub put_if : {A : Type 0} → List ℕ → (A → Json) → Option A → Members → Members
+put_if name json None ms = ms
+put_if name json (Some x) ms = put_member name (json x) ms
+
+abbrev pub bounced_json : Bounce → Json
+bounced_json b =
+    members (put_member (codes "cmd") (words (codes "Bounced"))
+    (put_if (codes "games") texts_json b.games
+    (put_if (codes "slots") ids_json b.slots
+    (put_if (codes "tags") texts_json b.tags b.further))))
+
 abbrev pub packet_json : ServerPacket → Json
 packet_json (room_info r) = room_info_json r
 packet_json (connected c) = connected_json c
@@ -187,6 +251,14 @@ packet_json (connection_refused errors) = connection_refused_json errors
 packet_json (location_info items) = location_info_json items
 packet_json (data_package content) = data_package_json content
 packet_json (invalid_packet bad) = invalid_packet_json bad
+packet_json (print p) = print_json p
+packet_json (retrieved r) = retrieved_json r
+packet_json (set_reply r) = set_reply_json r
+packet_json (bounced b) = bounced_json b
+
+-- a packet's text by itself
+unfoldable pub packet_text : ServerPacket → List ℕ
+packet_text packet = spelling (packet_json packet)
 
 -- a message is the list of its packets
 abbrev pub message_json : List ServerPacket → Json

@@ -1,22 +1,24 @@
 -- What an event owes to a session, by what the records come to before and after.
-use Rattle.std.specs.Prelude.{ℕ, ℤ, ◌&&◌, ◌++◌, ◌∷◌, [], List, Bool, Option, Some, None, length, drop, if◌then◌else◌}
+use Rattle.std.specs.Prelude.{ℕ, ℤ, ◌&&◌, ◌==◌, ◌++◌, ◌∷◌, [], List, Bool, Option, Some, None, length, drop, if◌then◌else◌}
 use Rattle.mw_model.specs.Items.{NetItem}
 use Rattle.mw_model.specs.Seed.{Seed}
 use Rattle.mw_protocol.specs.Checks.{view_in}
 use Rattle.mw_protocol.specs.Connecting.{Member}
-use Rattle.mw_protocol.specs.Effects.{Effect}
+use Rattle.mw_protocol.specs.Effect.{Effect}
+use Rattle.mw_protocol.specs.Heard.{prints_owed}
 use Rattle.mw_protocol.specs.Messages.{ServerPacket, received_items, room_update}
 use Rattle.mw_protocol.specs.Standing.{Standing, checked_of, points}
 
--- the new locations, where there are some
-abbrev pub update_with : ℕ → List ℤ → List ServerPacket
-update_with points [] = []
-update_with points (l ∷ ls) = room_update (l ∷ ls) points ∷ []
+-- the new locations with the points, where there are some, or the points were others
+abbrev pub update_with : ℕ → ℕ → List ℤ → List ServerPacket
+update_with before points [] = if before == points then [] else room_update [] points ∷ []
+update_with before points (l ∷ ls) = room_update (l ∷ ls) points ∷ []
 
--- where the slot's checked locations grew
+-- where the slot's checked locations grew, or its points differ
 abbrev pub update_owed : Seed → Standing → Standing → Member → List ServerPacket
 update_owed seed before after m =
-    update_with (points seed after m.team m.slot) (drop (length (checked_of before m.team m.slot)) (checked_of after m.team m.slot))
+    update_with (points seed before m.team m.slot) (points seed after m.team m.slot)
+    (drop (length (checked_of before m.team m.slot)) (checked_of after m.team m.slot))
 
 abbrev pub items_from : ℕ → List NetItem → List ServerPacket
 items_from index [] = []
@@ -42,4 +44,5 @@ answers_to sends effect = if sends then effect.answers else []
 
 -- Owed: to a session that is this member after the event, and sent it or not
 abbrev pub owed : Seed → Standing → Standing → Effect → Bool → Option Member → List ServerPacket
-owed seed before after effect sends member = answers_to sends effect ++ growth_owed (effect.whole && sends) seed before after member
+owed seed before after effect sends member =
+    answers_to sends effect ++ growth_owed (effect.whole && sends) seed before after member ++ prints_owed effect.prints sends member

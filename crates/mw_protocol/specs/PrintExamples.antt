@@ -4,14 +4,15 @@ use Rattle.std.specs.Fmt.{digits}
 use Rattle.json.specs.Print.{print_from, escape_byte}
 use Rattle.mw_model.specs.Items.{NetItem}
 use Rattle.mw_model.specs.Spelling.{spelling}
-use Rattle.mw_protocol.specs.Prints.{print_json, item_send}
+use Rattle.mw_protocol.specs.Messages.{packet_json}
+use Rattle.mw_protocol.specs.Prints.{printed, item_send}
 use Rattle.mw_protocol.specs.Sayings.{said_of, chat, help, hint, unknown_command}
 
 -- Bob's Sword at Ann's 101
 abbrev pub sword : NetItem
 sword = record { item = pos 7; location = pos 101; player = 1; flags = 1 }
 
-pub sword_sent : spelling (print_json (item_send sword 2))
+pub sword_sent : spelling (packet_json (printed (item_send sword 2)))
     ≡ codes "{\"cmd\":\"PrintJSON\",\"data\":[{\"text\":\"1\",\"type\":\"player_id\"},{\"text\":\" sent \"},{\"flags\":1,\"player\":2,\"text\":\"7\",\"type\":\"item_id\"},{\"text\":\" to \"},{\"text\":\"2\",\"type\":\"player_id\"},{\"text\":\" (\"},{\"player\":1,\"text\":\"101\",\"type\":\"location_id\"},{\"text\":\")\"}],\"item\":{\"class\":\"NetworkItem\",\"flags\":1,\"item\":7,\"location\":101,\"player\":1},\"receiving\":2,\"type\":\"ItemSend\"}"
 unfolding print_from escape_byte digits
 sword_sent = refl

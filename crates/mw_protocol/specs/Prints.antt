@@ -4,7 +4,7 @@ use Rattle.mw_model.specs.Items.{NetItem}
 use Rattle.mw_model.specs.Json.{Json, flag, whole, words, many, members, Members, no_members, member}
 use Rattle.mw_model.specs.Spelling.{number_text}
 use Rattle.mw_model.specs.Trees.{items_of, text_json}
-use Rattle.mw_protocol.specs.Messages.{item_json}
+use Rattle.mw_protocol.specs.Messages.{ServerPacket, print, item_json}
 
 -- ---- parts
 
@@ -42,15 +42,8 @@ pub record Print : Type 0 where
   pub further : Members
   pub content : List Part
 
--- these members, and then the kind
-abbrev pub then_kind : Members → List ℕ → Members
-then_kind no_members kind = member (codes "type") (words kind) no_members
-then_kind (member name j ms) kind = member name j (then_kind ms kind)
-
-abbrev pub print_json : Print → Json
-print_json p =
-    members (member (codes "cmd") (words (codes "PrintJSON"))
-    (member (codes "data") (many (items_of (map part_json p.content))) (then_kind p.further p.kind)))
+abbrev pub printed : Print → ServerPacket
+printed p = print record { kind = p.kind; further = p.further; content = map part_json p.content }
 
 -- ---- what a print tells beside its parts
 

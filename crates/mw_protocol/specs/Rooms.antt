@@ -2,7 +2,9 @@
 use Rattle.std.specs.Prelude.{ℕ, ◌+◌, ◌≤◌, ◌==◌, ◌||◌, ◌++◌, ◌∷◌, [], List, Bool, Option, Some, None, true, false, map, length, take, drop, max, nat_le, if◌then◌else◌}
 use Rattle.mw_model.specs.Seed.{Seed}
 use Rattle.mw_protocol.specs.Connecting.{Member}
-use Rattle.mw_protocol.specs.Effects.{Effect, nothing, effect_of, bad_effect}
+use Rattle.mw_protocol.specs.Effect.{Effect, nothing}
+use Rattle.mw_protocol.specs.Effects.{effect_of, bad_effect}
+use Rattle.mw_protocol.specs.Entering.{parting}
 use Rattle.mw_protocol.specs.Messages.{ServerPacket, room_info, message_text}
 use Rattle.mw_protocol.specs.Owed.{owed}
 use Rattle.mw_protocol.specs.Packets.{Packet, Bad}
@@ -97,6 +99,15 @@ abbrev pub member_in : List Session → ℕ → Option Member
 member_in [] number = None
 member_in (s ∷ ss) number = if s.number == number then s.member else member_in ss number
 
+abbrev pub or_more : Option Member → List Member → List Member
+or_more None ms = ms
+or_more (Some m) ms = m ∷ ms
+
+-- those of the sessions that play a slot
+abbrev pub members_in : List Session → List Member
+members_in [] = []
+members_in (s ∷ ss) = or_more s.member (members_in ss)
+
 -- the sessions without the first of a number
 abbrev pub without : ℕ → List Session → List Session
 without number [] = []
@@ -107,9 +118,9 @@ without number (s ∷ ss) = if s.number == number then ss else s ∷ without num
 -- what an event records, answers and changes
 abbrev pub effect_in : Room → Event → Effect
 effect_in room (opened time) = nothing
-effect_in room (sent number packet) = effect_of room.seed (standing room.seed room.journal) (member_in room.sessions number) packet
+effect_in room (sent number packet) = effect_of room.seed (standing room.seed room.journal) (members_in room.sessions) (member_in room.sessions number) packet
 effect_in room (failed number bad) = bad_effect bad
-effect_in room (lost number) = nothing
+effect_in room (lost number) = parting room.seed (member_in room.sessions number)
 
 abbrev pub or_else : Option Member → Option Member → Option Member
 or_else None member = member
@@ -144,12 +155,16 @@ abbrev pub new_session : Room → ℕ → Session
 new_session room time =
     told (room_info (room_info_of room.seed time) ∷ []) (length room.journal) record { number = room.opened + 1; member = None; owed = []; taken = 0; overrun = false }
 
+-- a session has ended
+abbrev pub closed : Room → ℕ → Room
+closed room number = record { seed = room.seed; journal = room.journal; opened = room.opened; sessions = without number room.sessions }
+
 -- the room after an event
 abbrev pub next : Room → Event → Room
 next room (opened time) = record { seed = room.seed; journal = room.journal; opened = room.opened + 1; sessions = room.sessions ++ new_session room time ∷ [] }
 next room (sent number packet) = affected room number (effect_in room (sent number packet))
 next room (failed number bad) = affected room number (effect_in room (failed number bad))
-next room (lost number) = record { seed = room.seed; journal = room.journal; opened = room.opened; sessions = without number room.sessions }
+next room (lost number) = affected (closed room number) number (effect_in room (lost number))
 
 -- ---- taking
 

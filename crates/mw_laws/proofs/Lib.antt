@@ -1,0 +1,19 @@
+mod Answered
+mod Each
+mod Effects
+mod Following
+mod Hinting
+pub mod Journal
+mod Journals
+mod Lists
+mod Numbers
+mod Once
+mod Pairs
+mod Points
+mod Sessions
+mod Silent
+mod Slots
+mod Strangers
+mod Telling
+mod Updates
+mod Viewing

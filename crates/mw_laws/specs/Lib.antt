@@ -1,0 +1,9 @@
+pub mod Clients
+pub mod Hinted
+pub mod Items
+pub mod Journals
+pub mod Silence
+pub mod Strangers
+pub mod Told
+pub mod Turns
+pub mod Views
