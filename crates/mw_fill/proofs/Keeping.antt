@@ -1,40 +1,24 @@
 -- What is put where it can be reached counts as much as what is in hand.
-use Rattle.std.proofs.Common.{◌≡◌, ℕ, zero, suc, ◌+◌, ◌<◌, Bool, true, false, ◌&&◌, cond, eqb, List, [], ◌∷◌, ◌++◌, Option, Some, None, MatchOption, All, length, get_or, set, refl, sym, ap, subst, ◌∙◌, arith, zero-add, append_assoc}
+use Rattle.std.proofs.Common.{◌≡◌, ℕ, suc, ◌+◌, ◌<◌, Bool, true, ◌&&◌, cond, List, [], ◌∷◌, ◌++◌, Option, Some, None, MatchOption, All, length, get_or, set, refl, sym, ap, subst, ◌∙◌, arith, zero-add, append_assoc}
 use Rattle.std.proofs.lemmas.Bool.{and_parts}
 use Rattle.mw_rules.specs.Holds.{Bag, Places}
 use Rattle.mw_multi.specs.Joint.{Joint, place_total}
 use Rattle.mw_multi.specs.Bags.{start_count}
 use Rattle.mw_multi.specs.Steps.{steps_of}
-use Rattle.mw_multi.specs.Placement.{Put, slot_at, numbers_of, put_numbers, numbers_at, IsPlaced}
+use Rattle.mw_multi.specs.Placement.{Put, put_numbers, numbers_at, IsPlaced}
 use Rattle.mw_multi.specs.Events.{events_of}
 use Rattle.mw_multi.proofs.Standing.{placed_put}
 use Rattle.mw_reach.specs.Reach.{Placed, times_in, found_from, found, bag_with, Closed, IsLeast}
+use Rattle.mw_reach.proofs.Putting.{found_set}
 use Rattle.mw_reach.proofs.SameLeast.{Closed-less}
-use Rattle.mw_fill.specs.Copies.{ItemCopy, copies_count}
+use Rattle.mw_fill.specs.Copies.{ItemCopy}
 use Rattle.mw_fill.specs.Openings.{Opening, accepts}
 use Rattle.mw_fill.specs.Fill.{filled, stuck_with, put_of, first_fit, in_hand, is_reached, FillRun}
+use Rattle.mw_fill.specs.Kept.{IsCounted}
 use Rattle.mw_fill.proofs.Fitting.{find_all, free_there}
-use Rattle.mw_fill.proofs.Runs.{count_more}
+use Rattle.mw_fill.proofs.Hands.{one_number}
 
 -- ---- what is found in a table
-
-times_on : (n : ℕ) (xs ys : List ℕ) → times_in n (xs ++ ys) ≡ times_in n xs + times_in n ys
-times_on n [] ys = omega arith
-times_on n (x ∷ xs) ys = omega (arith, times_on n xs ys)
-
-entry_on : (b : Bool) (n : ℕ) (xs ys : List ℕ) → cond b (times_in n (xs ++ ys)) 0 ≡ cond b (times_in n xs) 0 + cond b (times_in n ys) 0
-entry_on true n xs ys = times_on n xs ys
-entry_on false n xs ys = omega arith
-
--- more in one entry
-found_set : (k n : ℕ) (table : Placed) (ns : List ℕ) (w : Places) (i : ℕ) → n < length table → found_from k (set table n (get_or table n [] ++ ns)) w i ≡ found_from k table w i + cond (w (k + n)) (times_in i ns) 0
-found_set k n [] ns w i h = absurd (omega arith)
-found_set k zero (x ∷ table) ns w i h =
-    let at : k + 0 ≡ k = omega arith in
-    rw at (omega (arith, entry_on (w k) i x ns))
-found_set k (suc n) (x ∷ table) ns w i h =
-    let at : k + suc n ≡ suc k + n = omega arith in
-    rw at (omega (arith, found_set (suc k) n table ns w i (omega arith)))
 
 pub found_same : (k : ℕ) (a b : Placed) (w : Places) (i : ℕ) → length a ≡ length b → ((q : ℕ) → get_or a q [] ≡ get_or b q []) → found_from k a w i ≡ found_from k b w i
 found_same k [] [] w i l h = refl
@@ -49,13 +33,6 @@ pub found_alike : (joint : Joint) (puts : List Put) (a b : Placed) (w : Places) 
 found_alike joint puts a b w i p q = found_same 0 a b w i (p.size ∙ sym q.size) (λ place. p.entries place ∙ sym (q.entries place))
 
 -- ---- one copy, in hand or where it lies
-
--- the copy is one that counts, by its number
-pub record IsCounted (joint : Joint) (copy : ItemCopy) : Type 0 where
-  pub numbers : numbers_of (slot_at joint.slots copy.receiver) copy.item ≡ copy.number ∷ []
-
-one_number : (copy : ItemCopy) (later : List ItemCopy) (n : ℕ) → copies_count (copy ∷ later) n ≡ times_in n (copy.number ∷ []) + copies_count later n
-one_number copy later n = count_more copy later n (eqb copy.number n) refl ∙ omega arith
 
 module _ (joint : Joint) (copy : ItemCopy) (later : List ItemCopy) (table : Placed) (place : ℕ) (within : place < length table) (w : Places) (least : IsLeast (steps_of joint) (in_hand joint later) table w) (reached : w place ≡ true) where
   abbrev next : Placed
@@ -91,7 +68,7 @@ least_alike joint puts base a b w p q l = record {
 }
 
 one_as_good : (joint : Joint) (openings : List Opening) (copy : ItemCopy) (later : List ItemCopy) (puts result : List Put) (table : Placed) (w : Places) (test : Opening → Bool) → ((s : Opening) → test s ≡ true → w s.place ≡ true)
-    → IsCounted joint copy → All (λ s. s.place < place_total joint.slots) openings → IsPlaced joint.slots (events_of joint ++ puts) table
+    → IsCounted joint.slots copy → All (λ s. s.place < place_total joint.slots) openings → IsPlaced joint.slots (events_of joint ++ puts) table
     → IsLeast (steps_of joint) (in_hand joint later) table w
     → ((opening : Opening) (next : Placed) → IsPlaced joint.slots (events_of joint ++ (puts ++ put_of copy opening ∷ [])) next → FillRun is_reached joint openings later (puts ++ put_of copy opening ∷ []) (filled result) → IsAsGood joint later next result)
     → (o : Option Opening) → first_fit test puts openings ≡ o
@@ -114,7 +91,7 @@ one_as_good joint openings copy later puts result table w test reach counted ins
           (here.0, λ j. here.1 j ∙ later_good.1 j);
     }
 
-pub as_good : (joint : Joint) (openings : List Opening) (copies : List ItemCopy) (puts result : List Put) (table : Placed) → All (IsCounted joint) copies → All (λ s. s.place < place_total joint.slots) openings
+pub as_good : (joint : Joint) (openings : List Opening) (copies : List ItemCopy) (puts result : List Put) (table : Placed) → All (IsCounted joint.slots) copies → All (λ s. s.place < place_total joint.slots) openings
     → IsPlaced joint.slots (events_of joint ++ puts) table → FillRun is_reached joint openings copies puts (filled result) → IsAsGood joint copies table result
 as_good joint openings [] puts result table counted inside placed r =
     let same : result ≡ puts = cc in

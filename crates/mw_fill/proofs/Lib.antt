@@ -5,6 +5,7 @@ pub mod Stepping
 pub mod Runs
 pub mod Shuffling
 pub mod Hands
+pub mod Finding
 pub mod Trying
 pub mod Ascending
 pub mod Permuting

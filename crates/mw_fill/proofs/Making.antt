@@ -19,7 +19,7 @@ use Rattle.mw_fill.specs.Copies.{ItemCopy, is_of, item_is_of, copy_of, entry_cop
 use Rattle.mw_fill.specs.Openings.{Opening, opening_of, opening_at, slot_openings, openings_of}
 use Rattle.mw_fill.specs.Try.{filler_at}
 use Rattle.mw_multi.proofs.Numbered.{numbered_all}
-use Rattle.mw_fill.proofs.Keeping.{IsCounted}
+use Rattle.mw_fill.specs.Kept.{IsCounted}
 use Rattle.mw_fill.proofs.Tidy.{IsIdle, is_opening}
 
 -- ---- copies
@@ -65,8 +65,8 @@ filling_is : (o : Option Item) → item_is_of Filling o ≡ true → is_progress
 filling_is (Some i) e = filling_item i e
 filling_is None e = cc
 
-pub asked_counted : (joint : Joint) → All (IsCounted joint) (copies_of Asked joint)
-asked_counted joint = copies_all (IsCounted joint) Asked joint (λ k s there item e. record { numbers = numbers_are joint.slots (suc k) item s true there (asked_is (slice_get s.world.items item) e) })
+pub asked_counted : (joint : Joint) → All (IsCounted joint.slots) (copies_of Asked joint)
+asked_counted joint = copies_all (IsCounted joint.slots) Asked joint (λ k s there item e. record { numbers = numbers_are joint.slots (suc k) item s true there (asked_is (slice_get s.world.items item) e) })
 
 pub helping_idle : (joint : Joint) → All (IsIdle joint.slots) (copies_of Helping joint)
 helping_idle joint = copies_all (IsIdle joint.slots) Helping joint (λ k s there item e. record { numbers = numbers_are joint.slots (suc k) item s false there (helping_is (slice_get s.world.items item) e) })

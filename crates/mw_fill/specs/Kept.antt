@@ -1,7 +1,7 @@
 -- For proofs alone: what copies and locations of a joint keep, and what is put in the midst of a fill.
-use Rattle.std.specs.Prelude.{◌≡◌, ◌<◌, List, Option, None, Bool, true, ◌&&◌, All, is_none, is_some, length, slice_index_or}
+use Rattle.std.specs.Prelude.{◌≡◌, ◌<◌, List, [], ◌∷◌, Option, None, Bool, true, ◌&&◌, All, is_none, is_some, length, slice_index_or}
 use Rattle.mw_multi.specs.Joint.{Slot, Joint, place_total, item_total}
-use Rattle.mw_multi.specs.Placement.{Put, PutKept, AreStanding, site_at, item_at}
+use Rattle.mw_multi.specs.Placement.{Put, PutKept, AreStanding, site_at, item_at, slot_at, numbers_of}
 use Rattle.mw_multi.specs.Events.{has_no_event}
 use Rattle.mw_fill.specs.Copies.{ItemCopy}
 use Rattle.mw_fill.specs.Openings.{Opening}
@@ -11,6 +11,10 @@ use Rattle.mw_fill.specs.Try.{or_filler}
 pub record CopyKept (slots : List Slot) (copy : ItemCopy) : Type 0 where
   pub item : is_some (item_at slots copy.receiver copy.item) ≡ true
   pub number : copy.number < item_total slots
+
+-- the copy is one that counts, by its number
+pub record IsCounted (slots : List Slot) (copy : ItemCopy) : Type 0 where
+  pub numbers : numbers_of (slot_at slots copy.receiver) copy.item ≡ copy.number ∷ []
 
 -- the place is a location of the joint that has no event, and the filler is an item of its slot's world
 pub record OpeningKept (slots : List Slot) (opening : Opening) : Type 0 where

@@ -3,6 +3,7 @@ pub mod Copies
 pub mod Openings
 pub mod Fill
 pub mod Kept
+pub mod Laying
 pub mod ListsKept
 pub mod Answer
 pub mod Generated

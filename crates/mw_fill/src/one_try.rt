@@ -3,7 +3,7 @@ ghost use Rattle.mw_multi.specs.Placement as plain;
 ghost use Rattle.mw_multi.specs.Placement.{IsPlacement};
 ghost use Rattle.mw_multi.specs.Steps.{rule_list};
 ghost use Rattle.mw_fill.specs.Fill.{filled, stuck, is_reached, FillRun};
-ghost use Rattle.mw_fill.specs.Kept.{CopyKept, OpeningKept, IsHeldFor};
+ghost use Rattle.mw_fill.specs.Kept.{CopyKept, IsCounted, OpeningKept, IsHeldFor};
 ghost use Rattle.mw_reach.specs.Reached.{IsMadeFor};
 ghost use Rattle.mw_fill.specs.Openings.{openings_of};
 ghost use Rattle.mw_fill.specs.ListsKept.{AreKept, AreShort};
@@ -13,7 +13,6 @@ ghost use Rattle.mw_fill.specs.Answer.{OnStuck};
 use crate::anywhere::place_anywhere;
 use crate::assumed::place_asked;
 use crate::error::FillError;
-use crate::hand::hand_of;
 use crate::item_copy::ItemCopy;
 use crate::lists::{self, Lists, lists_of};
 use crate::opening::Opening;
@@ -45,6 +44,7 @@ fn place_first<R: Ruling>(
 ) -> Result<(), FillError>
     requires rules { R.stands_for rules.now (rule_list joint.now) }
     requires copies { All (CopyKept joint.now.slots) copies.now }
+    requires counted { All (IsCounted joint.now.slots) copies.now }
     requires few { length copies.now ≤ 10240000 }
     requires openings { All (OpeningKept joint.now.slots) openings.now }
     requires held { IsHeldFor joint.now [] held.old }
@@ -56,14 +56,13 @@ fn place_first<R: Ruling>(
         (λ e. OnStuck e (λ slot item. FillRun is_reached joint.now openings.now copies.now []
         (stuck slot item))) }
 {
-    let mut hand = hand_of(alloc, joint, copies)?;
     let mut placed = Placed::events(alloc, joint)?;
     place_asked(
+        alloc,
         joint,
         rules,
         copies,
         openings,
-        &mut hand,
         held,
         &mut placed,
         reached,

@@ -8,7 +8,7 @@ use Rattle.mw_multi.specs.Joint.{Joint}
 use Rattle.mw_multi.specs.Placement.{numbers_at}
 use Rattle.mw_multi.specs.Steps.{Step}
 use Rattle.mw_reach.specs.Reach.{Placed, one_if, times_in}
-use Rattle.mw_reach.specs.Bound.{sum_at, names_place_at, names_item_at, items_named, step_asks, asks_allowed}
+use Rattle.mw_reach.specs.Bound.{sum_at, names_place_at, names_item_at, items_named, step_asks, asks_allowed, asks_naming}
 use Rattle.mw_reach.specs.Rows.{steps_in}
 use Rattle.mw_reach.specs.Tables.{IsWatched, is_at, step_at}
 use Rattle.mw_reach.specs.Worklist.{paid, numbers_of}
@@ -186,6 +186,12 @@ module _ (steps : List Step) (origins : List ℕ) (by_place by_item : List (List
         sum_below-le k (λ n. sum_at (λ p. starting p n + naming p n) 0 done) (λ n. step_asks placed done (step_at steps n)) each_step,
         sum_by-below (step_asks placed done) steps,
       )
+
+-- the steps that stand with these items
+pub named_of_rows : (joint : Joint) (rows : Rows) → IsWatched (steps_in joint rows) rows.origins rows.by_place rows.by_item
+    → (more : List ℕ) → length (numbers_of rows.by_item more) ≤ asks_naming (steps_in joint rows) more
+named_of_rows joint rows watched more =
+    omega (arith, of_items (steps_in joint rows) rows.origins rows.by_place rows.by_item watched [] [] more, sum_by-below (λ step. items_named step more) (steps_in joint rows))
 
 pub asked_of_rows : (joint : Joint) (rows : Rows) → IsWatched (steps_in joint rows) rows.origins rows.by_place rows.by_item
     → (placed : Placed) (done : List Bool) → paid rows placed done ≤ asks_allowed (steps_in joint rows) placed done

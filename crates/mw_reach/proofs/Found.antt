@@ -78,7 +78,7 @@ one_if-le : (b : Bool) → one_if b ≤ 1
 one_if-le true = omega arith
 one_if-le false = omega arith
 
-times_in-le : (i : ℕ) (is : List ℕ) → times_in i is ≤ length is
+pub times_in-le : (i : ℕ) (is : List ℕ) → times_in i is ≤ length is
 times_in-le i [] = omega arith
 times_in-le i (j ∷ is) = omega (arith, one_if-le (eqb j i), times_in-le i is)
 

@@ -6,10 +6,13 @@ pub mod Counting
 pub mod Found
 pub mod Items
 pub mod SameLeast
+pub mod Settling
 pub mod Noting
 pub mod Parts
 pub mod Slots
 pub mod Placing
+pub mod Putting
+pub mod Resuming
 pub mod Waking
 pub mod Walks
 pub mod Watching

@@ -13,7 +13,7 @@ use Rattle.mw_reach.specs.Bound.{sum_at}
 use Rattle.mw_reach.specs.Counts.{IsTally, HasRoom, missing}
 use Rattle.mw_multi.specs.Placement.{numbers_at}
 use Rattle.mw_reach.specs.Tables.{no_step, IsWatched, is_at, step_at}
-use Rattle.mw_reach.specs.Worklist.{numbers_of, IsQueued, Wakes, IsWorking, steps_at}
+use Rattle.mw_reach.specs.Worklist.{numbers_of, IsQueued, Wakes, IsGoing, IsWorking, steps_at}
 use Rattle.mw_reach.proofs.Among.{not_among_times, among_numbers_of, away_from_place, away_from_item, names_item_shifted, names_place_shifted}
 use Rattle.mw_reach.proofs.Found.{Adds, Adds-set, Adds-outside, IsPartOf-Adds, found-Adds}
 use Rattle.mw_reach.proofs.Walks.{open_more, bag_more}
@@ -114,6 +114,20 @@ module _ (steps : List Step) (origins : List ℕ) (by_place by_item : List (List
       entries = b.entries (a.entries before.entries);
       space = omega (arith, a.room, b.room, before.space);
     }
+
+-- what the walk needs is there after a place as before it
+pub still_going : (placed : Placed) (done : List Bool) (counts later_counts : List ℕ) (p : ℕ) → p < length done → places_of done p ≡ false → ((i : ℕ) → bag_of later_counts i ≡ bag_of counts i + times_in i (get_or placed p []))
+    → (xs ys : List Step) (bag : Bag) (v : Places) (listed : List Bool) (queue : List ℕ) (len : ℕ) (then_listed : List Bool) (then_queue : List ℕ) (then_len : ℕ) (last : List Bool) (last_queue : List ℕ) (last_len : ℕ)
+    → Wakes xs bag v listed queue len then_listed then_queue then_len → Wakes ys bag v then_listed then_queue then_len last last_queue last_len → length last ≡ length listed
+    → IsGoing placed done counts listed queue len → IsGoing placed (set done p true) later_counts last last_queue last_len
+still_going placed done counts later_counts p within new grows xs ys bag v listed queue len then_listed then_queue then_len last last_queue last_len a b same before = record {
+  room = λ i. omega (arith, before.room i, grows i, found-Adds p placed _ _ i (Adds-outside done p within new));
+  entries = b.entries (a.entries before.entries);
+  space = omega (arith, a.room, b.room, before.space);
+}
+
+pub going : (steps : List Step) (base : Bag) (placed : Placed) (done : List Bool) (counts : List ℕ) (listed : List Bool) (queue : List ℕ) (head len : ℕ) → IsWorking steps base placed done counts listed queue head len → IsGoing placed done counts listed queue len
+going steps base placed done counts listed queue head len w = record { room = w.room; entries = w.entries; space = w.space }
 
 -- a place that is done already
 pub passed : (steps : List Step) (base : Bag) (placed : Placed) (done : List Bool) (counts : List ℕ) (listed : List Bool) (queue : List ℕ) (head len : ℕ)

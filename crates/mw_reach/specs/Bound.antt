@@ -32,3 +32,7 @@ step_asks placed w step = one_if (is_some step.from) + times_named placed w step
 -- the rule of each entrance and location once, and once more for each item and place of the list that it names
 abbrev pub asks_allowed : List Step → Placed → List Bool → ℕ
 asks_allowed steps placed w = sum_by (step_asks placed w) steps
+
+-- once for each of these items that each rule names
+abbrev pub asks_naming : List Step → List ℕ → ℕ
+asks_naming steps items = sum_by (λ step. items_named step items) steps

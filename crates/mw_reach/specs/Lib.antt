@@ -1,6 +1,7 @@
 pub mod Reach
 pub mod Bound
 pub mod Counts
+pub mod GoingOn
 pub mod Rows
 pub mod Tables
 pub mod Worklist

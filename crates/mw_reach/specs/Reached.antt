@@ -1,14 +1,16 @@
 -- What was made for a joint.
 use Rattle.std.specs.Prelude.{ℕ, ◌≡◌, List, Bool, Some, length}
-use Rattle.mw_rules.specs.Holds.{Places, places_of}
+use Rattle.mw_rules.specs.Holds.{Bag, Places, places_of}
 use Rattle.mw_multi.specs.Joint.{Joint, place_total, item_total}
 use Rattle.mw_multi.specs.Steps.{rule_list, steps_of}
 use Rattle.mw_reach.specs.Reach.{Placed}
 use Rattle.mw_reach.specs.Counts.{LiesWithin}
+use Rattle.mw_reach.specs.GoingOn.{IsSettled}
 use Rattle.mw_reach.specs.Rows.{steps_in}
 use Rattle.mw_reach.specs.Building.{AreJointRows}
 use Rattle.mw_reach.specs.declared.work.Work.{Work}
 use Rattle.mw_reach.specs.declared.reached.Reached.{Reached}
+use Rattle.mw_reach.specs.declared.mark.Mark.{Mark}
 
 -- a count for each item of the joint
 abbrev pub IsBagFor : Joint → List ℕ → Type 0
@@ -47,3 +49,12 @@ counts_in reached = reached.work.counts.items
 -- the places that were reached
 abbrev pub places_in : Reached → Places
 places_in reached = places_of (flags_in reached)
+
+-- it has the least list for the base and the placement, and its counts
+abbrev pub HasLeast : Joint → Bag → Placed → Reached → Type 0
+HasLeast joint base placed reached = IsSettled (steps_of joint) base placed (flags_in reached) (counts_in reached)
+
+-- it was marked at this list and these counts
+pub record IsMarkOf (reached : Reached) (mark : Mark) : Type 0 where
+  pub done : mark.done.items ≡ flags_in reached
+  pub counts : mark.counts.items ≡ counts_in reached

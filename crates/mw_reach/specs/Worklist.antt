@@ -69,6 +69,12 @@ cost_at rows placed p = length (numbers_at rows.by_place p) + length (numbers_of
 abbrev pub paid : Rows → Placed → List Bool → ℕ
 paid rows placed done = sum_at (cost_at rows placed) 0 done
 
+-- there is room for the counts and for each place that isn't listed
+pub record IsGoing (placed : Placed) (done : List Bool) (counts : List ℕ) (listed : List Bool) (queue : List ℕ) (len : ℕ) : Type 0 where
+  pub room : HasRoom placed done counts
+  pub entries : AreListed listed queue len
+  pub space : len + missing listed ≤ length listed
+
 -- in the midst of the work
 pub record IsWorking (steps : List Step) (base : Bag) (placed : Placed) (done : List Bool) (counts : List ℕ) (listed : List Bool) (queue : List ℕ) (head len : ℕ) : Type 0 where
   pub tally : IsTally base placed done counts
@@ -78,4 +84,4 @@ pub record IsWorking (steps : List Step) (base : Bag) (placed : Placed) (done : 
   pub sound : (v : Places) → Closed steps base placed v → IsPartOf (places_of listed) v
   pub queued : IsQueued (places_of done) listed queue head len
   pub entries : AreListed listed queue len
-  pub space : len + missing listed ≡ length listed
+  pub space : len + missing listed ≤ length listed

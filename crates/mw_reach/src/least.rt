@@ -1,13 +1,17 @@
-ghost use Rattle.std.specs.Prelude.{◌≡◌, ◌+◌, ◌≤◌, ℕ};
+ghost use Rattle.std.specs.Prelude.{◌≡◌, ◌<◌, ◌+◌, ◌≤◌, ℕ, All};
+ghost use Rattle.mw_rules.specs.Holds as holding;
 ghost use Rattle.mw_rules.specs.Holds.{bag_of, places_of};
+ghost use Rattle.mw_multi.specs.Joint.{item_total};
 ghost use Rattle.mw_multi.specs.Steps.{steps_of, rule_list};
+ghost use Rattle.mw_reach.specs.Reach as plain;
 ghost use Rattle.mw_reach.specs.Reach.{bag_with, IsLeast};
-ghost use Rattle.mw_reach.specs.Bound.{asks_allowed};
-ghost use Rattle.mw_reach.specs.Reached.{IsBagFor, IsPlacedFor, IsWorkFor, IsMadeFor, KeepsRules, counts_in, flags_in, places_in};
+ghost use Rattle.mw_reach.specs.Bound.{asks_allowed, asks_naming};
+ghost use Rattle.mw_reach.specs.GoingOn.{IsSettled, HasMore, HasRoomFor};
+ghost use Rattle.mw_reach.specs.Reached.{IsBagFor, IsPlacedFor, IsWorkFor, IsMadeFor, HasLeast, KeepsRules, counts_in, flags_in, places_in};
 
 use crate::reached::Reached;
+use crate::walk::{go_on_rows, reach_rows};
 use crate::work::Work;
-use crate::worklist::reach_rows;
 use mw_multi::{Bag, Joint, Placed};
 use mw_rules::{Ruling, Steps};
 use std::marker::Brand;
@@ -27,10 +31,8 @@ fn make_least<R: Ruling, L: Ledger>(
     requires placed { IsPlacedFor joint.now placed.now }
     requires into { IsWorkFor joint.now into.old }
     ensures kept { IsWorkFor joint.now into.new }
-    ensures least { IsLeast (steps_of joint.now) (bag_of base.now) placed.now
-        (places_of into.new.done.items) }
-    ensures counts { (i : ℕ) → bag_of into.new.counts.items i
-        ≡ bag_with (bag_of base.now) placed.now (places_of into.new.done.items) i }
+    ensures settled { IsSettled (steps_of joint.now) (bag_of base.now) placed.now
+        into.new.done.items into.new.counts.items }
     ensures steps { steps.new ≤ steps.old
         + asks_allowed (steps_of joint.now) placed.now into.new.done.items }
 {
@@ -137,4 +139,116 @@ pub fn reach(joint: &Joint, base: &Bag, placed: &Placed, into: &mut Reached)
         ≡ bag_with (bag_of base.now) placed.now (places_in into.new) i }
 {
     count_and_reach::<Brand>(Blank::new(1), joint, base, placed, into);
+}
+
+/// Makes the work's list the least one with these items more.
+fn make_more<R: Ruling, L: Ledger>(
+    joint: &Joint,
+    rules: &R,
+    more: &[u32],
+    placed: &Placed,
+    into: &mut Work,
+    steps: &mut Steps<L>,
+)
+    requires rules { R.stands_for rules.now (rule_list joint.now) }
+    requires more { All (λ i. i < item_total joint.now.slots) more.now }
+    requires placed { IsPlacedFor joint.now placed.now }
+    requires into { IsWorkFor joint.now into.old }
+    requires room { HasRoomFor more.now placed.now into.old.done.items into.old.counts.items }
+    ensures kept { IsWorkFor joint.now into.new }
+    ensures settled { (base later : holding.Bag) (before : plain.Placed)
+        → IsSettled (steps_of joint.now) base before into.old.done.items into.old.counts.items
+        → HasMore base later before placed.now (places_of into.old.done.items) more.now
+        → IsSettled (steps_of joint.now) later placed.now into.new.done.items
+        into.new.counts.items }
+    ensures steps { steps.new ≤ steps.old + asks_naming (steps_of joint.now) more.now
+        + asks_allowed (steps_of joint.now) placed.now into.new.done.items }
+{
+    go_on_rows(
+        joint,
+        rules,
+        &into.rows,
+        more,
+        placed,
+        into.done.as_mut_slice(),
+        into.counts.as_mut_slice(),
+        into.listed.as_mut_slice(),
+        into.queue.as_mut_slice(),
+        steps,
+    );
+}
+
+/// Goes on from the least list with these items more, each as often as it stands there: in the base, or at places of the
+/// list in the table, which is the new one. Of these rules only those that name the items, or that what is new may open, are
+/// asked. The asks are counted in `steps`. It takes no memory.
+pub fn go_on_by<R: Ruling, L: Ledger>(
+    joint: &Joint,
+    rules: &R,
+    more: &[u32],
+    placed: &Placed,
+    into: &mut Reached,
+    steps: &mut Steps<L>,
+)
+    requires rules { R.stands_for rules.now (rule_list joint.now) }
+    requires more { All (λ i. i < item_total joint.now.slots) more.now }
+    requires placed { IsPlacedFor joint.now placed.now }
+    requires into { IsMadeFor joint.now into.old }
+    requires room { HasRoomFor more.now placed.now (flags_in into.old) (counts_in into.old) }
+    ensures kept { IsMadeFor joint.now into.new }
+    ensures rules { KeepsRules joint.now into.old → KeepsRules joint.now into.new }
+    ensures least { (base later : holding.Bag) (before : plain.Placed)
+        → HasLeast joint.now base before into.old
+        → HasMore base later before placed.now (places_in into.old) more.now
+        → HasLeast joint.now later placed.now into.new }
+    ensures steps { steps.new ≤ steps.old + asks_naming (steps_of joint.now) more.now
+        + asks_allowed (steps_of joint.now) placed.now (flags_in into.new) }
+{
+    make_more(joint, rules, more, placed, &mut into.work, steps);
+}
+
+/// `go_on` with a counter of its own.
+fn count_and_go_on<L: Ledger>(
+    blank: Blank,
+    joint: &Joint,
+    more: &[u32],
+    placed: &Placed,
+    into: &mut Reached,
+)
+    requires name { blank.name ≡ L.name }
+    requires parts { (blank.parts ≡ L.parts) × (blank.parts ≡ 1) }
+    requires more { All (λ i. i < item_total joint.now.slots) more.now }
+    requires placed { IsPlacedFor joint.now placed.now }
+    requires into { IsMadeFor joint.now into.old }
+    requires rules { KeepsRules joint.now into.old }
+    requires room { HasRoomFor more.now placed.now (flags_in into.old) (counts_in into.old) }
+    ensures kept { IsMadeFor joint.now into.new }
+    ensures rules { KeepsRules joint.now into.new }
+    ensures least { (base later : holding.Bag) (before : plain.Placed)
+        → HasLeast joint.now base before into.old
+        → HasMore base later before placed.now (places_in into.old) more.now
+        → HasLeast joint.now later placed.now into.new }
+{
+    let mut steps = Steps::<L>::new(blank);
+    match &into.trees {
+        Some(trees) => make_more(joint, trees, more, placed, &mut into.work, &mut steps),
+        None => unreachable!(),
+    }
+}
+
+/// Goes on from the least list with these items more, each as often as it stands there: in the base, or at places of the
+/// list in the table, which is the new one. It takes no memory.
+pub fn go_on(joint: &Joint, more: &[u32], placed: &Placed, into: &mut Reached)
+    requires more { All (λ i. i < item_total joint.now.slots) more.now }
+    requires placed { IsPlacedFor joint.now placed.now }
+    requires into { IsMadeFor joint.now into.old }
+    requires rules { KeepsRules joint.now into.old }
+    requires room { HasRoomFor more.now placed.now (flags_in into.old) (counts_in into.old) }
+    ensures kept { IsMadeFor joint.now into.new }
+    ensures rules { KeepsRules joint.now into.new }
+    ensures least { (base later : holding.Bag) (before : plain.Placed)
+        → HasLeast joint.now base before into.old
+        → HasMore base later before placed.now (places_in into.old) more.now
+        → HasLeast joint.now later placed.now into.new }
+{
+    count_and_go_on::<Brand>(Blank::new(1), joint, more, placed, into);
 }

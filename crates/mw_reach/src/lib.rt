@@ -4,14 +4,17 @@
 mod build;
 mod goals;
 mod least;
+mod mark;
 mod prepare;
 mod reached;
 mod row;
 mod table;
+mod walk;
 mod watch;
 mod work;
 mod worklist;
 
 pub use goals::{unmet_goal, unmet_goal_by};
-pub use least::{reach, reach_by, reach_counted};
+pub use least::{go_on, go_on_by, reach, reach_by, reach_counted};
+pub use mark::Mark;
 pub use reached::Reached;

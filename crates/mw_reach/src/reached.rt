@@ -1,3 +1,4 @@
+use crate::mark::Mark;
 use crate::prepare::work_of;
 use crate::work::Work;
 use mw_base::Memory;
@@ -13,9 +14,10 @@ pub struct Reached {
 }
 
 impl Reached {
-    ghost use Rattle.std.specs.Prelude.{◌≡◌, ℕ, false, IfOk};
+    ghost use Rattle.std.specs.Prelude.{◌≡◌, ℕ, false, IfOk, length};
+    ghost use Rattle.mw_multi.specs.Joint.{Joint};
     ghost use Rattle.mw_multi.specs.Steps.{rule_list};
-    ghost use Rattle.mw_reach.specs.Reached.{IsMadeFor, KeepsRules, places_in};
+    ghost use Rattle.mw_reach.specs.Reached.{IsMadeFor, KeepsRules, IsMarkOf, counts_in, flags_in, places_in};
 
     /// For the joint, with rules of its own as trees; `Memory` where memory ran out. No place is in it yet.
     pub fn new(alloc: Global, joint: &Joint) -> Result<Reached, Memory>
@@ -49,5 +51,31 @@ impl Reached {
             Some(&done) => done,
             None => false,
         }
+    }
+
+    /// A mark of the list as it is; `Memory` where memory ran out.
+    pub fn mark(&self, alloc: Global) -> Result<Mark, Memory>
+        ensures { IfOk result (IsMarkOf self.now) }
+    {
+        let done = Vec::from_slice(alloc, self.work.done.as_slice())?;
+        let counts = Vec::from_slice(alloc, self.work.counts.as_slice())?;
+        Ok(Mark { done, counts })
+    }
+
+    /// Makes the list what it was at a mark.
+    pub fn go_back(&mut self, mark: &Mark)
+        requires places { length mark.now.done.items ≡ length (flags_in self.old) }
+        requires items { length mark.now.counts.items ≡ length (counts_in self.old) }
+        ensures kept { (joint : Joint) → IsMadeFor joint self.old → IsMadeFor joint self.new }
+        ensures rules { (joint : Joint) → KeepsRules joint self.old → KeepsRules joint self.new }
+        ensures back { IsMarkOf self.new mark.now }
+    {
+        let work = &mut self.work;
+        work.done
+            .as_mut_slice()
+            .copy_from_slice(mark.done.as_slice());
+        work.counts
+            .as_mut_slice()
+            .copy_from_slice(mark.counts.as_slice());
     }
 }

@@ -1,15 +1,14 @@
-ghost use Rattle.std.specs.Prelude.{◌≡◌, ◌<◌, ◌≤◌, ◌+◌, ◌^◌, ℕ, [], ◌∷◌, None, false, true, length, All, map, slice_index, slice_index_or, slice_set};
+ghost use Rattle.std.specs.Prelude.{◌≡◌, ◌<◌, ◌≤◌, ◌+◌, ◌^◌, ℕ, [], ◌∷◌, None, false, true, length, All, map, slice_index, slice_set};
 ghost use Rattle.mw_rules.specs.Holds.{Bag, Places, bag_of, places_of, holds as rule_holds};
 ghost use Rattle.mw_rules.specs.Rule.{IsWithin};
 ghost use Rattle.mw_rules.specs.Ruling.{rule_at};
 ghost use Rattle.mw_multi.specs.Joint.{Joint, slot_items, slot_places};
 ghost use Rattle.mw_multi.specs.Placement.{numbers_at};
 ghost use Rattle.mw_multi.specs.Steps.{Step, rule_list};
-ghost use Rattle.mw_reach.specs.Reach.{times_in, bag_with, is_open as step_is_open, IsLeast};
-ghost use Rattle.mw_reach.specs.Bound.{asks_allowed};
+ghost use Rattle.mw_reach.specs.Reach.{times_in, is_open as step_is_open};
 ghost use Rattle.mw_reach.specs.Counts.{HasRoom, LiesWithin, missing};
-ghost use Rattle.mw_reach.specs.Rows.{StartFits, RowFits, slot_at, step_of, steps_in};
-ghost use Rattle.mw_reach.specs.Worklist.{IsOrigin, AreRows, cost_at, paid, steps_at, numbers_of, AreListed, Wakes, IsWorking};
+ghost use Rattle.mw_reach.specs.Rows.{RowFits, slot_at, step_of, steps_in};
+ghost use Rattle.mw_reach.specs.Worklist.{IsOrigin, AreRows, cost_at, paid, steps_at, numbers_of, Wakes, IsGoing, IsWorking};
 
 use crate::row::{Row, Rows};
 use mw_multi::{Joint, Placed};
@@ -17,7 +16,7 @@ use mw_rules::{Ruling, Steps};
 use std::sync::ledger::Ledger;
 
 /// Counts each of the items once more.
-fn count_items(items: &[u32], counts: &mut [u32])
+pub(crate) fn count_items(items: &[u32], counts: &mut [u32])
     requires items { All (λ i. i < length counts.old) items.now }
     requires room { (i : ℕ) → bag_of counts.old i + times_in i items.now < 2 ^ 32 }
     ensures { (i : ℕ) → bag_of counts.new i ≡ bag_of counts.old i + times_in i items.now }
@@ -114,7 +113,7 @@ fn ask<R: Ruling, L: Ledger>(
     requires rules { R.stands_for rules.now (rule_list joint.now) }
     requires row { RowFits joint.now (length done.now) (length counts.now) row.now }
     requires tables { (length listed.old ≡ length done.now) × (length queue.old ≡ length done.now) }
-    requires space { len + missing listed.old ≡ length listed.old }
+    requires space { len + missing listed.old ≤ length listed.old }
     ensures steps { steps.new ≤ steps.old + 1 }
     ensures woken { Wakes (step_of joint.now row.now ∷ []) (bag_of counts.now)
         (places_of done.now) listed.old queue.old len listed.new queue.new result }
@@ -145,7 +144,7 @@ fn wake<R: Ruling, L: Ledger>(
     requires rows { All (RowFits joint.now (length done.now) (length counts.now)) rows.now }
     requires numbers { All (λ n. n < length rows.now) numbers.now }
     requires tables { (length listed.old ≡ length done.now) × (length queue.old ≡ length done.now) }
-    requires space { len + missing listed.old ≡ length listed.old }
+    requires space { len + missing listed.old ≤ length listed.old }
     ensures steps { steps.new ≤ steps.old + length numbers.now }
     ensures woken { Wakes (steps_at (map (step_of joint.now) rows.now) numbers.now)
         (bag_of counts.now) (places_of done.now) listed.old queue.old len listed.new queue.new
@@ -169,7 +168,7 @@ fn wake<R: Ruling, L: Ledger>(
 }
 
 /// Asks the steps that name these items, item by item.
-fn wake_items<R: Ruling, L: Ledger>(
+pub(crate) fn wake_items<R: Ruling, L: Ledger>(
     joint: &Joint,
     rules: &R,
     rows: &Rows,
@@ -185,7 +184,7 @@ fn wake_items<R: Ruling, L: Ledger>(
     requires rows { AreRows joint.now (length done.now) (length counts.now) rows.now }
     requires items { All (λ i. i < length counts.now) items.now }
     requires tables { (length listed.old ≡ length done.now) × (length queue.old ≡ length done.now) }
-    requires space { len + missing listed.old ≡ length listed.old }
+    requires space { len + missing listed.old ≤ length listed.old }
     ensures steps { steps.new ≤ steps.old + length (numbers_of rows.now.by_item items.now) }
     ensures woken { Wakes (steps_at (steps_in joint.now rows.now)
         (numbers_of rows.now.by_item items.now)) (bag_of counts.now)
@@ -206,8 +205,8 @@ fn wake_items<R: Ruling, L: Ledger>(
 fn list_origin(row: &Row, listed: &mut [bool], queue: &mut [u32], len: usize) -> usize
     requires to { row.now.to < length listed.old }
     requires queue { length queue.old ≡ length listed.old }
-    requires space { len + missing listed.old ≡ length listed.old }
-    ensures space { result + missing listed.new ≡ length listed.new }
+    requires space { len + missing listed.old ≤ length listed.old }
+    ensures space { result + missing listed.new ≤ length listed.new }
     ensures woken { (step : Step) (bag : Bag) (done : Places) → step.to ≡ row.now.to
         → step_is_open step bag done ≡ true
         → Wakes (step ∷ []) bag done listed.old queue.old len listed.new queue.new result }
@@ -222,7 +221,7 @@ fn list_origin(row: &Row, listed: &mut [bool], queue: &mut [u32], len: usize) ->
 }
 
 /// Lists the origins. No rule is asked.
-fn begin(rows: &[Row], origins: &[u32], listed: &mut [bool], queue: &mut [u32]) -> usize
+pub(crate) fn begin(rows: &[Row], origins: &[u32], listed: &mut [bool], queue: &mut [u32]) -> usize
     requires to { All (λ row. row.to < length listed.old) rows.now }
     requires origins { All (IsOrigin rows.now) origins.now }
     requires queue { length queue.old ≡ length listed.old }
@@ -259,8 +258,8 @@ fn visit<R: Ruling, L: Ledger>(
     requires items { LiesWithin (length counts.old) placed.now }
     requires place { place < length done.old }
     requires new { places_of done.old place ≡ false }
-    requires room { HasRoom placed.now done.old counts.old }
-    requires space { len + missing listed.old ≡ length listed.old }
+    requires going { IsGoing placed.now done.old counts.old listed.old queue.old len }
+    ensures going { IsGoing placed.now done.new counts.new listed.new queue.new result }
     ensures steps { steps.new ≤ steps.old + cost_at rows.now placed.now place }
     ensures done { done.new ≡ slice_set done.old place true }
     ensures working { (base : Bag) (head : ℕ) → head < len → slice_index queue.old head ≡ place
@@ -281,7 +280,7 @@ fn visit<R: Ruling, L: Ledger>(
 }
 
 /// Takes the next place of the queue.
-fn take_next<R: Ruling, L: Ledger>(
+pub(crate) fn take_next<R: Ruling, L: Ledger>(
     joint: &Joint,
     rules: &R,
     rows: &Rows,
@@ -300,9 +299,8 @@ fn take_next<R: Ruling, L: Ledger>(
         × (length placed.now ≡ length done.old) }
     requires items { LiesWithin (length counts.old) placed.now }
     requires waits { head < len }
-    requires entries { AreListed listed.old queue.old len }
-    requires room { HasRoom placed.now done.old counts.old }
-    requires space { len + missing listed.old ≡ length listed.old }
+    requires going { IsGoing placed.now done.old counts.old listed.old queue.old len }
+    ensures going { IsGoing placed.now done.new counts.new listed.new queue.new result }
     ensures steps { steps.new + paid rows.now placed.now done.old ≤ steps.old
         + paid rows.now placed.now done.new }
     ensures working { (base : Bag) → IsWorking
@@ -317,46 +315,4 @@ fn take_next<R: Ruling, L: Ledger>(
     visit(
         joint, rules, rows, placed, place, done, counts, listed, queue, len, steps,
     )
-}
-
-/// Makes `done` the least list. Nothing is allocated: `counts`, `listed` and `queue` are room to work in.
-pub(crate) fn reach_rows<R: Ruling, L: Ledger>(
-    joint: &Joint,
-    rules: &R,
-    rows: &Rows,
-    base: &[u32],
-    placed: &Placed,
-    done: &mut [bool],
-    counts: &mut [u32],
-    listed: &mut [bool],
-    queue: &mut [u32],
-    steps: &mut Steps<L>,
-)
-    requires rules { R.stands_for rules.now (rule_list joint.now) }
-    requires rows { AreRows joint.now (length done.old) (length base.now) rows.now }
-    requires tables { (length listed.old ≡ length done.old) × (length queue.old ≡ length done.old)
-        × (length placed.now ≡ length done.old) }
-    requires counts { length counts.old ≡ length base.now }
-    requires items { LiesWithin (length base.now) placed.now }
-    requires small { All (λ n. n < 2 ^ 31) base.now }
-    ensures steps { steps.new ≤ steps.old
-        + asks_allowed (steps_in joint.now rows.now) placed.now done.new }
-    ensures least { IsLeast (steps_in joint.now rows.now) (bag_of base.now) placed.now
-        (places_of done.new) }
-    ensures counts { (i : ℕ) → bag_of counts.new i
-        ≡ bag_with (bag_of base.now) placed.now (places_of done.new) i }
-{
-    // Asking for the length makes known what the table keeps.
-    let _ = placed.len();
-    done.fill(false);
-    listed.fill(false);
-    counts.copy_from_slice(base);
-    let mut len = begin(rows.rows.as_slice(), rows.origins.as_slice(), listed, queue);
-    let mut head = 0;
-    while head < len {
-        len = take_next(
-            joint, rules, rows, placed, done, counts, listed, queue, head, len, steps,
-        );
-        head += 1;
-    }
 }

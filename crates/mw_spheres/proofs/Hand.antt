@@ -1,16 +1,17 @@
 -- What is in hand from sphere to sphere.
-use Rattle.std.proofs.Common.{◌<◌, ◌≡◌, ℕ, zero, suc, ◌+◌, ◌≤◌, Bool, false, ◌&&◌, ◌||◌, not, eqb, List, [], ◌∷◌, ◌++◌, length, map, take, replicate, Some, refl, sym, ap, subst, ◌∙◌, inl, inr, arith}
+use Rattle.std.proofs.Common.{◌<◌, ◌≡◌, ℕ, zero, suc, ◌+◌, ◌≤◌, Bool, false, ◌&&◌, ◌||◌, not, eqb, List, [], ◌∷◌, ◌++◌, All, length, map, take, replicate, Some, refl, sym, ap, subst, ◌∙◌, inl, inr, arith}
 use Rattle.std.specs.Prelude.{filter, slice_get, sum_by}
 use Rattle.std.specs.List.{list_any}
 use Rattle.std.proofs.lemmas.Bool.{cases_Bool, cases_lt}
 use Rattle.std.proofs.lemmas.List.{append-nil, append_assoc, get_or_default, get_or_past, length-replicate, map-append, nil_from_length, same_lists}
-use Rattle.std.proofs.lemmas.List.Concat.{flat_map-append}
+use Rattle.std.proofs.lemmas.List.Concat.{flat_map-append, flat_map-cons}
+use Rattle.std.proofs.lemmas.List.Elements.{All-append}
 use Rattle.std.proofs.lemmas.List.Folds.{list_any-append}
 use Rattle.std.proofs.lemmas.List.FromFn.{get_or-map-range_with_len, length-map-range_with_len}
 use Rattle.std.proofs.lemmas.List.Sums.{sum_by-cons}
 use Rattle.mw_model.specs.Seed.{Spot}
-use Rattle.mw_rules.specs.Holds.{Bag, Places, bag_of, places_of}
-use Rattle.mw_multi.specs.Joint.{Slot, Joint, IsJoint, AreNumbered, place_total, slot_places, slot_items}
+use Rattle.mw_rules.specs.Holds.{Places, bag_of, places_of}
+use Rattle.mw_multi.specs.Joint.{Slot, Joint, IsJoint, AreNumbered, place_total, item_total, slot_places, slot_items}
 use Rattle.mw_multi.specs.Bags.{start_count, IsBagOf}
 use Rattle.mw_multi.specs.Placement.{Put, IsPlacement, IsPlaced, numbers_at, standing}
 use Rattle.mw_multi.specs.Events.{with_events}
@@ -20,10 +21,11 @@ use Rattle.mw_multi.proofs.Few.{with_events_are_few}
 use Rattle.mw_reach.specs.Reach.{Placed, times_in, found, IsLeast}
 use Rattle.mw_reach.specs.Reached.{IsPlacedFor}
 use Rattle.mw_reach.specs.Counts.{outside}
+use Rattle.mw_reach.specs.GoingOn.{IsSettled, HasMore, HasRoomFor}
 use Rattle.mw_reach.proofs.Found.{found-le}
 use Rattle.mw_reach.proofs.Items.{times_in-append}
 use Rattle.mw_reach.proofs.Placing.{placed-le}
-use Rattle.mw_reach.proofs.SameLeast.{IsLeast-alike}
+use Rattle.mw_reach.proofs.Settling.{settled_alike}
 use Rattle.mw_reach.proofs.Walks.{replicate-false}
 use Rattle.mw_spheres.specs.Spots.{spot_place, spots_of, is_listed, table_of, holds_progression, items_at}
 use Rattle.mw_spheres.specs.Spheres.{hand_of, is_due, IsSphere, AreSpheres, listed}
@@ -51,10 +53,9 @@ nothing_found : (slots : List Slot) (nothing : Placed) (w : Places) (i : ℕ) �
 nothing_found slots nothing w i placed = omega (arith, found-le 0 nothing w i, placed-le slots [] nothing placed)
 
 -- a list that is least with a table of nothing is least with no table
-pub least_without : (joint : Joint) (bag : List ℕ) (hand : Bag) (nothing : Placed) (w : Places) → IsPlaced joint.slots [] nothing → ((i : ℕ) → bag_of bag i ≡ hand i)
-    → IsLeast (steps_of joint) (bag_of bag) nothing w → IsLeast (steps_of joint) hand [] w
-least_without joint bag hand nothing w placed counts least =
-    IsLeast-alike (steps_of joint) (bag_of bag) hand nothing [] w (λ v i. omega (arith, nothing_found joint.slots nothing v i placed, counts i)) least
+pub settled_without : (joint : Joint) (bag : List ℕ) (nothing : Placed) (done : List Bool) (counts : List ℕ) → IsPlaced joint.slots [] nothing → IsSettled (steps_of joint) (bag_of bag) nothing done counts → IsSettled (steps_of joint) (bag_of bag) [] done counts
+settled_without joint bag nothing done counts placed settled =
+    settled_alike (steps_of joint) (bag_of bag) (bag_of bag) nothing [] done counts (λ v i. omega (arith, nothing_found joint.slots nothing v i placed)) settled
 
 -- ---- a slot's first place
 
@@ -112,6 +113,32 @@ module _ (joint : Joint) (table : Placed) (w : Places) (first : List Bool) (star
     flags = λ p. all.flags p ∙ ap (λ b. b || is_listed joint.slots sphere p) (hand.flags p) ∙ sym (listed-append joint.slots earlier sphere p);
     counts = λ i. omega (arith, all.counts i, hand.counts i, ap (times_in i) (items-append joint.slots table earlier sphere), times_in-append i (items_at joint.slots table earlier) (items_at joint.slots table sphere));
   }
+
+-- ---- what a sphere holds, for reach
+
+all_numbers : (joint : Joint) (table : Placed) (p : ℕ) → IsPlacedFor joint table → All (λ i. i < item_total joint.slots) (numbers_at table p)
+all_numbers joint table p fits = elim (cases_lt p (length table)) [
+  | inl within ↦ fits.items p [] within
+  | inr past ↦ rw (get_or_past table p [] past) (λ k d h. absurd (omega arith))
+]
+
+pub items_within : (joint : Joint) (table : Placed) → IsPlacedFor joint table → (spots : List Spot) → All (λ i. i < item_total joint.slots) (items_at joint.slots table spots)
+items_within joint table fits [] = λ k d h. absurd (omega arith)
+items_within joint table fits (s ∷ spots) =
+    let place = spot_place joint.slots s in
+    rw (flat_map-cons (λ t. numbers_at table (spot_place joint.slots t)) s spots)
+    (All-append (λ i. i < item_total joint.slots) (numbers_at table place) (items_at joint.slots table spots) (all_numbers joint table place fits) (items_within joint table fits spots))
+
+module _ (joint : Joint) (nothing table : Placed) (places : IsPlaced joint.slots [] nothing) (bag later items : List ℕ) (counted : (i : ℕ) → bag_of later i ≡ bag_of bag i + times_in i items) where
+  pub has_more : (w : Places) → HasMore (bag_of bag) (bag_of later) [] nothing w items
+  has_more w = record {
+    counts = λ i. omega (arith, counted i, nothing_found joint.slots nothing w i places);
+    grows = λ v i. omega (arith, counted i);
+  }
+
+  pub room_for : (taken done : List Bool) (counts : List ℕ) → IsSettled (steps_of joint) (bag_of bag) [] done counts → HasRoom table taken later → HasRoomFor items nothing done counts
+  room_for taken done counts settled room i =
+      omega (arith, settled.tally i, counted i, room.room i, nothing_found joint.slots nothing (outside done) i places)
 
 -- ---- at first
 

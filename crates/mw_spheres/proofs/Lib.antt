@@ -1,4 +1,5 @@
 pub mod Comparing
+pub mod Halving
 pub mod Hand
 pub mod Locations
 pub mod OneList
@@ -6,6 +7,7 @@ pub mod Only
 pub mod Playing
 pub mod Reaching
 pub mod Showing
+pub mod Revealing
 pub mod OnePlaythrough
 pub mod Sparing
 pub mod Taking

@@ -62,7 +62,7 @@ listed_push slots spots spot p =
     ∙ list_any-append (λ m. eqb m p) (map (spot_place slots) spots) (spot_place slots spot ∷ [])
     ∙ ap (λ b. is_listed slots spots p || b) (or_nothing (eqb (spot_place slots spot) p))
 
-items_push : (slots : List Slot) (table : Placed) (spots : List Spot) (spot : Spot) → items_at slots table (spots ++ spot ∷ []) ≡ items_at slots table spots ++ numbers_at table (spot_place slots spot)
+pub items_push : (slots : List Slot) (table : Placed) (spots : List Spot) (spot : Spot) → items_at slots table (spots ++ spot ∷ []) ≡ items_at slots table spots ++ numbers_at table (spot_place slots spot)
 items_push slots table spots spot =
     flat_map-append (λ s. numbers_at table (spot_place slots s)) spots (spot ∷ [])
     ∙ ap (λ is. items_at slots table spots ++ is) (append-nil (numbers_at table (spot_place slots spot)))

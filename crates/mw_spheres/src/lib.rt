@@ -7,6 +7,7 @@ mod laws;
 mod place;
 mod played;
 mod refusal;
+mod shown;
 mod sphere;
 mod table;
 mod thin;

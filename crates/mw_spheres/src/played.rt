@@ -7,10 +7,9 @@ ghost use Rattle.mw_spheres.specs.Playthrough.{is_kept, IsPlaythrough, NoneToSpa
 
 use crate::place::place_of;
 use crate::table::table_for;
-use crate::thin::{clear_others, mark, thin};
+use crate::thin::{mark, thin_all};
 use mw_base::{List, Memory, SphereList, Spot};
-use mw_multi::{Bag, Joint, Placement};
-use mw_reach::Reached;
+use mw_multi::{Joint, Placement};
 use std::alloc::Global;
 
 /// Adds the places of a sphere.
@@ -100,22 +99,11 @@ pub fn playthrough(
     ensures played { IfOk result (IsPlaythrough joint.now placement.now spheres.now) }
     ensures spare { IfOk result (NoneToSpare joint.now placement.now) }
 {
-    let mut table = table_for(alloc, joint, placement)?;
+    let full = table_for(alloc, joint, placement)?;
     let places = all_places(alloc, joint, spheres.as_slice())?;
     let mut kept = vec![in alloc; false; joint.place_count() as usize]?;
     let kept = kept.as_mut_slice();
     mark(places.as_slice(), kept);
-    clear_others(alloc, &mut table, kept);
-    let start = Bag::starting(alloc, joint)?;
-    let mut reached = Reached::new(alloc, joint)?;
-    thin(
-        alloc,
-        joint,
-        &start,
-        places.as_slice(),
-        &mut table,
-        kept,
-        &mut reached,
-    );
+    thin_all(alloc, joint, &full, places.as_slice(), kept)?;
     kept_spheres(alloc, joint, kept, spheres.as_slice())
 }

@@ -1,20 +1,52 @@
-ghost use Rattle.std.specs.Prelude.{◌≡◌, ◌≤◌, ◌+◌, ◌++◌, ℕ, [], List, IfOk, length, sum_by};
+ghost use Rattle.std.specs.Prelude.{◌≡◌, ◌≤◌, ◌+◌, ◌++◌, [], All, List, IfOk, OnOk, length, sum_by};
 ghost use Rattle.mw_model.specs.Seed as plain;
-ghost use Rattle.mw_multi.specs.Joint.{IsJoint};
+ghost use Rattle.mw_rules.specs.Holds.{bag_of};
+ghost use Rattle.mw_multi.specs.Joint.{IsJoint, place_total};
 ghost use Rattle.mw_multi.specs.Placement.{IsPlacement, IsPlaced};
-ghost use Rattle.mw_reach.specs.Reached.{IsBagFor, IsPlacedFor, IsMadeFor, KeepsRules};
+ghost use Rattle.mw_reach.specs.Reached.{IsBagFor, IsPlacedFor, IsMadeFor, HasLeast, KeepsRules};
 ghost use Rattle.mw_reach.specs.Counts.{missing};
+ghost use Rattle.mw_spheres.specs.Spots.{IsSpot, items_at};
 ghost use Rattle.mw_spheres.specs.Spheres.{IsSphere, AreSpheres, IsSpheres};
 ghost use Rattle.mw_spheres.specs.Gathering.{HasRoom, IsInHand};
 
 use crate::gather::visit_slot;
+use crate::place::place_of;
 use crate::table::table_for;
 use mw_base::{List, Memory, SphereList, Spot};
 use mw_multi::{Bag, Joint, Placed, Placement};
-use mw_reach::{Reached, reach};
+use mw_reach::{Reached, go_on, reach};
 use std::alloc::Global;
 
+/// Adds the numbers of the items.
+pub(crate) fn push_items(numbers: &[u32], items: &mut List<u32>) -> Result<(), Memory>
+    ensures { OnOk result (items.new ≡ items.old ++ numbers.now) }
+{
+    for &number in numbers {
+        items.push(number)?;
+    }
+    Ok(())
+}
+
+/// What stands at the locations of a sphere.
+fn items_of(
+    alloc: Global,
+    joint: &Joint,
+    table: &Placed,
+    sphere: &[Spot],
+) -> Result<List<u32>, Memory>
+    requires spots { All (IsSpot joint.now.slots) sphere.now }
+    requires size { length table.now ≡ place_total joint.now.slots }
+    ensures { IfOk result (λ items. items ≡ items_at joint.now.slots table.now sphere.now) }
+{
+    let mut items = List::new(alloc);
+    for &spot in sphere {
+        push_items(table.at(place_of(joint, spot)), &mut items)?;
+    }
+    Ok(items)
+}
+
 /// The sphere after those that are taken, which takes it with what it holds. `nothing` is the table of no placement.
+/// `reached` has the list for what is in hand, and goes on with what the sphere holds.
 fn next_sphere(
     alloc: Global,
     joint: &Joint,
@@ -30,8 +62,10 @@ fn next_sphere(
     requires rules { KeepsRules joint.now reached.old }
     requires bag { IsBagFor joint.now bag.old }
     requires room { HasRoom table.now taken.old bag.old }
+    requires least { HasLeast joint.now (bag_of bag.old) [] reached.old }
     ensures reached { IsMadeFor joint.now reached.new }
     ensures rules { KeepsRules joint.now reached.new }
+    ensures least { OnOk result (HasLeast joint.now (bag_of bag.new) [] reached.new) }
     ensures bag { IsBagFor joint.now bag.new }
     ensures room { HasRoom table.now taken.new bag.new }
     ensures sphere { IfOk result (λ sphere. (earlier : List plain.Spot)
@@ -43,11 +77,12 @@ fn next_sphere(
     ensures fewer { IfOk result (λ sphere. missing taken.new + length sphere ≡ missing taken.old) }
 {
     let slots = joint.slots.len();
-    reach(joint, bag, nothing, reached);
     let mut sphere = List::new(alloc);
     for before in 0..slots {
         visit_slot(joint, table, reached, before, taken, bag, &mut sphere)?;
     }
+    let items = items_of(alloc, joint, table, sphere.as_slice())?;
+    go_on(joint, items.as_slice(), nothing, reached);
     Ok(sphere)
 }
 
@@ -69,6 +104,7 @@ pub(crate) fn spheres_of(
     let mut bag = Bag::starting(alloc, joint)?;
     let mut taken = vec![in alloc; false; joint.place_count() as usize]?;
     let taken = taken.as_mut_slice();
+    reach(joint, &bag, &nothing, reached);
     let mut spheres = List::new(alloc);
     let mut sphere = next_sphere(alloc, joint, table, &nothing, reached, taken, &mut bag)?;
     while sphere.len() > 0 {

@@ -22,6 +22,6 @@ returns-clause-slot g c =
       c.in_ok-placed.placed,
       w,
       c.in_ok-placed.ensures.value,
-      IsLeast-same (steps_of joint) (bag_of c.in_ok-everything.everything) (everything joint.slots) c.in_ok-placed.placed w bag.counts c.reach_asking.ensures.least,
-      c.unmet_goal_asking.ensures ∙ unmet_by_counts joint c.in_ok-everything.everything c.in_ok-placed.placed w (counts_in c.reach_asking.new.into) (everything joint.slots) bag.counts c.reach_asking.ensures.counts,
+      IsLeast-same (steps_of joint) (bag_of c.in_ok-everything.everything) (everything joint.slots) c.in_ok-placed.placed w bag.counts c.reach_asking.ensures.least.least,
+      c.unmet_goal_asking.ensures ∙ unmet_by_counts joint c.in_ok-everything.everything c.in_ok-placed.placed w (counts_in c.reach_asking.new.into) (everything joint.slots) bag.counts c.reach_asking.ensures.least.tally,
     )

@@ -8,7 +8,7 @@ use Rattle.mw_reach.proofs.worklist.take_next.Goals as goal
 pub bounds-done-place : goal.bounds-done-place
 bounds-done-place g c =
     let place = get_or c.args.queue.now c.args.head 0 in
-    let within : place < length c.args.listed.now = inside_list c.args.listed.now place (c.requires.entries c.args.head c.requires.waits) in
+    let within : place < length c.args.listed.now = inside_list c.args.listed.now place (c.requires.going.entries c.args.head c.requires.waits) in
     omega arith
 
 pub returns-then-done-place-clause-working : goal.returns-then-done-place-clause-working
@@ -22,7 +22,7 @@ returns-clause-steps g c =
     let rows = c.args.rows.now in
     let placed = c.args.placed.now in
     let place = get_or c.args.queue.now c.args.head 0 in
-    let within : place < length c.args.listed.now = inside_list c.args.listed.now place (c.requires.entries c.args.head c.requires.waits) in
+    let within : place < length c.args.listed.now = inside_list c.args.listed.now place (c.requires.going.entries c.args.head c.requires.waits) in
     let at : 0 + place ≡ place = zero-add place in
     let more : paid rows placed c.visit.new.done ≡ paid rows placed c.args.done.now + cost_at rows placed (0 + place) =
     ap (paid rows placed) c.visit.ensures.done ∙ sum_at-set (cost_at rows placed) 0 place c.args.done.now (omega arith) c.if-done-place.false in

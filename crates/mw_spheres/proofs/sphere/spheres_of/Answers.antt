@@ -2,9 +2,11 @@ use Rattle.std.proofs.Common.{◌≡◌, ◌≤◌, ◌++◌, [], false, replica
 use Rattle.std.proofs.lemmas.Grind.{common_steps}
 use Rattle.mw_model.specs.Seed.{Spot}
 use Rattle.mw_multi.specs.Joint.{place_total}
+use Rattle.mw_reach.specs.Reached.{counts_in, flags_in}
+use Rattle.mw_reach.proofs.Placing.{placed_for}
 use Rattle.mw_spheres.specs.Spheres.{IsSphere, listed}
 use Rattle.mw_spheres.specs.Gathering.{IsInHand}
-use Rattle.mw_spheres.proofs.Hand.{LeadsOn, first_room, first_hand, listed-push, leads_on, ends_here}
+use Rattle.mw_spheres.proofs.Hand.{LeadsOn, settled_without, first_room, first_hand, listed-push, leads_on, ends_here}
 use Rattle.mw_spheres.proofs.sphere.spheres_of.Goals as goal
 
 pub next_sphere-requires-clause-room : goal.next_sphere-requires-clause-room
@@ -24,6 +26,7 @@ loop-taken-init c =
       reached = c.next_sphere.ensures.reached;
       rules = c.next_sphere.ensures.rules;
       bag = c.next_sphere.ensures.bag;
+      least = c.in_ok-sphere.ensures.least;
       room = c.next_sphere.ensures.room;
       hand = subst (λ ss. IsInHand joint table (ss ++ c.in_ok-sphere.sphere) c.next_sphere.new.taken c.next_sphere.new.bag) (sym nothing) (c.in_ok-sphere.ensures.hand [] hand);
       next = subst (λ ss. IsSphere joint table ss c.in_ok-sphere.sphere) (sym nothing) (c.in_ok-sphere.ensures.sphere [] hand);
@@ -43,6 +46,7 @@ loop-taken-preserved c =
       reached = c.next_sphere-in-loop-taken.ensures.reached;
       rules = c.next_sphere-in-loop-taken.ensures.rules;
       bag = c.next_sphere-in-loop-taken.ensures.bag;
+      least = c.in_ok-sphere-2.ensures.least;
       room = c.next_sphere-in-loop-taken.ensures.room;
       hand = subst (λ ss. IsInHand joint table (ss ++ c.in_ok-sphere-2.sphere) c.next_sphere-in-loop-taken.new.taken c.next_sphere-in-loop-taken.new.bag) now (c.in_ok-sphere-2.ensures.hand (listed spheres ++ sphere) i.hand);
       next = subst (λ ss. IsSphere joint table ss c.in_ok-sphere-2.sphere) now (c.in_ok-sphere-2.ensures.sphere (listed spheres ++ sphere) i.hand);
@@ -51,3 +55,11 @@ loop-taken-preserved c =
 
 pub returns : goal.returns
 returns c = ends_here c.args.joint.now c.args.table.now c.loop-taken.spheres c.loop-taken.sphere c.loop-taken.invariant.before c.loop-taken.invariant.next (omega (arith, c.loop-taken-test.false, c.len.ensures))
+
+pub reach-requires-clause-placed : goal.reach-requires-clause-placed
+reach-requires-clause-placed c = placed_for c.args.joint.now c.requires.joint [] c.in_ok-nothing.nothing c.in_ok-nothing.ensures.value
+
+pub next_sphere-requires-clause-least : goal.next_sphere-requires-clause-least
+next_sphere-requires-clause-least c =
+    let into = c.reach.new.into in
+    settled_without c.args.joint.now c.in_ok-bag.bag c.in_ok-nothing.nothing (flags_in into) (counts_in into) c.in_ok-nothing.ensures.value record { least = c.reach.ensures.least; tally = c.reach.ensures.counts }

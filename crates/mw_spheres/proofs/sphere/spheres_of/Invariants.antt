@@ -1,6 +1,7 @@
-use Rattle.std.proofs.Common.{◌+◌, ◌++◌, length}
+use Rattle.std.proofs.Common.{◌+◌, ◌++◌, [], length}
+use Rattle.mw_rules.specs.Holds.{bag_of}
 use Rattle.mw_reach.specs.Counts.{missing}
-use Rattle.mw_reach.specs.Reached.{IsBagFor, IsMadeFor, KeepsRules}
+use Rattle.mw_reach.specs.Reached.{IsBagFor, IsMadeFor, HasLeast, KeepsRules}
 use Rattle.mw_spheres.specs.Spheres.{IsSphere, listed}
 use Rattle.mw_spheres.specs.Gathering.{HasRoom, IsInHand}
 use Rattle.mw_spheres.proofs.Hand.{LeadsOn}
@@ -12,6 +13,7 @@ invariant-loop-taken l = record {
   reached : IsMadeFor l.joint l.reached;
   rules : KeepsRules l.joint l.reached;
   bag : IsBagFor l.joint l.bag;
+  least : HasLeast l.joint (bag_of l.bag) [] l.reached;
   room : HasRoom l.table l.taken l.bag;
   hand : IsInHand l.joint l.table (listed l.spheres ++ l.sphere) l.taken l.bag;
   next : IsSphere l.joint l.table (listed l.spheres) l.sphere;
