@@ -1,4 +1,5 @@
 pub mod Ascending
+pub mod Digest
 pub mod Names
 pub mod Parts
 pub mod SeedKept

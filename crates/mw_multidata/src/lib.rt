@@ -2,8 +2,10 @@
 #![tactic(auto)]
 
 mod catalog;
+mod checks;
 mod game_trees;
 mod games;
+mod hashing;
 mod location_names;
 mod location_trees;
 mod locations;
@@ -23,7 +25,9 @@ mod spheres;
 mod tables;
 mod writing;
 
+pub use checks::Checks;
 pub use game_trees::{game_tree, ids_tree};
+pub use hashing::digest;
 pub use multidata::Multidata;
 pub use mw_json::Refusal as DataRefusal;
 pub use reading::read;

@@ -1,0 +1,7 @@
+pub mod Calls
+pub mod Causes
+pub mod Crash
+pub mod Laws
+pub mod Range
+pub mod Tally
+pub mod Untold

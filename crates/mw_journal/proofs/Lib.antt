@@ -1,0 +1,10 @@
+pub mod Batches
+pub mod Empty
+pub mod Excluded
+pub mod Gates
+pub mod Lifts
+pub mod Reading
+pub mod Rows
+pub mod Seams
+pub mod Told
+pub mod Unique
