@@ -45,13 +45,12 @@ pub fn part_player(alloc: Global, slot: u16) -> Result<Tree, Memory>
     Ok(object_tree(parts))
 }
 
-/// A part that is an item, with its receiver, a slot or a group, and its flags: progression 1,
-/// useful 2, trap 4, else 0. `Memory` is its only error.
-pub fn part_item(alloc: Global, item: ItemId, receiver: u16, flags: u8) -> Result<Tree, Memory>
-    ensures value { IfOk result (λ t. view t ≡ part_json (item_lem item receiver flags)) }
+/// An item's part, by its number.
+pub(crate) fn item_part(alloc: Global, id: i64, receiver: u16, flags: u8) -> Result<Tree, Memory>
+    ensures value { IfOk result (λ t. view t ≡ part_json (item_lem id receiver flags)) }
     ensures writable { IfOk result (λ t. IsWritable (view t)) }
 {
-    let number = id_text(alloc, item.get())?;
+    let number = id_text(alloc, id)?;
     let mut parts = List::new(alloc);
     put_number(alloc, &mut parts, "flags", u64::from(flags))?;
     put_number(alloc, &mut parts, "player", u64::from(receiver))?;
@@ -60,15 +59,32 @@ pub fn part_item(alloc: Global, item: ItemId, receiver: u16, flags: u8) -> Resul
     Ok(object_tree(parts))
 }
 
+/// A location's part, by its number.
+pub(crate) fn location_part(alloc: Global, id: i64, finder: u16) -> Result<Tree, Memory>
+    ensures value { IfOk result (λ t. view t ≡ part_json (location id finder)) }
+    ensures writable { IfOk result (λ t. IsWritable (view t)) }
+{
+    let number = id_text(alloc, id)?;
+    let mut parts = List::new(alloc);
+    put_number(alloc, &mut parts, "player", u64::from(finder))?;
+    put_words(alloc, &mut parts, "text", number.as_str())?;
+    put_words(alloc, &mut parts, "type", "location_id")?;
+    Ok(object_tree(parts))
+}
+
+/// A part that is an item, with its receiver, a slot or a group, and its flags: progression 1,
+/// useful 2, trap 4, else 0. `Memory` is its only error.
+pub fn part_item(alloc: Global, item: ItemId, receiver: u16, flags: u8) -> Result<Tree, Memory>
+    ensures value { IfOk result (λ t. view t ≡ part_json (item_lem item receiver flags)) }
+    ensures writable { IfOk result (λ t. IsWritable (view t)) }
+{
+    item_part(alloc, item.get(), receiver, flags)
+}
+
 /// A part that is a location, with the slot whose world has it. `Memory` is its only error.
 pub fn part_location(alloc: Global, loc: LocId, finder: SlotId) -> Result<Tree, Memory>
     ensures value { IfOk result (λ t. view t ≡ part_json (location loc finder)) }
     ensures writable { IfOk result (λ t. IsWritable (view t)) }
 {
-    let number = id_text(alloc, loc.get())?;
-    let mut parts = List::new(alloc);
-    put_number(alloc, &mut parts, "player", u64::from(finder.get()))?;
-    put_words(alloc, &mut parts, "text", number.as_str())?;
-    put_words(alloc, &mut parts, "type", "location_id")?;
-    Ok(object_tree(parts))
+    location_part(alloc, loc.get(), finder.get())
 }

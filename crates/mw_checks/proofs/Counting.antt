@@ -1,10 +1,13 @@
 -- A location that isn't flagged leaves room in its owner's row.
-use Rattle.std.proofs.Common.{◌≡◌, ◌≢◌, ℕ, zero, suc, ◌+◌, ◌/◌, ◌<◌, ◌≤◌, ◌==◌, ◌&&◌, inl, inr, Vec, Global, List, [], ◌∷◌, ◌++◌, Bool, true, false, not, length, get_or, set, drop, replicate, refl, sym, ap, ap₂, ◌∙◌, subst, arith}
+use Rattle.std.proofs.Common.{◌≡◌, ◌≢◌, ℕ, zero, suc, ◌+◌, ◌/◌, ◌<◌, ◌≤◌, ◌==◌, ◌&&◌, inl, inr, Vec, Global, List, [], ◌∷◌, ◌++◌, Bool, true, false, not, cond, length, map, get_or, set, drop, replicate, refl, sym, ap, ap₂, ◌∙◌, subst, arith}
 use Rattle.std.proofs.lemmas.Bool.{eq-eqb}
 use Rattle.std.proofs.lemmas.Bool.Decides.{eqb_tells}
 use Rattle.std.proofs.lemmas.List.{drop_more, get_or_read, get_or-set_same, get_or-set_other}
 use Rattle.std.specs.Prelude.{vec_len, vec_capacity}
-use Rattle.mw_checks.specs.Rows.{seat, one_if, many_of, awaited, AllBelow, Fit, Put, Counts, Empty}
+use Rattle.std.specs.List.{count_by}
+use Rattle.std.proofs.lemmas.List.Recursion.{is_count_by}
+use Rattle.mw_model.specs.Seed.{Held}
+use Rattle.mw_checks.specs.Rows.{seat, one_if, many_of, awaited, finder_of, AllBelow, Fit, Put, Counts, Empty}
 
 less_if : (b x y : Bool) → (x ≡ true → y ≡ true) → one_if (b && not y) ≤ one_if (b && not x)
 less_if false x y h = omega arith
@@ -154,3 +157,13 @@ few_more counts i n x slot is within few =
           let now : get_or (set counts n (x + 1)) slot 0 ≡ get_or counts slot 0 = get_or-set_other counts n slot (x + 1) 0 e.1 in
           omega (arith, now, few slot)
     ]
+
+-- ---- a slot's locations
+
+owned_more : (b : Bool) (n : ℕ) → one_if b + n ≡ cond b (1 + n) n
+owned_more true n = refl
+owned_more false n = omega arith
+
+-- as many owners are the slot as locations are its
+pub many_owned : (slot : ℕ) (hs : List Held) → many_of slot (map finder_of hs) ≡ count_by (λ h. h.slot == slot) hs
+many_owned slot hs = is_count_by (λ xs. many_of slot (map finder_of xs)) (λ h. h.slot == slot) refl (λ x xs. owned_more (x.slot == slot) (many_of slot (map finder_of xs))) hs

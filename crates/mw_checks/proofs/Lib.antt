@@ -3,4 +3,5 @@ pub mod Giving
 pub mod Keeping
 pub mod News
 pub mod Numbering
+pub mod Releasing
 pub mod Tails

@@ -8,8 +8,8 @@ use Rattle.std.proofs.lemmas.Bool.Decides.{Decides-and, Decides-eqb, Decides-int
 use Rattle.std.proofs.lemmas.List.{map-append}
 use Rattle.mw_model.specs.Seed.{Seed, held_at}
 use Rattle.mw_protocol.specs.Checks.{Check, same_check, has_check, checks_at, unseen}
-use Rattle.mw_protocol.specs.Effects.{known}
-use Rattle.mw_protocol.specs.Effects as plain
+use Rattle.mw_protocol.specs.Locations
+use Rattle.mw_protocol.specs.Locations.{known}
 use Rattle.mw_checks.specs.Fresh.{known_checks, new_checks, Notes}
 use Rattle.mw_checks.specs.Log.{AreFresh, check_of, checks_of}
 use Rattle.mw_checks.proofs.Keeping.{has_check-append, same_parts, same_if}
@@ -124,6 +124,6 @@ results_fresh seed asked checked team (Err x) e = tt
 
 -- the new ones among a slot's locations are those of the room's definition
 pub results_at : {E : Type 0} (seed : Seed) (checked : List Check) (team slot : ℕ) (numbers : List ℤ) (r : Result (List (ℕ × ℤ)) E) → IfOk r (λ ps. checks_of team ps ≡ new_checks seed checked (checks_at team slot numbers))
-    → IfOk r (λ ps. checks_of team ps ≡ plain.new_checks seed record { checked = checked } team slot numbers)
+    → IfOk r (λ ps. checks_of team ps ≡ Locations.new_checks seed checked team slot numbers)
 results_at seed checked team slot numbers (Ok ps) e = e ∙ ap (unseen checked) (known_at seed team slot numbers)
 results_at seed checked team slot numbers (Err x) e = tt

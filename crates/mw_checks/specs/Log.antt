@@ -3,7 +3,6 @@ use Rattle.std.specs.Prelude.{◌≡◌, ℕ, ℤ, ◌+◌, ◌≤◌, ◌++◌,
 use Rattle.mw_model.specs.Items.{NetItem}
 use Rattle.mw_model.specs.Seed.{Seed, held_at}
 use Rattle.mw_protocol.specs.Checks.{Check, has_check, items_found, keeps, view_in}
-use Rattle.mw_protocol.specs.Standing.{Standing}
 use Rattle.mw_checks.specs.declared.growth.CheckGrowth.{CheckGrowth}
 
 -- the seed, the distinct checks in order, and how many there is memory for
@@ -11,10 +10,6 @@ pub record Log : Type 0 where
   pub seed : Seed
   pub checked : List Check
   pub space : ℕ
-
--- what its checks stand for
-abbrev pub standing_of : Log → Standing
-standing_of log = record { checked = log.checked }
 
 -- what a mask keeps of what a slot received in a team
 abbrev pub view_of : Log → ℕ → ℕ → ℕ → List NetItem

@@ -57,6 +57,11 @@ pub record Fit (owners : List ℕ) (done : List Bool) (rows : List (Vec ℕ Glob
 abbrev pub Counts : List ℕ → List ℕ → Type 0
 Counts owners counts = (slot : ℕ) → slot ≤ 1024 → get_or counts slot 0 ≡ many_of slot owners
 
+-- there is a count of each slot's locations
+pub record Sized (hs : List Held) (sizes : List ℕ) : Type 0 where
+  pub many : length sizes ≡ 1025
+  pub counts : Counts (map finder_of hs) sizes
+
 -- the rows are empty, each with memory for as many as are counted for its slot
 pub record Empty (counts : List ℕ) (rows : List (Vec ℕ Global)) : Type 0 where
   pub many : length rows ≡ 8200

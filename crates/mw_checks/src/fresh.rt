@@ -1,4 +1,4 @@
-ghost use Rattle.std.specs.Prelude.{◌≡◌, [], IfOk, OnOk};
+ghost use Rattle.std.specs.Prelude.{◌≡◌, ◌≤◌, [], IfOk, OnOk, drop, length};
 ghost use Rattle.mw_protocol.specs.Checks.{checks_at};
 ghost use Rattle.mw_checks.specs.Fresh.{Notes, new_among, new_checks};
 ghost use Rattle.mw_checks.specs.Log.{checks_of};
@@ -9,21 +9,26 @@ use mw_base::{List, LocId, Memory, SlotId, TeamId};
 use std::alloc::Global;
 
 /// Locations with their slots, each once, in order.
-type Pairs = IndexSet<(SlotId, LocId)>;
+pub(crate) type Pairs = IndexSet<(SlotId, LocId)>;
 
-/// The list of pairs.
-fn listed(alloc: Global, pairs: &Pairs) -> Result<List<(SlotId, LocId)>, Memory>
-    ensures { IfOk result (λ l. l ≡ pairs.now.keys) }
+/// The list of the pairs from an index on.
+pub(crate) fn listed(
+    alloc: Global,
+    pairs: &Pairs,
+    from: usize,
+) -> Result<List<(SlotId, LocId)>, Memory>
+    requires { from ≤ length pairs.now.keys }
+    ensures { IfOk result (λ l. l ≡ drop from pairs.now.keys) }
 {
     let mut list = List::new(alloc);
-    for pair in pairs.as_slice() {
+    for pair in &pairs.as_slice()[from..] {
         list.push(*pair)?;
     }
     Ok(list)
 }
 
 /// Adds a pair, unless it is no location of its slot or is checked.
-fn note(
+pub(crate) fn note(
     log: &CheckLog,
     team: TeamId,
     pair: (SlotId, LocId),
@@ -87,7 +92,7 @@ pub(crate) fn known_numbers(
     for number in numbers {
         note_number(log, team, slot, *number, &mut found)?;
     }
-    listed(alloc, &found)
+    listed(alloc, &found, 0)
 }
 
 /// The new ones among locations of a slot.
@@ -107,7 +112,7 @@ pub(crate) fn fresh_numbers(
             note(log, team, (slot, location), &mut found)?;
         }
     }
-    listed(alloc, &found)
+    listed(alloc, &found, 0)
 }
 
 /// The new ones among pairs.
@@ -123,5 +128,5 @@ pub(crate) fn fresh_pairs(
     for pair in pairs {
         note(log, team, *pair, &mut found)?;
     }
-    listed(alloc, &found)
+    listed(alloc, &found, 0)
 }

@@ -1,7 +1,9 @@
 //! The checks of a room: what was checked in each team, and what each slot received for it.
 #![tactic(auto)]
 
+mod asking;
 mod check;
+mod counts;
 mod fresh;
 mod given;
 mod growth;
@@ -13,6 +15,7 @@ mod log;
 mod places;
 mod rows;
 mod tail;
+mod telling;
 
 pub use check::Check;
 pub use growth::CheckGrowth;

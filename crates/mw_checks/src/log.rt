@@ -1,12 +1,12 @@
 ghost use Rattle.std.specs.Prelude.{◌≡◌, ◌≤◌, ◌++◌, [], ℕ, None, IfOk, IfSome, IfNone, OnErr};
-ghost use Rattle.std.specs.Prelude.{drop, length, vec_capacity};
+ghost use Rattle.std.specs.Prelude.{◌==◌, count_by, drop, length, vec_capacity};
 ghost use Rattle.std.specs.Option.{option_copied};
 ghost use Rattle.mw_model.specs.Seed.{held_at};
-ghost use Rattle.mw_protocol.specs.Standing.{is_checked, checked_of};
+ghost use Rattle.mw_protocol.specs.Checks.{is_among, locations_in};
 ghost use Rattle.mw_checks.specs.Fresh.{known_at, new_at, new_among};
 ghost use Rattle.mw_checks.specs.Kept.{KeptIn, AreReceived, AreFound};
 ghost use Rattle.mw_checks.specs.Log.{AreFresh, HasRoom, checks_of, given_by};
-ghost use Rattle.mw_checks.specs.Log.{standing_of, view_of};
+ghost use Rattle.mw_checks.specs.Log.{view_of};
 
 use crate::check::Check;
 use crate::fresh::{fresh_numbers, fresh_pairs, known_numbers};
@@ -26,7 +26,7 @@ use std::marker::Model;
 /// The distinct checks of a room in the order in which they were made, over the tables of its seed.
 #[derive(Drop)]
 pub struct CheckLog {
-    alloc: Global,
+    pub(crate) alloc: Global,
     places: Places,
     rows: Rows,
     order: Vec<Check>,
@@ -117,7 +117,7 @@ impl CheckLog {
 
     /// Whether a location of a slot is checked in a team.
     pub fn is_checked(&self, team: TeamId, slot: SlotId, location: LocId) -> bool
-        ensures { result ≡ is_checked (standing_of self.now) team slot location }
+        ensures { result ≡ is_among self.now.checked team slot location }
     {
         match self.places.number_of(slot, location) {
             Some(number) => self.rows.is_done(team, number),
@@ -135,13 +135,13 @@ impl CheckLog {
     /// The numbers of a slot's checked locations in a team.
     fn found_row(&self, team: TeamId, slot: SlotId) -> &[u32]
         ensures locations { AreFound self.now team slot result.now }
-        ensures many { length (checked_of (standing_of self.now) team slot) ≡ length result.now }
+        ensures many { length (locations_in team slot self.now.checked) ≡ length result.now }
     {
         self.rows.found_by(team, slot)
     }
 
     /// The location of a number, if it is an id's; else no slot has it.
-    pub(crate) fn id_of(&self, number: i128) -> Option<LocId>
+    pub fn id_of(&self, number: i128) -> Option<LocId>
         ensures some { IfSome result (λ l. l ≡ number) }
         ensures none { IfNone result ((slot : ℕ) → held_at self.now.seed slot number ≡ None) }
     {
@@ -150,14 +150,21 @@ impl CheckLog {
 
     /// How many locations of a slot are checked in a team.
     pub fn checked_len(&self, team: TeamId, slot: SlotId) -> u64
-        ensures { result ≡ length (checked_of (standing_of self.now) team slot) }
+        ensures { result ≡ length (locations_in team slot self.now.checked) }
     {
         self.found_row(team, slot).len() as u64
     }
 
+    /// How many locations a slot has.
+    pub fn locations_len(&self, slot: SlotId) -> u64
+        ensures { result ≡ count_by (λ h. h.slot == slot) self.now.seed.locations }
+    {
+        self.places.size(slot)
+    }
+
     /// The locations of a slot that are checked in a team, in the order of their checks.
     pub fn checked_of(&self, team: TeamId, slot: SlotId) -> Result<List<LocId>, Memory>
-        ensures { IfOk result (λ ls. ls ≡ checked_of (standing_of self.now) team slot) }
+        ensures { IfOk result (λ ls. ls ≡ locations_in team slot self.now.checked) }
     {
         locations_at(self.alloc, &self.places, self.found_row(team, slot))
     }

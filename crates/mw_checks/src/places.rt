@@ -1,9 +1,11 @@
-ghost use Rattle.std.specs.Prelude.{◌≡◌, ◌<◌, ◌≤◌, ℕ, Some, None, length, is_some, slice_get};
-ghost use Rattle.std.specs.Prelude.{IfOk, OnOk, IfSome, IfNone};
+ghost use Rattle.std.specs.Prelude.{◌≡◌, ◌==◌, ◌<◌, ◌≤◌, ℕ, Some, None, length, is_some, slice_get};
+ghost use Rattle.std.specs.Prelude.{IfOk, OnOk, IfSome, IfNone, count_by};
 ghost use Rattle.std.specs.Option.{option_copied};
 ghost use Rattle.mw_model.specs.Seed.{held_at};
 ghost use Rattle.mw_checks.specs.Numbers.{number_of, IsIndex, AllIds};
+ghost use Rattle.mw_checks.specs.Rows.{Sized};
 
+use crate::counts::sizes_of;
 use indexmap::IndexMap;
 use mw_base::{LocId, Memory, SlotId};
 use mw_multidata::{Held, RoomTables};
@@ -13,22 +15,25 @@ use std::marker::Model;
 /// Locations by slot and id, each with its number.
 type Numbers = IndexMap<(u16, i64), u32>;
 
-/// The tables of a seed, with the numbers of its locations.
+/// The tables of a seed, with the numbers of its locations, and how many each slot has.
 #[derive(Drop)]
 pub(crate) struct Places {
     tables: RoomTables,
     numbers: Numbers,
+    sizes: Vec<usize>,
 }
 
 impl Model for Places {
     ghost use Rattle.mw_model.specs.Seed as plain;
     ghost use Rattle.mw_checks.specs.Numbers.{IsIndex, AllIds};
+    ghost use Rattle.mw_checks.specs.Rows.{Sized};
 
     ghost Value = { plain.Seed };
 
     ghost view = { λ p. p.tables };
 
-    ghost invariant = { λ p. IsIndex p.tables.locations p.numbers × AllIds p.tables.locations };
+    ghost invariant = { λ p. IsIndex p.tables.locations p.numbers × AllIds p.tables.locations
+        × Sized p.tables.locations p.sizes.items };
 }
 
 /// Numbers locations, the first one 0.
@@ -53,7 +58,12 @@ impl Places {
         ensures { IfOk result (λ p. p ≡ tables) }
     {
         let numbers = numbered(alloc, tables.multidata().locations.as_slice())?;
-        Ok(Places { tables, numbers })
+        let sizes = sizes_of(alloc, tables.multidata().locations.as_slice())?;
+        Ok(Places {
+            tables,
+            numbers,
+            sizes,
+        })
     }
 
     /// The tables.
@@ -69,6 +79,20 @@ impl Places {
         ensures few { length result.now ≤ 16777216 }
     {
         self.tables.multidata().locations.as_slice()
+    }
+
+    /// How many locations each slot has.
+    pub(crate) fn sizes(&self) -> &[usize]
+        ensures { Sized self.now.locations result.now }
+    {
+        &self.sizes
+    }
+
+    /// How many locations a slot has.
+    pub(crate) fn size(&self, slot: SlotId) -> u64
+        ensures { result ≡ count_by (λ h. h.slot == slot) self.now.locations }
+    {
+        self.sizes()[usize::from(slot.get())] as u64
     }
 
     /// What the index has for a location of a slot.

@@ -3,8 +3,9 @@ ghost use Rattle.std.specs.Prelude.{IfOk, map, length, get_or, set, replicate};
 ghost use Rattle.std.specs.Prelude.{vec_len, vec_capacity};
 ghost use Rattle.std.specs.declared.alloc.Global.{Global};
 ghost use Rattle.mw_checks.specs.Kept.{KeptIn, HasPlaces};
-ghost use Rattle.mw_checks.specs.Rows.{seat, Counts, Empty, Put, receiver_of, finder_of};
+ghost use Rattle.mw_checks.specs.Rows.{seat, Empty, Put};
 
+use crate::counts::{SLOTS, counts_of, receivers_of};
 use crate::places::Places;
 use mw_base::{Memory, SlotId, TeamId};
 use mw_multidata::Held;
@@ -12,9 +13,6 @@ use std::alloc::Global;
 
 /// The teams that there may be.
 const TEAMS: usize = 8;
-
-/// The slots that there may be, which count from 1.
-const SLOTS: usize = 1025;
 
 /// Where the flag of a number, or the row of a slot, of a team stands.
 fn seat(number: usize, team: TeamId) -> usize
@@ -34,28 +32,6 @@ pub(crate) struct Rows {
     found: Vec<Vec<u32>>,
 }
 
-/// A count of 0 for each slot.
-fn no_counts(alloc: Global) -> Result<Vec<usize>, Memory>
-    ensures { IfOk result (λ cs. cs.items ≡ replicate 1025 0) }
-{
-    Ok(vec![in alloc; 0; SLOTS]?)
-}
-
-/// How many of these owners each slot is.
-fn counts_of(alloc: Global, owners: &[u16]) -> Result<Vec<usize>, Memory>
-    ensures many { IfOk result (λ cs. length cs.items ≡ 1025) }
-    ensures counts { IfOk result (λ cs. Counts owners.now cs.items) }
-{
-    let mut counts = no_counts(alloc)?;
-    for owner in owners {
-        let slot = usize::from(*owner);
-        if slot < SLOTS {
-            counts[slot] += 1;
-        }
-    }
-    Ok(counts)
-}
-
 /// Empty rows for each slot and team, with memory for as many as are counted for the slot.
 fn empty_rows(alloc: Global, counts: &[usize]) -> Result<Vec<Vec<u32>>, Memory>
     requires { length counts.now ≡ 1025 }
@@ -67,28 +43,6 @@ fn empty_rows(alloc: Global, counts: &[usize]) -> Result<Vec<Vec<u32>>, Memory>
         rows.push(row)?;
     }
     Ok(rows)
-}
-
-/// The receivers of the items.
-fn receivers_of(alloc: Global, locations: &[Held]) -> Result<Vec<u16>, Memory>
-    ensures { IfOk result (λ v. v.items ≡ map receiver_of locations.now) }
-{
-    let mut receivers = Vec::new(alloc);
-    for held in locations {
-        receivers.push(held.receiver)?;
-    }
-    Ok(receivers)
-}
-
-/// The finders of the items.
-fn finders_of(alloc: Global, locations: &[Held]) -> Result<Vec<u16>, Memory>
-    ensures { IfOk result (λ v. v.items ≡ map finder_of locations.now) }
-{
-    let mut finders = Vec::new(alloc);
-    for held in locations {
-        finders.push(held.slot.get())?;
-    }
-    Ok(finders)
 }
 
 /// A flag for each of so many locations and each team, none set.
@@ -117,11 +71,9 @@ impl Rows {
         let locations = places.locations();
         let receivers = receivers_of(alloc, locations)?;
         let receivers = counts_of(alloc, &receivers)?;
-        let finders = finders_of(alloc, locations)?;
-        let finders = counts_of(alloc, &finders)?;
         let done = no_flags(alloc, locations.len())?;
         let received = empty_rows(alloc, &receivers)?;
-        let found = empty_rows(alloc, &finders)?;
+        let found = empty_rows(alloc, places.sizes())?;
         Ok(Rows {
             done,
             received,

@@ -1,2 +1,5 @@
+pub mod Further
+pub mod Joined
 pub mod Places
+pub mod Prints
 pub mod Writable

@@ -1,3 +1,5 @@
+pub mod Joined
+pub mod Kept
 pub mod Places
 pub mod Room
 pub mod View

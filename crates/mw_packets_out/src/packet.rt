@@ -1,6 +1,9 @@
+use crate::bounced::Bounced;
 use crate::data_package::DataPackage;
 use crate::people::Connected;
+use crate::print::PrintJson;
 use crate::room::RoomInfo;
+use crate::values::{Retrieved, SetReply};
 use mw_base::{List, NetItem, Text};
 
 /// What is wrong with what a client sent.
@@ -54,4 +57,12 @@ pub enum ServerPacket {
         /// Why.
         text: Text,
     },
+    /// A text of the room for its players.
+    PrintJson(PrintJson),
+    /// The answer to a question for values of the data storage.
+    Retrieved(Retrieved),
+    /// What a change made of a key's value.
+    SetReply(SetReply),
+    /// A message of a client.
+    Bounced(Bounced),
 }

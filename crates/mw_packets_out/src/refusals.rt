@@ -1,27 +1,14 @@
-ghost use Rattle.std.specs.Prelude.{◌≡◌, IfOk, map};
-ghost use Rattle.mw_model.specs.Json.{IsWritable, many};
-ghost use Rattle.mw_model.specs.Trees.{items_of, text_json};
+ghost use Rattle.std.specs.Prelude.{◌≡◌, IfOk};
+ghost use Rattle.mw_model.specs.Json.{IsWritable};
 ghost use Rattle.mw_protocol.specs.Messages.{connection_refused_json, invalid_packet_json, kind_text, text_or_null};
 ghost use Rattle.mw_json.specs.View.{view};
 ghost use Rattle.mw_packets_out.specs.View.{kind_view};
 
+use crate::lists::texts_tree;
 use crate::packet::InvalidKind;
 use mw_base::{List, Memory, Text};
-use mw_json::{Tree, push_tree, put, put_words, words_tree};
+use mw_json::{Tree, put, put_words, words_tree};
 use std::alloc::Global;
-
-/// Texts as a list.
-#[tactic(auto, using(crate::proofs::Writable::same_items))]
-fn texts_tree(alloc: Global, texts: &[Text]) -> Result<Tree, Memory>
-    ensures value { IfOk result (λ t. view t ≡ many (items_of (map text_json texts.now))) }
-    ensures writable { IfOk result (λ t. IsWritable (view t)) }
-{
-    let mut trees = List::new(alloc);
-    for text in texts {
-        push_tree(&mut trees, words_tree(alloc, text.as_str())?)?;
-    }
-    Ok(Tree::Many(trees))
-}
 
 /// Why a Connect is refused, as an object.
 pub(crate) fn connection_refused_tree(alloc: Global, errors: &[Text]) -> Result<Tree, Memory>

@@ -1,13 +1,12 @@
-ghost use Rattle.std.specs.Prelude.{◌≡◌, ◌≤◌, IfOk, OnOk, decimal, length, map};
+ghost use Rattle.std.specs.Prelude.{◌≡◌, ◌≤◌, IfOk, decimal, length};
 ghost use Rattle.mw_model.specs.Json.{IsWritable, MembersAreWritable, members};
-ghost use Rattle.mw_model.specs.Trees.{put_member};
 ghost use Rattle.mw_protocol.specs.Messages.{slot_info_members, slot_json};
 ghost use Rattle.mw_json.specs.View.{view, members_view};
-ghost use Rattle.mw_packets_out.specs.Places.{place_in};
 
 use crate::people::NetworkSlot;
+use crate::placing::insert;
 use mw_base::{List, Memory, SlotId, Text};
-use mw_json::{Member, Tree, named, put, put_number, put_words};
+use mw_json::{Tree, put, put_number, put_words};
 use std::alloc::Global;
 
 /// What is played in a slot, as an object.
@@ -31,29 +30,6 @@ fn slot_name(alloc: Global, slot: SlotId) -> Result<Text, Memory>
 {
     let number = slot.get();
     Ok(Text::from_string(format!(in alloc; "{number}")?))
-}
-
-/// Where a member of this name is put: before the first whose name is greater.
-fn place_of(members: &[Member], name: &str) -> usize
-    ensures value { result ≡ place_in name.now (members_view members.now) }
-    ensures within { result ≤ length members.now }
-{
-    for (i, member) in members.iter().enumerate() {
-        if name < member.name.as_str() {
-            return i;
-        }
-    }
-    members.len()
-}
-
-/// A member more, at its place in byte order.
-fn insert(members: &mut Vec<Member>, name: Text, value: Tree) -> Result<(), Memory>
-    ensures value { OnOk result (members_view members.new.items ≡ put_member name (view value) (members_view members.old.items)) }
-    ensures writable { OnOk result (MembersAreWritable (members_view members.old.items) → IsWritable (view value) → MembersAreWritable (members_view members.new.items)) }
-{
-    let at = place_of(members.as_slice(), name.as_str());
-    members.insert(at, named(name, value))?;
-    Ok(())
 }
 
 /// The slots, each under its number in decimal, in byte order.

@@ -1,18 +1,20 @@
-ghost use Rattle.std.specs.Prelude.{◌≡◌, ◌++◌, IfOk, OnOk, map};
-ghost use Rattle.mw_model.specs.Items.{NetItem as plain_item};
-ghost use Rattle.mw_model.specs.Json.{IsWritable, ItemsAreWritable};
-ghost use Rattle.mw_protocol.specs.Messages.{location_info_json, message_json, message_text, packet_json, received_items_json, room_update_json};
-ghost use Rattle.mw_json.specs.View.{view, items_view};
+ghost use Rattle.std.specs.Prelude.{◌≡◌, IfOk};
+ghost use Rattle.mw_model.specs.Json.{IsWritable};
+ghost use Rattle.mw_protocol.specs.Messages.{location_info_json, packet_json, packet_text, received_items_json, room_update_json};
+ghost use Rattle.mw_json.specs.View.{view};
 ghost use Rattle.mw_packets_out.specs.View.{packet_view};
 
+use crate::bounced::bounced_tree;
 use crate::connected::connected_tree;
 use crate::data_package::data_package_tree;
 use crate::lists::{ids_tree, items_tree};
 use crate::packet::ServerPacket;
+use crate::print::print_tree;
 use crate::refusals::{connection_refused_tree, invalid_packet_tree};
 use crate::room_info::room_info_tree;
+use crate::values::{retrieved_tree, set_reply_tree};
 use mw_base::{List, Memory, NetItem, Text};
-use mw_json::{Tree, compact_text, push_tree, put, put_number, put_words};
+use mw_json::{Tree, compact_text, put, put_number, put_words};
 use std::alloc::Global;
 
 /// Items from a place in the session's list on, as an object.
@@ -80,59 +82,18 @@ fn packet_tree(alloc: Global, packet: &ServerPacket) -> Result<Tree, Memory>
             original_cmd,
             text,
         } => invalid_packet_tree(alloc, *kind, original_cmd, text),
+        ServerPacket::PrintJson(print) => print_tree(alloc, print),
+        ServerPacket::Retrieved(values) => retrieved_tree(alloc, values),
+        ServerPacket::SetReply(reply) => set_reply_tree(alloc, reply),
+        ServerPacket::Bounced(message) => bounced_tree(alloc, message),
     }
 }
 
-/// Adds packets to those of a message.
-fn push_packets(
-    alloc: Global,
-    trees: &mut List<Tree>,
-    packets: &[ServerPacket],
-) -> Result<(), Memory>
-    requires { ItemsAreWritable (items_view trees.old) }
-    ensures value { OnOk result (map view trees.new ≡ map view trees.old ++ map packet_json (map packet_view packets.now)) }
-    ensures writable { OnOk result (ItemsAreWritable (items_view trees.new)) }
+/// A packet's text: compact JSON, as it stands in a message. Memory is its only error.
+#[tactic(auto, unfolding(mw_protocol::specs::Messages::packet_text))]
+pub fn packet_text(alloc: Global, packet: &ServerPacket) -> Result<Text, Memory>
+    ensures { IfOk result (λ t. t ≡ packet_text (packet_view packet.now)) }
 {
-    for packet in packets {
-        push_tree(trees, packet_tree(alloc, packet)?)?;
-    }
-    Ok(())
-}
-
-/// The packets of a message as a list.
-#[tactic(auto, using(crate::proofs::Writable::both_parts))]
-fn message_tree(
-    alloc: Global,
-    answers: &[ServerPacket],
-    others: &[ServerPacket],
-) -> Result<Tree, Memory>
-    ensures value { IfOk result (λ t. view t ≡ message_json (map packet_view answers.now ++ map packet_view others.now)) }
-    ensures writable { IfOk result (λ t. IsWritable (view t)) }
-{
-    let mut trees = List::new(alloc);
-    push_packets(alloc, &mut trees, answers)?;
-    push_packets(alloc, &mut trees, others)?;
-    Ok(Tree::Many(trees))
-}
-
-/// The text of a message of some packets and then others: the list of them as compact JSON. Memory
-/// is its only error.
-#[tactic(auto, unfolding(mw_protocol::specs::Messages::message_text))]
-pub fn write_both(
-    alloc: Global,
-    answers: &[ServerPacket],
-    others: &[ServerPacket],
-) -> Result<Text, Memory>
-    ensures { IfOk result (λ t. t ≡ message_text (map packet_view answers.now ++ map packet_view others.now)) }
-{
-    let tree = message_tree(alloc, answers, others)?;
+    let tree = packet_tree(alloc, packet)?;
     compact_text(alloc, &tree)
-}
-
-/// A message's text: the list of its packets as compact JSON. Memory is its only error.
-#[tactic(auto, using(crate::proofs::Writable::nothing_more))]
-pub fn write_message(alloc: Global, packets: &List<ServerPacket>) -> Result<Text, Memory>
-    ensures { IfOk result (λ t. t ≡ message_text (map packet_view packets.now)) }
-{
-    write_both(alloc, packets.as_slice(), &[])
 }

@@ -1,6 +1,6 @@
 ghost use Rattle.std.specs.Prelude.{◌≡◌, option_map};
 ghost use Rattle.std.specs.Option.{option_to_list};
-ghost use Rattle.mw_protocol.specs.Effects.{checks_record};
+ghost use Rattle.mw_protocol.specs.Locating.{checks_record};
 
 use crate::checked::CheckedLocations;
 use crate::stored::Stored;

@@ -1,0 +1,5 @@
+pub mod Kept
+pub mod Listed
+pub mod Named
+pub mod Present
+pub mod Slots

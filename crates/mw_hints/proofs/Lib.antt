@@ -1,0 +1,5 @@
+pub mod Counting
+pub mod Keys
+pub mod Numbers
+pub mod Telling
+pub mod Widened

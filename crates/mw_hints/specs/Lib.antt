@@ -1,0 +1,5 @@
+pub mod Answers
+pub mod Book
+pub mod Room
+pub mod Scouted
+pub mod Widening
