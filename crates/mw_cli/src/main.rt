@@ -54,6 +54,8 @@ fn main(rt: HostRuntime) -> ExitCode {
 }
 
 #[cfg(test)]
+mod chat_tests;
+#[cfg(test)]
 mod connect_tests;
 #[cfg(test)]
 mod generate_tests;

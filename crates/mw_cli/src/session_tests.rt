@@ -339,16 +339,11 @@ fn lines_that_are_not_built(rt: HostRuntime) -> Result<(), Fail> {
     for line in [
         "commit",
         "crash",
-        r#"text 1 [{"cmd":"UpdateHint","player":1,"location":101}]"#,
-        r#"text 1 [{"cmd":"StatusUpdate","status":30}]"#,
-        r#"text 1 [{"cmd":"Sync"},{"cmd":"Say","text":"hello"}]"#,
+        r#"text 1 [{"cmd":"Sync"},{"cmd":"Get","keys":["k"]}]"#,
         r#"text 1 [{"cmd":"Bounce"}]"#,
         r#"text 1 [{"cmd":"Get","keys":[]}]"#,
         r#"text 1 [{"cmd":"Set","key":"k","operations":[]}]"#,
         r#"text 1 [{"cmd":"SetNotify","keys":[]}]"#,
-        r#"text 1 [{"cmd":"LocationScouts","locations":[],"create_as_hint":1}]"#,
-        r#"text 1 [{"cmd":"ConnectUpdate","tags":["Tracker"]}]"#,
-        r#"text 1 [{"cmd":"Connect","name":"Ann","version":{"build":0,"major":0,"minor":5}}]"#,
     ] {
         let told = told_of_line(rt.alloc(), line)?;
         assert_eq!(rt; told.as_str(), "7 not built: line 2\n", "{line}");

@@ -1,12 +1,13 @@
 -- Rows of a script beside the definitions.
 use Rattle.std.specs.Prelude.{◌≡◌, ◌∷◌, [], Some, None, true, refl}
+use Rattle.mw_model.specs.Json.{no_members}
 use Rattle.mw_model.specs.Seed.{Seed}
-use Rattle.mw_protocol.specs.Packets.{good, sync, location_scouts, connect_update}
+use Rattle.mw_protocol.specs.Packets.{good, sync, get}
 use Rattle.mw_protocol.specs.Rooms.{Room, empty_room}
 use Rattle.mw_offline.specs.Commands.{sends, takes, loses}
 use Rattle.mw_offline.specs.Drive.{all_puts, overrun, gone}
 use Rattle.mw_offline.specs.Lines.{commit_line}
-use Rattle.mw_offline.specs.Script.{is_built, built_line, built_message}
+use Rattle.mw_offline.specs.Script.{built_line, built_message}
 
 -- ---- what is put
 
@@ -38,9 +39,6 @@ no_packets = refl
 pub no_commit : built_line (Some commit_line) ≡ None
 no_commit = refl
 
--- a scout that makes hints
-pub no_hints : built_message 1 (good sync ∷ good (location_scouts [] 1) ∷ []) ≡ None
-no_hints = refl
-
-pub tags_stay : is_built (connect_update record { items_handling = None; tags = None }) ≡ true
-tags_stay = refl
+-- a question for values of the data storage
+pub no_values : built_message 1 (good sync ∷ good (get [] no_members) ∷ []) ≡ None
+no_values = refl

@@ -1,7 +1,6 @@
 -- A script: the commands of its lines, or the line at which it is refused.
-use Rattle.std.specs.Prelude.{ℕ, ◌+◌, ◌==◌, ◌||◌, ◌++◌, ◌∷◌, [], List, Bool, Option, Some, None, true, false, not, codes, length, take, nat_le, is_some, unwrap_or, if◌then◌else◌, Result, Ok, Err}
+use Rattle.std.specs.Prelude.{ℕ, ◌+◌, ◌++◌, ◌∷◌, [], List, Bool, Option, Some, None, true, false, length, take, nat_le, is_some, unwrap_or, if◌then◌else◌, Result, Ok, Err}
 use Rattle.std.specs.List.{list_all}
-use Rattle.mw_protocol.specs.Connecting.{has_tag}
 use Rattle.mw_protocol.specs.Packets.{Packet, connect, connect_update, sync, location_checks, location_scouts, update_hint, status_update, say, get_data_package, bounce, get, change, set_notify, Inbound, good, wrong}
 use Rattle.mw_packets_in.specs.PacketsOf.{packets_of}
 use Rattle.mw_offline.specs.Commands.{Command, opens, sends, takes, loses}
@@ -9,20 +8,16 @@ use Rattle.mw_offline.specs.Lines.{Line, nothing, open_line, text_line, take_lin
 
 -- ---- built lines
 
--- tags that want no texts of the room
-abbrev pub are_silent : Option (List (List ℕ)) → Bool
-are_silent tags = has_tag tags (codes "NoText")
-
--- what the room answers so far
+-- what the room answers so far: all but the packets of the data storage, and what is sent to others
 abbrev pub is_built : Packet → Bool
-is_built (connect fields) = are_silent fields.tags
-is_built (connect_update u) = not (is_some u.tags) || are_silent u.tags
+is_built (connect fields) = true
+is_built (connect_update u) = true
 is_built sync = true
 is_built (location_checks numbers) = true
-is_built (location_scouts numbers as_hint) = as_hint == 0
-is_built (update_hint u) = false
-is_built (status_update s) = false
-is_built (say text) = false
+is_built (location_scouts numbers as_hint) = true
+is_built (update_hint u) = true
+is_built (status_update s) = true
+is_built (say text) = true
 is_built (get_data_package games) = true
 is_built (bounce b) = false
 is_built (get keys further) = false

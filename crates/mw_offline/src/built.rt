@@ -10,7 +10,7 @@ ghost use Rattle.mw_offline.specs.Script.{is_built as is_built_lem, is_built_ele
 use crate::command::Command;
 use crate::line::{Line, line_of};
 use mw_base::{List, Memory, Text};
-use mw_packets_in::{Inbound, Packet, has_tag, packets_of};
+use mw_packets_in::{Inbound, Packet, packets_of};
 use std::alloc::Global;
 
 /// Why a line gives no command.
@@ -37,13 +37,10 @@ impl From<Memory> for Unbuilt {
 fn is_built(packet: &Packet) -> bool
     ensures { result ≡ is_built_lem (packet_view packet.now) }
 {
-    match packet {
-        Packet::Connect(fields) => has_tag(&fields.tags, "NoText"),
-        Packet::ConnectUpdate(update) => update.tags.is_none() || has_tag(&update.tags, "NoText"),
-        Packet::LocationScouts(scouts) => scouts.create_as_hint == 0,
-        Packet::Sync | Packet::LocationChecks { .. } | Packet::GetDataPackage { .. } => true,
-        _ => false,
-    }
+    !matches!(
+        packet,
+        Packet::Bounce(_) | Packet::Get(_) | Packet::Change(_) | Packet::SetNotify { .. }
+    )
 }
 
 /// Whether an element of a message is built.

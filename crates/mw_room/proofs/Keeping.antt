@@ -2,15 +2,17 @@
 use Rattle.std.proofs.Common.{◌≡◌, ℕ, ◌+◌, ◌==◌, List, [], ◌∷◌, ◌++◌, true, false, Option, Some, None, length, map, take, drop, max, cond, option_map, refl, sym, ap, ap₂, ◌∙◌, arith, length-append}
 use Rattle.std.proofs.lemmas.List.{map-append, drop_all, drop-append-le, length-take}
 use Rattle.mw_protocol.specs.Connecting.{Member}
-use Rattle.mw_protocol.specs.Effects.{Effect, effect_of}
+use Rattle.mw_protocol.specs.Effect.{Effect}
+use Rattle.mw_protocol.specs.Effects.{effect_of}
+use Rattle.mw_protocol.specs.Entering.{parting}
 use Rattle.mw_protocol.specs.Messages.{ServerPacket, room_info}
 use Rattle.mw_protocol.specs.Players.{room_info_of}
 use Rattle.mw_protocol.specs.Rooms as plain
-use Rattle.mw_protocol.specs.Rooms.{Message, Session, Room, Event, IsSound, AllSound, text_of, untaken, greatest, is_full, session_in, member_in, without, taken_among, taken_all, untaken_of, next, taken, effect_in, session_after, new_session, opened, sent, failed, lost}
+use Rattle.mw_protocol.specs.Rooms.{Message, Session, Room, Event, IsSound, AllSound, text_of, untaken, greatest, is_full, session_in, member_in, members_in, or_more, closed, without, taken_among, taken_all, untaken_of, next, taken, effect_in, session_after, new_session, opened, sent, failed, lost}
 use Rattle.mw_protocol.specs.Standing.{Standing, steps, standing}
 use Rattle.mw_room.specs.Known as kept
-use Rattle.mw_room.proofs.Journal.{steps-append}
-use Rattle.mw_room.specs.Known.{Shown, shown, known, shown_after, fresh_session, emptied, member_at, shown_at, texts_at, emptied_among, leaves, known_effect, known_affected, known_next, known_taken}
+use Rattle.mw_laws.proofs.Journal.{steps-append}
+use Rattle.mw_room.specs.Known.{Shown, shown, known, shown_after, fresh_session, emptied, member_at, members_of, shown_at, texts_at, emptied_among, leaves, known_effect, known_affected, known_next, known_taken, Known}
 
 -- ---- one session
 
@@ -70,6 +72,10 @@ pub member_is : (n : ℕ) (ss : List Session) → member_at n (map shown ss) ≡
 member_is n [] = refl
 member_is n (s ∷ ss) =
     elim (s.number == n) as (λ b. cond b s.member (member_at n (map shown ss)) ≡ cond b s.member (member_in ss n)) [ true ↦ refl | false ↦ member_is n ss ]
+
+pub members_are : (ss : List Session) → members_of (map shown ss) ≡ members_in ss
+members_are [] = refl
+members_are (s ∷ ss) = ap (or_more s.member) (members_are ss)
 
 pub texts_are : (n : ℕ) (ss : List Session) → texts_at n (map shown ss) ≡ map text_of (untaken_of (session_in ss n))
 texts_are n [] = refl
@@ -133,7 +139,7 @@ sound_next r (opened time) h =
     (sound_told (room_info (room_info_of r.seed time) ∷ []) (length r.journal) record { number = r.opened + 1; member = None; owed = []; taken = 0; overrun = false } none)
 sound_next r (sent number packet) h = sound_after r number (effect_in r (sent number packet)) h
 sound_next r (failed number bad) h = sound_after r number (effect_in r (failed number bad)) h
-sound_next r (lost number) h = sound_without number r.sessions h
+sound_next r (lost number) h = sound_after (closed r number) number (effect_in r (lost number)) (sound_without number r.sessions h)
 
 pub sound_taken : (r : Room) (n : ℕ) → AllSound r.sessions → AllSound (taken r n).sessions
 sound_taken r n h = sound_among n r.sessions h
@@ -146,9 +152,10 @@ sessions_after f g same (s ∷ ss) h = ap₂ (λ (x : Shown) (xs : List Shown). 
 
 pub effect_is : (r : Room) (e : Event) → known_effect (known r) e ≡ effect_in r e
 effect_is r (opened time) = refl
-effect_is r (sent number packet) = ap (λ (m : Option Member). effect_of r.seed (standing r.seed r.journal) m packet) (member_is number r.sessions)
+effect_is r (sent number packet) =
+    ap₂ (λ (ms : List Member) (m : Option Member). effect_of r.seed (standing r.seed r.journal) ms m packet) (members_are r.sessions) (member_is number r.sessions)
 effect_is r (failed number bad) = refl
-effect_is r (lost number) = refl
+effect_is r (lost number) = ap (parting r.seed) (member_is number r.sessions)
 
 -- what is kept after an effect
 affected_is : (r : Room) (sender : ℕ) (effect : Effect) → AllSound r.sessions → known (plain.affected r sender effect) ≡ known_affected (known r) sender effect
@@ -173,7 +180,10 @@ known_is r (sent number packet) h =
     affected_is r number (effect_in r (sent number packet)) h ∙ ap (known_affected (known r) number) (sym (effect_is r (sent number packet)))
 known_is r (failed number bad) h = affected_is r number (effect_in r (failed number bad)) h
 known_is r (lost number) h =
-    ap (λ (ss : List Shown). record { seed = r.seed; now = standing r.seed r.journal; length = length r.journal; opened = r.opened; sessions = ss }) (sym (leaves_are number r.sessions))
+    affected_is (closed r number) number (effect_in r (lost number)) (sound_without number r.sessions h)
+    ∙ ap₂ (λ (c : Known) (e : Effect). known_affected c number e)
+    (ap (λ (ss : List Shown). record { seed = r.seed; now = standing r.seed r.journal; length = length r.journal; opened = r.opened; sessions = ss }) (sym (leaves_are number r.sessions)))
+    (sym (effect_is r (lost number)))
 
 -- the same for taking
 pub taken_is : (r : Room) (n : ℕ) → known (taken r n) ≡ known_taken (known r) n

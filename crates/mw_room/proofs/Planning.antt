@@ -1,14 +1,15 @@
 -- Plans, from what is kept to every plain room that the code stands for.
-use Rattle.std.proofs.Common.{◌≡◌, ℕ, ◌+◌, List, [], ◌∷◌, ◌++◌, Option, Some, None, option_map, length, map, refl, sym, ap, ap₂, ◌∙◌, arith, append-nil}
+use Rattle.std.proofs.Common.{◌≡◌, ℕ, ◌+◌, List, [], ◌∷◌, ◌++◌, Option, Some, None, option_map, length, map, refl, sym, ap, ap₂, ◌∙◌, arith, append-nil, cond, true, false, ◌==◌}
 use Rattle.std.proofs.lemmas.List.{length-map}
 use Rattle.mw_protocol.specs.Rooms as plain
 use Rattle.mw_protocol.specs.Standing.{Standing, steps}
 use Rattle.mw_records.specs.Records.{record_view}
 use Rattle.mw_records.specs.declared.record.Record.{Record}
-use Rattle.mw_room.specs.Known.{Shown, Known, shown, shown_at, shown_after, greeted, leaves, known_effect, known_affected, known_next}
+use Rattle.mw_room.specs.Known.{Shown, Known, shown, shown_at, told, dropped, with_text, with_member, known_closed, shown_after, greeted, leaves, known_effect, known_affected, known_next}
 use Rattle.mw_room.specs.Stands.{Stands, Plans, IsPlan}
 use Rattle.mw_room.specs.States.{state_of}
-use Rattle.mw_room.specs.Views.{session_view, room_view, planned, made, changed, effect_view, shown_state, IsQuiet}
+use Rattle.mw_room.specs.Views.{session_view, room_view, planned, made, changed, effect_view, shown_state}
+use Rattle.mw_room.specs.Parts.{IsQuiet}
 use Rattle.mw_room.specs.declared.effect.Effect.{Effect}
 use Rattle.mw_room.specs.declared.plan.Plan.{Plan}
 use Rattle.mw_room.specs.declared.room.Room.{Room}
@@ -48,14 +49,37 @@ affected_made k effect after cs ns sender comes none so =
     ap (λ (n : ℕ). record { seed = k.seed; now = steps k.seed k.now (map record_view effect.records); length = n; opened = k.opened + length ns; sessions = changed len k.sessions cs ++ map session_view ns }) count
     ∙ ap₂ (λ (n : ℕ) (ss : List Shown). record { seed = k.seed; now = steps k.seed k.now (map record_view effect.records); length = k.length + length (map record_view effect.records); opened = n; sessions = ss }) opened sessions
 
+-- those that leave leave before or after the others change
+leaves_mapped : (n : ℕ) (f : Shown → Shown) → ((s : Shown) → (f s).number ≡ s.number) → (ss : List Shown) → leaves n (map f ss) ≡ map f (leaves n ss)
+leaves_mapped n f same [] = refl
+leaves_mapped n f same (s ∷ ss) =
+    ap (λ (k : ℕ). cond (k == n) (map f ss) (f s ∷ leaves n (map f ss))) (same s)
+    ∙ elim (s.number == n) as (λ b. cond b (map f ss) (f s ∷ leaves n (map f ss)) ≡ map f (cond b ss (s ∷ leaves n ss))) [
+      | true ↦ refl
+      | false ↦ ap (λ (xs : List Shown). f s ∷ xs) (leaves_mapped n f same ss)
+    ]
+
+told_number : (t : Option (List ℕ)) (len : ℕ) (s : Shown) → (told t len s).number ≡ s.number
+told_number None len s = refl
+told_number (Some text) len s =
+    elim s.overrun as (λ b. (cond b s (cond (plain.is_full s.texts) (dropped s) (with_text text len s))).number ≡ s.number) [
+      | true ↦ refl
+      | false ↦ elim (plain.is_full s.texts) as (λ b. (cond b (dropped s) (with_text text len s)).number ≡ s.number) [ true ↦ refl | false ↦ refl ]
+    ]
+
 -- of a session that ends
-pub lost_made : (k : Known) (effect : Effect) (cs : List Change) (ns : List Session) (number : ℕ) → IsQuiet effect → cs ≡ [] → ns ≡ []
+pub lost_made : (k : Known) (effect : Effect) (after : Standing) (cs : List Change) (ns : List Session) (number : ℕ) → effect_view effect ≡ known_effect k (plain.lost number)
+    → after ≡ steps k.seed k.now (map record_view effect.records) → ns ≡ []
+    → ((len : ℕ) → changed len k.sessions cs ≡ map (shown_after k.seed k.now after (effect_view effect) number len) k.sessions)
     → made k effect cs (Some number) ns ≡ known_next k (plain.lost number)
-lost_made k effect cs ns number quiet calm none =
-    ap₂ (λ (ds : List Change) (xs : List Session). made k effect ds (Some number) xs) calm none
-    ∙ ap (λ (rs : List Record). record { seed = k.seed; now = steps k.seed k.now (map record_view rs); length = k.length + length rs; opened = k.opened + 0; sessions = leaves number (k.sessions ++ []) }) quiet.0
-    ∙ ap (λ (ss : List Shown). record { seed = k.seed; now = k.now; length = k.length + 0; opened = k.opened + 0; sessions = leaves number ss }) (append-nil k.sessions)
-    ∙ ap₂ (λ (n m : ℕ). record { seed = k.seed; now = k.now; length = n; opened = m; sessions = leaves number k.sessions }) (omega arith) (omega arith)
+lost_made k effect after cs ns number is comes none so =
+    let k2 = affected_made k effect after cs ns number comes none so in
+    let len = k.length + length (map record_view effect.records) in
+    let f = shown_after k.seed k.now (steps k.seed k.now (map record_view effect.records)) (effect_view effect) number len in
+    ap (λ (x : Known). record { seed = x.seed; now = x.now; length = x.length; opened = x.opened; sessions = leaves number x.sessions }) k2
+    ∙ ap (λ (ss : List Shown). record { seed = k.seed; now = steps k.seed k.now (map record_view effect.records); length = len; opened = k.opened; sessions = ss })
+    (leaves_mapped number f (λ s. told_number _ len (with_member _ s)) k.sessions)
+    ∙ ap (known_affected (known_closed k number) number) is
 
 -- of a session that is opened
 pub opened_made : (k : Known) (effect : Effect) (cs : List Change) (ns : List Session) (time : ℕ) → IsQuiet effect → cs ≡ []
@@ -65,7 +89,7 @@ opened_made k effect cs ns time quiet calm is =
     let one : length ns ≡ 1 = sym (length-map ns session_view) ∙ ap length is in
     let count : k.length + 0 ≡ k.length = omega arith in
     ap (λ (ds : List Change). made k effect ds None ns) calm
-    ∙ ap (λ (rs : List Record). record { seed = k.seed; now = steps k.seed k.now (map record_view rs); length = k.length + length rs; opened = k.opened + length ns; sessions = k.sessions ++ map session_view ns }) quiet.0
+    ∙ ap (λ (rs : List Record). record { seed = k.seed; now = steps k.seed k.now (map record_view rs); length = k.length + length rs; opened = k.opened + length ns; sessions = k.sessions ++ map session_view ns }) quiet.records
     ∙ ap₂ (λ (n : ℕ) (ss : List Shown). record { seed = k.seed; now = k.now; length = k.length + 0; opened = k.opened + n; sessions = k.sessions ++ ss }) one is
     ∙ ap (λ (n : ℕ). record { seed = k.seed; now = k.now; length = n; opened = k.opened + 1; sessions = k.sessions ++ greeted k time ∷ [] }) count
 

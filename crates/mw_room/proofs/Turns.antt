@@ -1,7 +1,7 @@
 -- What an effect makes of one session.
 use Rattle.std.proofs.Common.{◌≡◌, ℕ, List, Bool, true, false, Option, Some, None, refl, sym, ap, ap₂, ◌∙◌}
 use Rattle.mw_protocol.specs.Connecting.{Member}
-use Rattle.mw_protocol.specs.Effects.{Effect}
+use Rattle.mw_protocol.specs.Effect.{Effect}
 use Rattle.mw_protocol.specs.Rooms.{member_after, or_else}
 use Rattle.mw_room.specs.Known.{Shown, told, with_member}
 use Rattle.mw_room.specs.Views.{session_view, made_for, due_by, IsChange}

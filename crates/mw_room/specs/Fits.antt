@@ -2,7 +2,8 @@
 use Rattle.std.specs.Prelude.{ℕ, ◌<◌, ◌≤◌, ◌+◌, ◌^◌, ◌∷◌, [], List, length, get_or, vec_len}
 use Rattle.mw_base.specs.Space.{HasSpace}
 use Rattle.mw_checks.specs.Log.{HasRoom}
-use Rattle.mw_room.specs.Views.{IsLogged}
+use Rattle.mw_hints.specs.Room.{HasRoom as HasHintRoom}
+use Rattle.mw_room.specs.Parts.{IsLogged}
 use Rattle.mw_room.specs.declared.plan.Plan.{Plan}
 use Rattle.mw_room.specs.declared.room.Room.{Room}
 use Rattle.mw_room.specs.declared.session.Change.{Change}
@@ -13,10 +14,12 @@ abbrev pub ChangesFit : ℕ → List Session → List Change → Type 0
 ChangesFit from ss [] = Unit {0}
 ChangesFit from ss (c ∷ cs) = (from ≤ c.at) × (c.at < length ss) × ((d : Session) → HasSpace (get_or ss c.at d).untaken c.growth 1) × ChangesFit (c.at + 1) ss cs
 
--- it has the memory that it needs, and its new entries are its records' checks
+-- it has the memory that it needs, and its parts are what its records come to
 pub record Fits (room : Room) (plan : Plan) : Type 0 where
-  pub log : HasRoom room.log plan.log_growth (length plan.effect.new)
+  pub log : HasRoom room.standing.log plan.log_growth (length plan.effect.new)
+  pub hints : HasHintRoom room.standing.hints plan.hint_growth (length plan.effect.hints)
+  pub statuses : HasSpace room.standing.statuses plan.status_growth 1
   pub sessions : HasSpace room.sessions plan.sessions_growth (vec_len plan.new_sessions)
   pub changes : ChangesFit 0 room.sessions.items plan.changes.items
   pub opened : plan.opened < 2 ^ 63
-  pub logged : IsLogged room.log plan.effect
+  pub logged : IsLogged room.standing plan.effect

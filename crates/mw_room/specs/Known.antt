@@ -2,7 +2,9 @@
 use Rattle.std.specs.Prelude.{ℕ, ◌+◌, ◌==◌, ◌++◌, ◌∷◌, [], List, Bool, true, false, Option, Some, None, map, length, max, if◌then◌else◌}
 use Rattle.mw_model.specs.Seed.{Seed}
 use Rattle.mw_protocol.specs.Connecting.{Member}
-use Rattle.mw_protocol.specs.Effects.{Effect, nothing, effect_of, bad_effect}
+use Rattle.mw_protocol.specs.Effect.{Effect, nothing}
+use Rattle.mw_protocol.specs.Effects.{effect_of, bad_effect}
+use Rattle.mw_protocol.specs.Entering.{parting}
 use Rattle.mw_protocol.specs.Messages.{ServerPacket, room_info, message_text}
 use Rattle.mw_protocol.specs.Owed.{owed}
 use Rattle.mw_protocol.specs.Players.{room_info_of}
@@ -85,6 +87,11 @@ abbrev pub member_at : ℕ → List Shown → Option Member
 member_at number [] = None
 member_at number (s ∷ ss) = if s.number == number then s.member else member_at number ss
 
+-- those of the sessions that play a slot
+abbrev pub members_of : List Shown → List Member
+members_of [] = []
+members_of (s ∷ ss) = plain.or_more s.member (members_of ss)
+
 abbrev pub shown_at : ℕ → List Shown → Option Shown
 shown_at number [] = None
 shown_at number (s ∷ ss) = if s.number == number then Some s else shown_at number ss
@@ -105,9 +112,9 @@ leaves number (s ∷ ss) = if s.number == number then ss else s ∷ leaves numbe
 
 abbrev pub known_effect : Known → plain.Event → Effect
 known_effect k (plain.opened time) = nothing
-known_effect k (plain.sent number packet) = effect_of k.seed k.now (member_at number k.sessions) packet
+known_effect k (plain.sent number packet) = effect_of k.seed k.now (members_of k.sessions) (member_at number k.sessions) packet
 known_effect k (plain.failed number bad) = bad_effect bad
-known_effect k (plain.lost number) = nothing
+known_effect k (plain.lost number) = parting k.seed (member_at number k.sessions)
 
 -- after an effect of the sender's
 abbrev pub known_affected : Known → ℕ → Effect → Known
@@ -119,11 +126,15 @@ known_affected k sender effect = record {
   sessions = map (shown_after k.seed k.now (steps k.seed k.now effect.records) effect sender (k.length + length effect.records)) k.sessions;
 }
 
+-- a session has ended
+abbrev pub known_closed : Known → ℕ → Known
+known_closed k number = record { seed = k.seed; now = k.now; length = k.length; opened = k.opened; sessions = leaves number k.sessions }
+
 abbrev pub known_next : Known → plain.Event → Known
 known_next k (plain.opened time) = record { seed = k.seed; now = k.now; length = k.length; opened = k.opened + 1; sessions = k.sessions ++ greeted k time ∷ [] }
 known_next k (plain.sent number packet) = known_affected k number (known_effect k (plain.sent number packet))
 known_next k (plain.failed number bad) = known_affected k number (known_effect k (plain.failed number bad))
-known_next k (plain.lost number) = record { seed = k.seed; now = k.now; length = k.length; opened = k.opened; sessions = leaves number k.sessions }
+known_next k (plain.lost number) = known_affected (known_closed k number) number (known_effect k (plain.lost number))
 
 abbrev pub known_taken : Known → ℕ → Known
 known_taken k number = record { seed = k.seed; now = k.now; length = k.length; opened = k.opened; sessions = emptied_among number k.sessions }

@@ -1,11 +1,15 @@
+pub mod Answered
 pub mod Counted
 pub mod Events
 pub mod Fits
+pub mod Given
+pub mod Hinting
 pub mod Joining
 pub mod Known
-pub mod Laws
 pub mod News
+pub mod Parts
 pub mod Playable
 pub mod Stands
 pub mod States
 pub mod Views
+pub mod Written

@@ -2,7 +2,8 @@
 use Rattle.std.specs.Prelude.{◌≡◌, ℕ, zero, suc, ◌+◌, ◌==◌, ◌++◌, ◌∷◌, [], List, Bool, Option, Some, None, map, length, if◌then◌else◌}
 use Rattle.mw_base.specs.Space.{HasSpace}
 use Rattle.mw_protocol.specs.Connecting.{Member}
-use Rattle.mw_protocol.specs.Effects as plain_effects
+use Rattle.mw_protocol.specs.Effect as plain_effects
+use Rattle.mw_protocol.specs.Heard as heard
 use Rattle.mw_protocol.specs.Owed.{owed}
 use Rattle.mw_protocol.specs.Records as recorded
 use Rattle.mw_protocol.specs.Rooms as plain
@@ -10,11 +11,12 @@ use Rattle.mw_protocol.specs.Standing.{steps}
 use Rattle.mw_packets_out.specs.View as told_by
 use Rattle.mw_records.specs.Records.{record_view}
 use Rattle.mw_room.specs.Known.{Shown, Known, message_of, shown_after, told, with_member, leaves}
-use Rattle.mw_checks.specs.Log.{Log, AreFresh, checks_of}
-use Rattle.mw_protocol.specs.Checks.{Check}
-use Rattle.mw_room.specs.News.{grown}
-use Rattle.mw_checks.specs.Log.{standing_of}
+use Rattle.mw_room.specs.Parts.{IsLogged, grown, standing_of}
+use Rattle.mw_room.specs.declared.effect.Announced.{Announced}
+use Rattle.mw_room.specs.declared.effect.Audience.{Audience}
+use Rattle.mw_room.specs.declared.effect.Audience.TheVariants.{Team, Slots, Sender}
 use Rattle.mw_room.specs.declared.effect.Effect.{Effect}
+use Rattle.mw_room.specs.declared.standing.Standing.{Standing}
 use Rattle.mw_room.specs.declared.plan.Plan.{Plan}
 use Rattle.mw_room.specs.declared.room.Room.{Room}
 use Rattle.mw_room.specs.declared.session.Change.{Change}
@@ -26,7 +28,7 @@ abbrev pub session_view : Session → Shown
 session_view s = record { number = s.number; member = s.member; texts = s.untaken.items; shows = s.shows; overrun = s.overrun }
 
 abbrev pub room_view : Room → Known
-room_view r = record { seed = r.log.seed; now = standing_of r.log; length = r.recorded; opened = r.opened; sessions = map session_view r.sessions.items }
+room_view r = record { seed = r.standing.log.seed; now = standing_of r.standing; length = r.recorded; opened = r.opened; sessions = map session_view r.sessions.items }
 
 -- how a session stands, if it is open
 abbrev pub shown_state : Option Shown → SessionState
@@ -75,34 +77,35 @@ due_by made text length s = told text length (with_member (plain.or_else made s.
 abbrev pub made_for : plain_effects.Effect → Bool → Option Member
 made_for effect sends = if sends then effect.member else None
 
-abbrev pub effect_view : Effect → plain_effects.Effect
-effect_view e = record { records = map record_view e.records; answers = map told_by.packet_view e.answers; whole = e.whole; member = e.member }
+abbrev pub audience_view : Audience → heard.Audience
+audience_view (Team team) = heard.team_hears team
+audience_view (Slots team finder receiver) = heard.slots_hear team finder receiver
+audience_view Sender = heard.sender_hears
 
--- the checks that its records come to
-abbrev pub news_of : Effect → List Check
-news_of effect = checks_of effect.team effect.new
+abbrev pub announced_view : Announced → heard.Announced
+announced_view a = record { audience = audience_view a.audience; print = told_by.packet_view a.print }
+
+abbrev pub effect_view : Effect → plain_effects.Effect
+effect_view e = record {
+  records = map record_view e.records;
+  answers = map told_by.packet_view e.answers;
+  whole = e.whole;
+  member = e.member;
+  prints = map announced_view e.prints;
+}
 
 -- the text that an effect of the sender's, or of another's, owes a session which is this member after it
-abbrev pub due_text : Log → Effect → Bool → Option Member → Option (List ℕ)
-due_text log e sends member = message_of (owed log.seed (standing_of log) (grown log (news_of e)) (effect_view e) sends member)
+abbrev pub due_text : Standing → Effect → Bool → Option Member → Option (List ℕ)
+due_text s e sends member = message_of (owed s.log.seed (standing_of s) (grown s e) (effect_view e) sends member)
 
 -- a session after an effect of the sender's, at a length of the journal
-abbrev pub due_after : Log → Effect → ℕ → ℕ → Shown → Shown
-due_after log e sender length s = shown_after log.seed (standing_of log) (grown log (news_of e)) (effect_view e) sender length s
-
--- it records nothing
-abbrev pub IsQuiet : Effect → Type 0
-IsQuiet effect = (effect.records ≡ []) × (effect.new ≡ [])
-
--- its new checks are locations that aren't checked, and what its records come to
-pub record IsLogged (log : Log) (effect : Effect) : Type 0 where
-  pub fresh : AreFresh log.seed log.checked effect.team effect.new
-  pub comes_to : grown log (news_of effect) ≡ steps log.seed (standing_of log) (map record_view effect.records)
+abbrev pub due_after : Standing → Effect → ℕ → ℕ → Shown → Shown
+due_after now e sender length s = shown_after now.log.seed (standing_of now) (grown now e) (effect_view e) sender length s
 
 -- the effect is what is due, and is logged
-pub record IsEffect (effect : Effect) (log : Log) (due : plain_effects.Effect) : Type 0 where
+pub record IsEffect (effect : Effect) (now : Standing) (due : plain_effects.Effect) : Type 0 where
   pub is : effect_view effect ≡ due
-  pub logged : IsLogged log effect
+  pub logged : IsLogged now effect
 
 abbrev pub plan_records : Plan → List recorded.Record
 plan_records plan = map record_view plan.effect.records

@@ -1,5 +1,4 @@
 ghost use Rattle.std.specs.Prelude.{◌≡◌, ◌+◌, ◌++◌, ◌∷◌, [], IfOk, map, length};
-ghost use Rattle.mw_protocol.specs.Effects.{Effect as plain_effect};
 ghost use Rattle.mw_protocol.specs.Rooms as plain;
 ghost use Rattle.mw_packets_in.specs.View.{packet_view, bad_view};
 ghost use Rattle.mw_room.specs.Fits.{Fits, ChangesFit};
@@ -7,20 +6,23 @@ ghost use Rattle.mw_room.specs.Known.{Known, greeted, texts_at, known_affected, 
 ghost use Rattle.mw_room.specs.Stands.{Stands, Plans, IsPlan};
 ghost use Rattle.mw_room.specs.Events.{event_view};
 ghost use Rattle.mw_room.specs.States.{state_of};
-ghost use Rattle.mw_room.specs.Views.{room_view, session_view, effect_view, planned, plan_records, made, IsLogged};
+ghost use Rattle.mw_room.specs.Parts.{IsLogged};
+ghost use Rattle.mw_room.specs.Views.{room_view, session_view, effect_view, planned, plan_records, made};
 
 use crate::changes::changes_for;
-use crate::effect::Effect;
+use crate::effect::{Effect, nothing};
+use crate::entering::parting;
 use crate::event::Event;
-use crate::packets::{bad_effect, effect_of, nothing};
+use crate::packets::{bad_effect, effect_of};
 use crate::people::room_info;
 use crate::plan::Plan;
 use crate::room::Room;
 use crate::session::{Change, Session, more_bytes};
 use crate::sessions::{change_all, close_lost, member_of, state_in, take_texts};
+use crate::standing::Standing;
 use crate::state::SessionState;
+use crate::status::set_status;
 use mw_base::{Growth, List, Memory, SessionId, Text};
-use mw_checks::CheckLog;
 use mw_multidata::RoomTables;
 use mw_packets_in::{Bad, Packet};
 use mw_packets_out::{ServerPacket, write_message};
@@ -54,7 +56,7 @@ impl Room {
     {
         Ok(Room {
             alloc,
-            log: CheckLog::new(alloc, tables)?,
+            standing: Standing::new(alloc, tables)?,
             recorded: 0,
             opened: 0,
             sessions: Vec::new(alloc),
@@ -90,11 +92,7 @@ impl Room {
     {
         let alloc = self.alloc;
         let mut packets = List::new(alloc);
-        packets.push(ServerPacket::RoomInfo(room_info(
-            alloc,
-            self.log.tables().multidata(),
-            time,
-        )?))?;
+        packets.push(ServerPacket::RoomInfo(room_info(alloc, self.standing.seed(), time)?))?;
         let text = write_message(alloc, &packets)?;
         Ok(Session {
             number,
@@ -123,7 +121,7 @@ impl Room {
             (packet_view packet.now))) }
     {
         let member = member_of(&self.sessions, sender);
-        let effect = effect_of(self.alloc, &self.log, member, packet)?;
+        let effect = effect_of(self.alloc, &self.standing, &self.sessions, member, packet)?;
         let plan = self.plan_effect(sender, effect)?;
         Ok(plan)
     }
@@ -143,25 +141,23 @@ impl Room {
         ensures known { IfOk result (λ p. IsPlan p (room_view self.now) (plain.lost number)) }
     {
         let alloc = self.alloc;
-        let plan = self.finish(
-            nothing(alloc),
-            Vec::new(alloc),
-            Some(number),
-            Vec::new(alloc),
-        )?;
+        let member = member_of(&self.sessions, number);
+        let effect = parting(alloc, self.standing.log.tables(), member)?;
+        let changes = changes_for(alloc, &self.standing, &effect, number, &self.sessions)?;
+        let plan = self.finish(effect, changes, Some(number), Vec::new(alloc))?;
         Ok(plan)
     }
 
     /// The plan of a sender's effect.
     fn plan_effect(&self, sender: u64, effect: Effect) -> Result<Plan, Memory>
-        requires { IsLogged self.now.log effect }
+        requires { IsLogged self.now.standing effect }
         ensures fits { IfOk result (λ p. Fits self.now p) }
         ensures records { IfOk result (λ p. plan_records p ≡ (effect_view effect).records) }
         ensures after { IfOk result (λ p. planned p (room_view self.now)
             ≡ known_affected (room_view self.now) sender (effect_view effect)) }
     {
         let alloc = self.alloc;
-        let changes = changes_for(alloc, &self.log, &effect, sender, &self.sessions)?;
+        let changes = changes_for(alloc, &self.standing, &effect, sender, &self.sessions)?;
         let plan = self.finish(effect, changes, None, Vec::new(alloc))?;
         Ok(plan)
     }
@@ -175,7 +171,7 @@ impl Room {
         new_sessions: Vec<Session>,
     ) -> Result<Plan, Memory>
         requires fit { ChangesFit 0 self.now.sessions.items changes.items }
-        requires logged { IsLogged self.now.log effect }
+        requires logged { IsLogged self.now.standing effect }
         ensures fits { IfOk result (λ p. Fits self.now p) }
         ensures records { IfOk result (λ p. plan_records p ≡ (effect_view effect).records) }
         ensures made { IfOk result (λ p. planned p (room_view self.now)
@@ -193,7 +189,9 @@ impl Room {
         if opened >= MOST_OPENED {
             return Err(Memory);
         }
-        let log_growth = self.log.room_for(effect.new.len() as u64)?;
+        let log_growth = self.standing.log.room_for(effect.new.len() as u64)?;
+        let hint_growth = self.standing.hints.room_for(effect.hints.len() as u64)?;
+        let status_growth = Growth::of(alloc, &self.standing.statuses, 1)?;
         let sessions_growth = Growth::of(alloc, &self.sessions, new_sessions.len())?;
         Ok(Plan {
             effect,
@@ -203,6 +201,8 @@ impl Room {
             lost,
             new_sessions,
             log_growth,
+            hint_growth,
+            status_growth,
             sessions_growth,
         })
     }
@@ -228,10 +228,22 @@ impl Room {
             lost,
             mut new_sessions,
             log_growth,
+            hint_growth,
+            status_growth,
             sessions_growth,
         } = plan;
-        let Effect { team, new, .. } = effect;
-        self.log.add_grown(team, new.as_slice(), log_growth);
+        let Effect {
+            team,
+            new,
+            status,
+            hints,
+            ..
+        } = effect;
+        self.standing
+            .log
+            .add_grown(team, new.as_slice(), log_growth);
+        self.standing.hints.add_grown(hints.as_slice(), hint_growth);
+        set_status(&mut self.standing.statuses, status, status_growth);
         self.recorded = length;
         self.opened = opened;
         change_all(&mut self.sessions, changes, length);

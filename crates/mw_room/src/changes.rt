@@ -1,35 +1,39 @@
-ghost use Rattle.std.specs.Prelude.{◌≡◌, ◌++◌, ◌&&◌, ◌==◌, ◌<◌, ◌^◌, ◌+◌, ℕ, IfOk, OnOk, option_to_list, map, length};
+ghost use Rattle.std.specs.Prelude.{◌≡◌, ◌++◌, ◌&&◌, ◌==◌, ◌<◌, ◌^◌, ◌+◌, ℕ, IfOk, List, OnOk, option_to_list, map, length};
+ghost use Rattle.mw_protocol.specs.Messages.{ServerPacket as Told, packet_text};
 ghost use Rattle.mw_protocol.specs.Owed.{owed, answers_to as answers_to_lem};
 ghost use Rattle.mw_protocol.specs.Rooms.{member_after as member_after_lem};
 ghost use Rattle.mw_packets_out.specs.View.{packet_view};
 ghost use Rattle.mw_room.specs.Fits.{ChangesFit};
 ghost use Rattle.mw_room.specs.Known.{shown_after, message_of};
-ghost use Rattle.mw_room.specs.News.{grown};
-ghost use Rattle.mw_checks.specs.Log.{standing_of};
-ghost use Rattle.mw_room.specs.Views.{session_view, changed, due_after, due_text, effect_view, made_for, due_by, IsChange, IsLogged};
+ghost use Rattle.mw_room.specs.Parts.{IsLogged};
+ghost use Rattle.mw_room.specs.Written.{AreWritten};
+ghost use Rattle.mw_room.specs.Views.{session_view, changed, due_after, due_text, effect_view, made_for, due_by, IsChange};
 
 use crate::effect::Effect;
+use crate::hearing::{heard_texts, print_texts};
 use crate::member::Member;
 use crate::owed::growth_owed;
 use crate::session::{Change, Session};
+use crate::standing::Standing;
 use mw_base::{Growth, Memory, Text};
-use mw_checks::CheckLog;
-use mw_packets_out::{ServerPacket, write_both};
+use mw_packets_out::{ServerPacket, write_with};
 use std::alloc::Global;
 
-/// The text of a message of these packets and those, where there are some.
+/// The text of a message of these packets, those, and the prints that were written, where there
+/// are some.
 pub fn message_text(
     alloc: Global,
     answers: &[ServerPacket],
     others: &[ServerPacket],
+    prints: &[&str],
 ) -> Result<Option<Text>, Memory>
-    ensures { IfOk result (λ t. t
-        ≡ message_of (map packet_view answers.now ++ map packet_view others.now)) }
+    ensures { IfOk result (λ t. (ps : List Told) → map packet_text ps ≡ map (λ p. p.now) prints.now
+        → t ≡ message_of (map packet_view answers.now ++ map packet_view others.now ++ ps)) }
 {
-    if answers.len() == 0 && others.len() == 0 {
+    if answers.len() == 0 && others.len() == 0 && prints.len() == 0 {
         return Ok(None);
     }
-    Ok(Some(write_both(alloc, answers, others)?))
+    Ok(Some(write_with(alloc, answers, others, prints)?))
 }
 
 /// The answers to the sender, where this is the sender.
@@ -46,17 +50,21 @@ fn answers_to(effect: &Effect, sends: bool) -> &[ServerPacket]
 /// The text of what a session is owed, where it is owed something.
 fn owed_text(
     alloc: Global,
-    log: &CheckLog,
+    standing: &Standing,
     effect: &Effect,
+    texts: &[Text],
     sends: bool,
     member: &Option<Member>,
 ) -> Result<Option<Text>, Memory>
-    requires { IsLogged log.now effect.now }
-    ensures { IfOk result (λ t. t ≡ due_text log.now effect.now sends member.now) }
+    requires logged { IsLogged standing.now effect.now }
+    requires written { AreWritten texts.now effect.now.prints }
+    ensures { IfOk result (λ t. t ≡ due_text standing.now effect.now sends member.now) }
 {
     let whole = effect.whole & sends;
-    let others = growth_owed(alloc, log, effect, whole, member)?;
-    message_text(alloc, answers_to(effect, sends), others.as_slice())
+    let others = growth_owed(alloc, standing, effect, whole, member)?;
+    let prints = heard_texts(alloc, effect.prints.as_slice(), texts, sends, member)?;
+    let text = message_text(alloc, answers_to(effect, sends), others.as_slice(), &prints)?;
+    Ok(text)
 }
 
 /// The member that a session is after an effect.
@@ -105,18 +113,21 @@ fn change_by(
 /// The change that an effect of the sender's makes to the session at an index, if it makes one.
 fn change_of(
     alloc: Global,
-    log: &CheckLog,
+    standing: &Standing,
     effect: &Effect,
+    texts: &[Text],
     sender: u64,
     at: usize,
     session: &Session,
 ) -> Result<Option<Change>, Memory>
-    requires { IsLogged log.now effect.now }
-    ensures { IfOk result (λ o. IsChange o at (due_after log.now effect.now sender) session.now) }
+    requires logged { IsLogged standing.now effect.now }
+    requires written { AreWritten texts.now effect.now.prints }
+    ensures { IfOk result (λ o. IsChange o at
+        (due_after standing.now effect.now sender) session.now) }
 {
     let sends = session.number == sender;
     let member = member_after(effect, sends, session);
-    let text = owed_text(alloc, log, effect, sends, member)?;
+    let text = owed_text(alloc, standing, effect, texts, sends, member)?;
     let made = made_of(alloc, effect, sends)?;
     let change = change_by(alloc, at, made, text, session)?;
     Ok(change)
@@ -135,20 +146,22 @@ fn push_change(changes: &mut Vec<Change>, change: Option<Change>) -> Result<(), 
 /// The changes that an effect of the sender's makes to the sessions.
 pub fn changes_for(
     alloc: Global,
-    log: &CheckLog,
+    standing: &Standing,
     effect: &Effect,
     sender: u64,
     sessions: &[Session],
 ) -> Result<Vec<Change>, Memory>
-    requires { IsLogged log.now effect.now }
+    requires { IsLogged standing.now effect.now }
     ensures changes { IfOk result (λ cs. (length : ℕ)
         → changed length (map session_view sessions.now) cs.items
-        ≡ map (due_after log.now effect.now sender length) (map session_view sessions.now)) }
+        ≡ map (due_after standing.now effect.now sender length)
+        (map session_view sessions.now)) }
     ensures fit { IfOk result (λ cs. ChangesFit 0 sessions.now cs.items) }
 {
+    let texts = print_texts(alloc, effect.prints.as_slice())?;
     let mut changes = Vec::new(alloc);
     for (at, session) in sessions.iter().enumerate() {
-        let change = change_of(alloc, log, effect, sender, at, session)?;
+        let change = change_of(alloc, standing, effect, &texts, sender, at, session)?;
         push_change(&mut changes, change)?;
     }
     Ok(changes)

@@ -1,17 +1,30 @@
 ghost use Rattle.std.specs.Prelude.{◌≡◌, ◌++◌, IfOk, OnOk};
 ghost use Rattle.mw_checks.specs.Log.{checks_of};
-ghost use Rattle.mw_protocol.specs.Checks.{locations_in};
+ghost use Rattle.mw_protocol.specs.Checks.{found_item as found_item_lem, locations_in};
 ghost use Rattle.mw_room.specs.News.{items_for};
-ghost use Rattle.mw_room.specs.Views.{news_of};
+ghost use Rattle.mw_room.specs.Parts.{news_of};
 
 use crate::effect::Effect;
 use crate::member::Member;
 use mw_base::{List, LocId, Memory, NetItem, SlotId, TeamId};
 use mw_checks::CheckLog;
+use mw_multidata::Held;
 use std::alloc::Global;
 
 /// A location with its slot.
 pub type Pair = (SlotId, LocId);
+
+/// What was found at a location, with its finder as player.
+pub fn found_item(held: &Held) -> NetItem
+    ensures { result ≡ found_item_lem held.now }
+{
+    NetItem {
+        item: held.item.get(),
+        location: held.location.get(),
+        player: held.slot.get(),
+        flags: held.flags,
+    }
+}
 
 /// The items that an effect's new checks give a member, as its mask keeps them.
 #[tactic(auto, using(crate::proofs::Grown::others_get_nothing))]

@@ -1,59 +1,76 @@
-ghost use Rattle.std.specs.Prelude.{◌≡◌, ◌+◌, ◌*◌, ◌++◌, IfOk, OnOk, map, length};
+ghost use Rattle.std.specs.Prelude.{◌≡◌, ◌+◌, ◌++◌, IfOk, OnOk, map, length};
 ghost use Rattle.mw_checks.specs.Log.{checks_of};
 ghost use Rattle.mw_protocol.specs.Checks.{locations_in};
 ghost use Rattle.mw_protocol.specs.Owed.{items_from, update_with, growth_owed as growth_owed_lem};
 ghost use Rattle.mw_protocol.specs.Standing.{points};
 ghost use Rattle.mw_packets_out.specs.View.{packet_view};
-ghost use Rattle.mw_room.specs.News.{items_for, view_for, received_in, growth_in, grown};
-ghost use Rattle.mw_checks.specs.Log.{standing_of};
-ghost use Rattle.mw_room.specs.Views.{news_of};
+ghost use Rattle.mw_room.specs.News.{items_for, view_for, received_in, growth_in, points_before, points_after};
+ghost use Rattle.mw_room.specs.Parts.{standing_of, grown, news_of, paid_by, IsLogged};
 
 use crate::effect::Effect;
 use crate::member::Member;
 use crate::news::{add_locations, items_for_member};
+use crate::standing::Standing;
 use mw_base::{List, Memory, NetItem};
 use mw_checks::CheckLog;
 use mw_packets_out::ServerPacket;
 use std::alloc::Global;
 
-/// What so many checked locations are worth; want of memory where that passes 64 bits, which no
-/// list of checks that comes does.
-fn worth(log: &CheckLog, count: u64) -> Result<u64, Memory>
-    ensures { IfOk result (λ p. p ≡ log.now.seed.server.location_check_points * count) }
-{
-    let server = &log.tables().multidata().server;
-    u64::from(server.location_check_points)
-        .checked_mul(count)
-        .ok_or(Memory)
-}
-
 /// The points of the member's slot.
-pub fn points_of(log: &CheckLog, member: &Member) -> Result<u64, Memory>
-    ensures { IfOk result (λ p. p
-        ≡ points log.now.seed (standing_of log.now) member.now.team member.now.slot) }
+#[tactic(auto, using(crate::proofs::Grown::points_now))]
+pub fn points_of(standing: &Standing, member: &Member) -> Result<u64, Memory>
+    ensures { IfOk result (λ p. p ≡ points_before standing.now member.now) }
 {
-    worth(log, log.checked_len(member.team, member.slot))
-}
-
-/// The points of the member's slot with so many checks more.
-fn points_with(log: &CheckLog, more: usize, member: &Member) -> Result<u64, Memory>
-    ensures { IfOk result (λ p. p ≡ log.now.seed.server.location_check_points
-        * (length (locations_in member.now.team member.now.slot log.now.checked) + more)) }
-{
+    let log = &standing.log;
     let count = log.checked_len(member.team, member.slot);
-    worth(log, count.checked_add(more as u64).ok_or(Memory)?)
+    standing
+        .hints
+        .points_once(member.team, member.slot, count, 0, log)
 }
 
-/// New locations with the points after them, where there are some.
+/// How many hints more the member's slot has paid for.
+fn paid_by(effect: &Effect, member: &Member) -> u64
+    ensures { result ≡ paid_by effect.now member.now.team member.now.slot }
+{
+    match effect.payer {
+        Some(payer) if effect.team == member.team && payer == member.slot => 1,
+        _ => 0,
+    }
+}
+
+/// The points of the member's slot with so many checks more, once the effect's hint is paid.
+#[tactic(auto, using(crate::proofs::Grown::points_then))]
+fn points_with(
+    standing: &Standing,
+    effect: &Effect,
+    more: usize,
+    member: &Member,
+) -> Result<u64, Memory>
+    requires logged { IsLogged standing.now effect.now }
+    requires more { more ≡ length (locations_in member.now.team member.now.slot
+        (news_of effect.now)) }
+    ensures { IfOk result (λ p. p ≡ points_after standing.now effect.now member.now) }
+{
+    let log = &standing.log;
+    let count = log.checked_len(member.team, member.slot);
+    let count = count.checked_add(more as u64).ok_or(Memory)?;
+    let paid = paid_by(effect, member);
+    standing
+        .hints
+        .points_once(member.team, member.slot, count, paid, log)
+}
+
+/// New locations with the points after them, where there are some or the points were others.
 fn push_update(
     packets: &mut List<ServerPacket>,
-    checked_locations: List<i64>,
+    before: u64,
     hint_points: u64,
+    checked_locations: List<i64>,
 ) -> Result<(), Memory>
     ensures { OnOk result (map packet_view packets.new
-        ≡ map packet_view packets.old ++ update_with hint_points checked_locations) }
+        ≡ map packet_view packets.old ++ update_with before hint_points checked_locations) }
 {
-    if checked_locations.len() > 0 {
+    if checked_locations.len() > 0 || before != hint_points {
         packets.push(ServerPacket::RoomUpdate {
             checked_locations,
             hint_points,
@@ -62,24 +79,25 @@ fn push_update(
     Ok(())
 }
 
-/// The new locations of the member's slot, where there are some.
-#[tactic(auto, using(crate::proofs::Grown::points_grown))]
+/// The new locations of the member's slot and its points, where it has new ones or other points.
 fn add_update(
     alloc: Global,
     packets: &mut List<ServerPacket>,
-    log: &CheckLog,
+    standing: &Standing,
     effect: &Effect,
     member: &Member,
 ) -> Result<(), Memory>
+    requires { IsLogged standing.now effect.now }
     ensures { OnOk result (map packet_view packets.new ≡ map packet_view packets.old
-        ++ update_with (points log.now.seed (grown log.now
-        (news_of effect.now)) member.now.team member.now.slot)
+        ++ update_with (points_before standing.now member.now)
+        (points_after standing.now effect.now member.now)
         (locations_in member.now.team member.now.slot (news_of effect.now))) }
 {
     let mut locations = List::new(alloc);
     add_locations(&mut locations, effect.team, effect.new.as_slice(), member)?;
-    let points = points_with(log, locations.len(), member)?;
-    push_update(packets, locations, points)?;
+    let before = points_of(standing, member)?;
+    let after = points_with(standing, effect, locations.len(), member)?;
+    push_update(packets, before, after, locations)?;
     Ok(())
 }
 
@@ -163,38 +181,40 @@ fn add_items_owed(
     add_new_items(alloc, packets, log, effect, member)
 }
 
-/// What a member is owed where the log grew, beside the answer to its own packet.
+/// What a member is owed once an effect is done, beside the answer to its own packet and prints.
 fn growth_of(
     alloc: Global,
-    log: &CheckLog,
+    standing: &Standing,
     effect: &Effect,
     whole: bool,
     member: &Member,
 ) -> Result<List<ServerPacket>, Memory>
+    requires { IsLogged standing.now effect.now }
     ensures { IfOk result (λ ps. map packet_view ps
-        ≡ growth_in whole log.now member.now (news_of effect.now)) }
+        ≡ growth_in whole standing.now effect.now member.now) }
 {
     let mut packets = List::new(alloc);
-    add_update(alloc, &mut packets, log, effect, member)?;
-    add_items_owed(alloc, &mut packets, log, effect, whole, member)?;
+    add_update(alloc, &mut packets, standing, effect, member)?;
+    add_items_owed(alloc, &mut packets, &standing.log, effect, whole, member)?;
     Ok(packets)
 }
 
-/// What a session is owed where the log grew, beside the answer to its own packet.
+/// What a session is owed once an effect is done, beside the answer to its own packet and prints.
 #[tactic(auto, using(crate::proofs::Grown::growth_is))]
 pub fn growth_owed(
     alloc: Global,
-    log: &CheckLog,
+    standing: &Standing,
     effect: &Effect,
     whole: bool,
     member: &Option<Member>,
 ) -> Result<List<ServerPacket>, Memory>
+    requires { IsLogged standing.now effect.now }
     ensures { IfOk result (λ ps. map packet_view ps
-        ≡ growth_owed_lem whole log.now.seed (standing_of log.now) (grown log.now
-        (news_of effect.now)) member.now) }
+        ≡ growth_owed_lem whole standing.now.log.seed (standing_of standing.now)
+        (grown standing.now effect.now) member.now) }
 {
     match member {
-        Some(member) => growth_of(alloc, log, effect, whole, member),
+        Some(member) => growth_of(alloc, standing, effect, whole, member),
         None => Ok(List::new(alloc)),
     }
 }

@@ -3,14 +3,14 @@ ghost use Rattle.mw_model.specs.Games.{checksum_of};
 ghost use Rattle.mw_protocol.specs.Players.{games_played as games_played_lem, room_info_of, connected_of, name_in as name_in_lem, team_players, players_of as players_of_lem, slot_infos as slot_infos_lem};
 ghost use Rattle.mw_protocol.specs.Standing.{is_checked};
 ghost use Rattle.mw_protocol.specs.Asked.{locations_among};
-ghost use Rattle.mw_checks.specs.Log.{standing_of};
+ghost use Rattle.mw_room.specs.Parts.{standing_of};
 ghost use Rattle.mw_room.specs.Playable.{IsPlayable};
 
 use crate::member::Member;
 use crate::owed::points_of;
 use crate::playable::playable;
+use crate::standing::Standing;
 use mw_base::{List, Memory, SlotId, TeamId, Text};
-use mw_checks::CheckLog;
 use mw_datapack::{checksum_of_game, is_played};
 use mw_multidata::{Game, Held, Multidata, Slot};
 use mw_packets_out::{Connected, GameSum, NetworkPlayer, NetworkSlot, RoomInfo};
@@ -123,18 +123,21 @@ fn slot_infos(alloc: Global, team: u8, slots: &[Slot]) -> Result<List<NetworkSlo
 fn missing_locations(
     alloc: Global,
     locations: &[Held],
-    log: &CheckLog,
+    standing: &Standing,
     member: &Member,
 ) -> Result<List<i64>, Memory>
     ensures { IfOk result (λ ls. ls
-        ≡ filter (λ l. not (is_checked (standing_of log.now) member.now.team member.now.slot l))
-        (locations_among member.now.slot locations.now)) }
+        ≡ filter (λ l. not (is_checked (standing_of standing.now)
+        member.now.team member.now.slot l)) (locations_among member.now.slot locations.now)) }
 {
     let mut found = List::new(alloc);
     for held in locations {
         if held.slot == member.slot {
             let number = held.location.get();
-            if !log.is_checked(member.team, member.slot, held.location) {
+            if !standing
+                .log
+                .is_checked(member.team, member.slot, held.location)
+            {
                 found.push(number)?;
             }
         }
@@ -146,18 +149,21 @@ fn missing_locations(
 fn checked_locations(
     alloc: Global,
     locations: &[Held],
-    log: &CheckLog,
+    standing: &Standing,
     member: &Member,
 ) -> Result<List<i64>, Memory>
     ensures { IfOk result (λ ls. ls
-        ≡ filter (λ l. is_checked (standing_of log.now) member.now.team member.now.slot l)
+        ≡ filter (λ l. is_checked (standing_of standing.now) member.now.team member.now.slot l)
         (locations_among member.now.slot locations.now)) }
 {
     let mut found = List::new(alloc);
     for held in locations {
         if held.slot == member.slot {
             let number = held.location.get();
-            if log.is_checked(member.team, member.slot, held.location) {
+            if standing
+                .log
+                .is_checked(member.team, member.slot, held.location)
+            {
                 found.push(number)?;
             }
         }
@@ -166,10 +172,11 @@ fn checked_locations(
 }
 
 /// What a session is told when it becomes a member.
-pub fn connected(alloc: Global, log: &CheckLog, member: &Member) -> Result<Connected, Memory>
-    ensures { IfOk result (λ r. r ≡ connected_of log.now.seed (standing_of log.now) member.now) }
+pub fn connected(alloc: Global, standing: &Standing, member: &Member) -> Result<Connected, Memory>
+    ensures { IfOk result (λ r. r
+        ≡ connected_of standing.now.log.seed (standing_of standing.now) member.now) }
 {
-    let seed = log.tables().multidata();
+    let seed = standing.seed();
     playable(seed);
     let slots = seed.slots.as_slice();
     let locations = seed.locations.as_slice();
@@ -177,9 +184,9 @@ pub fn connected(alloc: Global, log: &CheckLog, member: &Member) -> Result<Conne
         team: member.team,
         slot: member.slot,
         players: players_of(alloc, seed.teams, slots)?,
-        missing_locations: missing_locations(alloc, locations, log, member)?,
-        checked_locations: checked_locations(alloc, locations, log, member)?,
+        missing_locations: missing_locations(alloc, locations, standing, member)?,
+        checked_locations: checked_locations(alloc, locations, standing, member)?,
         slot_info: slot_infos(alloc, member.team.get(), slots)?,
-        hint_points: points_of(log, member)?,
+        hint_points: points_of(standing, member)?,
     })
 }

@@ -1,7 +1,9 @@
 use crate::effect::Effect;
 use crate::session::{Change, Session};
+use crate::status::SlotStatus;
 use mw_base::{Growth, List};
 use mw_checks::CheckGrowth;
+use mw_hints::HintGrowth;
 use mw_records::Record;
 
 /// What an event does to a room, with the memory that it takes.
@@ -14,6 +16,8 @@ pub struct Plan {
     pub(crate) lost: Option<u64>,
     pub(crate) new_sessions: Vec<Session>,
     pub(crate) log_growth: CheckGrowth,
+    pub(crate) hint_growth: HintGrowth,
+    pub(crate) status_growth: Growth<SlotStatus>,
     pub(crate) sessions_growth: Growth<Session>,
 }
 

@@ -4,7 +4,7 @@ ghost use Rattle.mw_room.specs.Playable.{IsPlayable};
 use mw_multidata::Multidata;
 
 /// A seed keeps its rules.
-fn kept(seed: &Multidata)
+pub(crate) fn kept(seed: &Multidata)
     ensures { IsSeed seed.now }
 {
     let _ = &seed.seed_name;

@@ -1,7 +1,7 @@
 ghost use Rattle.std.specs.Prelude.{◌≡◌, ◌++◌, IfOk, OnOk, option_to_list};
 ghost use Rattle.mw_checks.specs.Log.{checks_of};
 ghost use Rattle.mw_model.specs.Seed.{held_at};
-ghost use Rattle.mw_protocol.specs.Effects.{scouted as scouted_lem, scouted_item, scouted_at};
+ghost use Rattle.mw_protocol.specs.Locations.{scouted_item, scouted_at};
 
 use crate::member::Member;
 use crate::news::Pair;
@@ -33,7 +33,7 @@ fn push_item(found: &mut List<NetItem>, item: Option<NetItem>) -> Result<(), Mem
 }
 
 /// What stands at locations of the member's slot, each item beside its receiver.
-fn scouts_of(
+pub fn scouts_of(
     alloc: Global,
     log: &CheckLog,
     member: &Member,
@@ -47,20 +47,5 @@ fn scouts_of(
         let (_, location) = *pair;
         push_item(&mut found, scout_of(log, member.slot, location))?;
     }
-    Ok(found)
-}
-
-/// What stands at those of the numbers that are locations of the member's slot, each once, in
-/// order; the player of an item is its receiver. Memory is its only error.
-pub fn scouted(
-    alloc: Global,
-    log: &CheckLog,
-    member: &Member,
-    numbers: &[i128],
-) -> Result<List<NetItem>, Memory>
-    ensures { IfOk result (λ is. is ≡ scouted_lem log.now.seed member.now numbers.now) }
-{
-    let known = log.known_of(member.team, member.slot, numbers)?;
-    let found = scouts_of(alloc, log, member, known.as_slice())?;
     Ok(found)
 }

@@ -2,10 +2,7 @@ use Rattle.std.proofs.Common.{◌≡◌, ◌++◌, ◌+◌, ◌<◌, length, get
 use Rattle.std.specs.Option.{option_to_list}
 use Rattle.std.proofs.lemmas.List.{get_or_default}
 use Rattle.mw_room.specs.Fits.{ChangesFit}
-use Rattle.mw_room.specs.Known.{shown_after}
-use Rattle.mw_room.specs.News.{grown}
-use Rattle.mw_checks.specs.Log.{standing_of}
-use Rattle.mw_room.specs.Views.{session_view, changed, effect_view, news_of, IsChange}
+use Rattle.mw_room.specs.Views.{session_view, changed, due_after, IsChange}
 use Rattle.mw_room.proofs.Sparse.{Below, below_more, fits_more, changes_step}
 use Rattle.mw_room.proofs.changes.changes_for.Goals as goal
 
@@ -14,7 +11,7 @@ loop-at-preserved c =
     let l = c.loop-at in
     let ss = c.args.sessions.now in
     let s = c.index-sessions-at.result in
-    let due = shown_after c.args.log.now.seed (standing_of c.args.log.now) (grown c.args.log.now (news_of c.args.effect.now)) (effect_view c.args.effect.now) c.args.sender in
+    let due = due_after c.args.standing.now c.args.effect.now c.args.sender in
     let cs = l.changes.items in
     let o = c.in_ok-change.change in
     let within : l.at < length ss = omega arith in

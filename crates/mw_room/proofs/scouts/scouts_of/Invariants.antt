@@ -1,6 +1,6 @@
 use Rattle.std.proofs.Common.{◌≡◌, ◌++◌, drop}
 use Rattle.mw_checks.specs.Log.{checks_of}
-use Rattle.mw_protocol.specs.Effects.{scouted_at}
+use Rattle.mw_protocol.specs.Locations.{scouted_at}
 use Rattle.mw_room.proofs.scouts.scouts_of.Given as goal
 
 abbrev pub invariant-loop-pair : goal.invariant-loop-pair

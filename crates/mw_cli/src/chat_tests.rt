@@ -1,0 +1,163 @@
+//! What players say, and what they are told of one another.
+use crate::session_harness::marked;
+use crate::tests::ROOM_A;
+use std::alloc::Global;
+use std::test::Fail;
+
+/// Ann and Bob in Room A, who hear texts of the room from the mark on.
+const BOTH: &str = r#"open
+text 1 [{"cmd":"Connect","game":"G","items_handling":7,"name":"Ann","tags":[],"version":{"build":0,"major":0,"minor":5}}]
+open
+text 2 [{"cmd":"Connect","game":"G","items_handling":7,"name":"Bob","tags":[],"version":{"build":0,"major":0,"minor":5}}]
+take 1
+take 2
+mark
+"#;
+
+/// What is told after both have connected.
+fn both_then(alloc: Global, lines: &str) -> Result<String, Fail> {
+    let script = format!(in alloc; "{BOTH}{lines}")?;
+    marked(alloc, ROOM_A, script.as_str())
+}
+
+#[test]
+fn item_send(rt: HostRuntime) -> Result<(), Fail> {
+    let lines = r#"open
+text 1 [{"cmd":"Connect","game":"G","items_handling":7,"name":"Ann","tags":[],"version":{"build":0,"major":0,"minor":5}}]
+take 1
+mark
+checks 1 [101]
+take 1
+"#;
+    let text = marked(rt.alloc(), ROOM_A, lines)?;
+    let expected =
+        r#"1 [{"checked_locations":[101],"cmd":"RoomUpdate","hint_points":1},{"cmd":"PrintJSON","data":[{"text":"1","type":"player_id"},{"text":" sent "},{"flags":1,"player":2,"text":"7","type":"item_id"},{"text":" to "},{"text":"2","type":"player_id"},{"text":" ("},{"player":1,"text":"101","type":"location_id"},{"text":")"}],"item":{"class":"NetworkItem","flags":1,"item":7,"location":101,"player":1},"receiving":2,"type":"ItemSend"}]
+"#;
+    assert_eq!(rt; text.as_str(), expected);
+    Ok(())
+}
+
+#[test]
+fn goal_release_collect(rt: HostRuntime) -> Result<(), Fail> {
+    let lines = r#"open
+connect 1 Ann 7
+open
+connect 2 Bob 7
+take 1
+take 2
+mark
+checks 1 [102]
+take 1
+text 1 [{"cmd":"StatusUpdate","status":30}]
+take 1
+text 1 [{"cmd":"Say","text":"!release"}]
+take 1
+take 2
+text 1 [{"cmd":"Say","text":"!collect"}]
+take 2
+take 1
+"#;
+    let text = marked(rt.alloc(), ROOM_A, lines)?;
+    let expected =
+        r#"1 [{"checked_locations":[102],"cmd":"RoomUpdate","hint_points":1},{"cmd":"ReceivedItems","index":1,"items":[{"class":"NetworkItem","flags":0,"item":8,"location":102,"player":1}]}]
+1 [{"checked_locations":[101],"cmd":"RoomUpdate","hint_points":2}]
+2 [{"cmd":"ReceivedItems","index":0,"items":[{"class":"NetworkItem","flags":1,"item":7,"location":101,"player":1}]}]
+2 [{"checked_locations":[201],"cmd":"RoomUpdate","hint_points":1}]
+1 [{"cmd":"ReceivedItems","index":2,"items":[{"class":"NetworkItem","flags":2,"item":9,"location":201,"player":2}]}]
+"#;
+    assert_eq!(rt; text.as_str(), expected);
+    Ok(())
+}
+
+#[test]
+fn a_hint_costs_a_point(rt: HostRuntime) -> Result<(), Fail> {
+    let lines = r#"open
+connect 1 Ann 7
+take 1
+checks 1 [101,102]
+take 1
+mark
+text 1 [{"cmd":"Say","text":"!hint Map"}]
+take 1
+text 1 [{"cmd":"Say","text":"!hint Map"}]
+take 1
+text 1 [{"cmd":"LocationScouts","create_as_hint":1,"locations":[201,101,101]}]
+take 1
+"#;
+    let text = marked(rt.alloc(), ROOM_A, lines)?;
+    let expected = r#"1 [{"checked_locations":[],"cmd":"RoomUpdate","hint_points":1}]
+1 [{"cmd":"LocationInfo","locations":[{"class":"NetworkItem","flags":1,"item":7,"location":101,"player":2}]}]
+"#;
+    assert_eq!(rt; text.as_str(), expected);
+    Ok(())
+}
+
+#[test]
+fn who_comes_and_goes(rt: HostRuntime) -> Result<(), Fail> {
+    let lines = r#"text 2 [{"cmd":"Say","text":"hi \"all\""}]
+take 1
+text 2 [{"cmd":"ConnectUpdate","tags":["Tracker"]}]
+take 1
+lost 2
+take 1
+"#;
+    let text = both_then(rt.alloc(), lines)?;
+    let expected =
+        r#"1 [{"cmd":"PrintJSON","data":[{"text":"Bob: hi \"all\""}],"message":"hi \"all\"","slot":2,"team":0,"type":"Chat"}]
+1 [{"cmd":"PrintJSON","data":[{"text":"Bob changed tags"}],"slot":2,"tags":["Tracker"],"team":0,"type":"TagsChanged"}]
+1 [{"cmd":"PrintJSON","data":[{"text":"Bob left"}],"slot":2,"team":0,"type":"Part"}]
+"#;
+    assert_eq!(rt; text.as_str(), expected);
+    Ok(())
+}
+
+#[test]
+fn each_command_has_its_answer(rt: HostRuntime) -> Result<(), Fail> {
+    for (command, answer) in [
+        (
+            "!help",
+            "!help !players !missing !checked !remaining !release !collect !hint !hint_location",
+        ),
+        ("!players now", "Connected: Ann, Bob"),
+        ("!missing", "2 missing: A1, A2"),
+        ("!checked", "0 checked: "),
+        ("!remaining", "not allowed"),
+        ("!release", "not allowed"),
+        ("!collect", "not allowed"),
+        ("!hint", "0 points, a hint costs 1"),
+        ("!hint ", "0 points, a hint costs 1"),
+        ("!hint Hat", "no such name"),
+        ("!hint Boots", "nothing to hint"),
+        ("!hint Map", "1 points needed, 0 there"),
+        ("!hint_location B1", "no such name"),
+        ("!hint_location A1", "1 points needed, 0 there"),
+        ("!fly", "unknown command"),
+    ] {
+        let alloc = rt.alloc();
+        let say = format!(in alloc;
+            "text 1 [{{\"cmd\":\"Say\",\"text\":\"{command}\"}}]\ntake 1\ntake 2\n"
+        )?;
+        let text = both_then(alloc, say.as_str())?;
+        let expected = format!(in alloc;
+            "1 [{{\"cmd\":\"PrintJSON\",\"data\":[{{\"text\":\"{answer}\"}}],\"type\":\"CommandResult\"}}]\n"
+        )?;
+        assert_eq!(rt; text.as_str(), expected.as_str(), "{command}");
+    }
+    Ok(())
+}
+
+#[test]
+fn the_goal_is_told(rt: HostRuntime) -> Result<(), Fail> {
+    let lines = r#"text 1 [{"cmd":"StatusUpdate","status":30}]
+take 2
+text 1 [{"cmd":"StatusUpdate","status":10}]
+text 1 [{"cmd":"Say","text":"!remaining"}]
+take 2
+"#;
+    let text = both_then(rt.alloc(), lines)?;
+    let expected =
+        r#"2 [{"cmd":"PrintJSON","data":[{"text":"Ann reached the goal"}],"slot":1,"team":0,"type":"Goal"}]
+"#;
+    assert_eq!(rt; text.as_str(), expected);
+    Ok(())
+}

@@ -1,0 +1,10 @@
+use Rattle.std.proofs.Common.{◌≡◌, ◌++◌, drop, map}
+use Rattle.mw_room.specs.Hinting.{all_told}
+use Rattle.mw_room.specs.Parts.{standing_of}
+use Rattle.mw_room.specs.Views.{announced_view}
+use Rattle.mw_room.proofs.hinting.scouts_told.Given as goal
+
+abbrev pub invariant-loop-pair : goal.invariant-loop-pair
+invariant-loop-pair l =
+    map announced_view l.prints ++ all_told l.standing.log.seed (standing_of l.standing) l.member.team l.member.slot l.again (drop l.pair-index l.known)
+    ≡ all_told l.standing.log.seed (standing_of l.standing) l.member.team l.member.slot l.again l.known

@@ -1,5 +1,0 @@
-use Rattle.mw_room.proofs.Hearing.{whole_views_are_owed}
-use Rattle.mw_room.proofs.laws.whole_views_are_owed.Goals as goal
-
-pub returns : goal.returns
-returns c = whole_views_are_owed

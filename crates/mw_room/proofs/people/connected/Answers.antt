@@ -1,0 +1,28 @@
+use Rattle.std.proofs.Common.{◌≡◌, ℕ, ℤ, List, Bool, not, ap, ap₂, ◌∙◌}
+use Rattle.std.specs.List.{filter}
+use Rattle.mw_model.specs.Seed.{Seed, Slot, Held}
+use Rattle.mw_protocol.specs.Asked.{locations_among}
+use Rattle.mw_protocol.specs.Connecting.{Member}
+use Rattle.mw_protocol.specs.Messages.{Connected, NetworkPlayer, NetworkSlot}
+use Rattle.mw_protocol.specs.Players.{players_of, slot_infos}
+use Rattle.mw_protocol.specs.Standing.{is_checked, points}
+use Rattle.mw_room.specs.Parts.{standing_of}
+use Rattle.mw_room.proofs.people.connected.Goals as goal
+
+pub returns : goal.returns
+returns c =
+    let s = c.args.standing.now in
+    let m = c.args.member.now in
+    let seed = s.log.seed in
+    let now = standing_of s in
+    let is = c.seed.view_is ∙ c.seed-seed.ensures in
+    let slots : c.as_slice-slots.result.now ≡ seed.slots = c.as_slice-slots.ensures ∙ ap (λ (d : Seed). d.slots) is in
+    let held : c.as_slice-locations.result.now ≡ seed.locations = c.as_slice-locations.ensures ∙ ap (λ (d : Seed). d.locations) is in
+    let players = c.in_ok-players_of.ensures ∙ ap₂ players_of (ap (λ (d : Seed). d.teams) is) slots in
+    let missing = c.in_ok-missing_locations.ensures ∙ ap (λ (hs : List Held). filter (λ x. not (is_checked now m.team m.slot x)) (locations_among m.slot hs)) held in
+    let checked = c.in_ok-checked_locations.ensures ∙ ap (λ (hs : List Held). filter (λ x. is_checked now m.team m.slot x) (locations_among m.slot hs)) held in
+    let team = c.get.ensures.value ∙ ap (λ (x : Member). x.team) c.member.view_is in
+    let infos = c.in_ok-slot_infos.ensures ∙ ap₂ (λ (t : ℕ) (ss : List Slot). slot_infos t 1 ss) team slots in
+    ap₂ (λ (ps : List NetworkPlayer) (ms : List ℤ). record { team = c.member.inside.team; slot = c.member.inside.slot; players = ps; missing_locations = ms; checked_locations = c.in_ok-checked_locations.field-0; slot_info = c.in_ok-slot_infos.field-0; hint_points = c.in_ok-points_of.field-0 }) players missing
+    ∙ ap₂ (λ (cs : List ℤ) (is1 : List NetworkSlot). record { team = c.member.inside.team; slot = c.member.inside.slot; players = players_of seed.teams seed.slots; missing_locations = filter (λ x. not (is_checked now m.team m.slot x)) (locations_among m.slot seed.locations); checked_locations = cs; slot_info = is1; hint_points = c.in_ok-points_of.field-0 }) checked infos
+    ∙ ap₂ (λ (x : Member) (n : ℕ). record { team = x.team; slot = x.slot; players = players_of seed.teams seed.slots; missing_locations = filter (λ z. not (is_checked now m.team m.slot z)) (locations_among m.slot seed.locations); checked_locations = filter (λ z. is_checked now m.team m.slot z) (locations_among m.slot seed.locations); slot_info = slot_infos m.team 1 seed.slots; hint_points = n }) c.member.view_is c.in_ok-points_of.ensures
