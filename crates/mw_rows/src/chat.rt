@@ -1,6 +1,15 @@
-use mw_base::{ItemId, LocId, SlotId, Text};
-use mw_chat::{Said, parse_say, part_item, part_location, part_player, part_text};
+use crate::room_a::ROOM_A;
+use mw_base::{ItemId, LocId, Memory, NetItem, SlotId, TeamId, Text};
+use mw_chat::{
+    Said, changed_tags, chatted, checked_text, collected, command_result, help_text, hint_print,
+    item_send, joined, left, missing_text, name_of, no_such_name, nothing_to_hint, parse_say,
+    part_item, part_location, part_player, part_text, players_text, points_text, reached_goal,
+    released, remaining_text, too_dear_text,
+};
+use mw_checks::CheckLog;
 use mw_json::{Tree, can_write, compact};
+use mw_multidata::{RoomTables, read};
+use mw_packets_out::{ServerPacket, packet_text};
 use std::alloc::Global;
 use std::test::Fail;
 
@@ -84,18 +93,183 @@ fn is_written(alloc: Global, part: &Tree, text: &str) -> Result<bool, Fail> {
 #[test]
 fn parts_of_a_print(rt: HostRuntime) -> Result<(), Fail> {
     let alloc = rt.alloc();
-    let ann = SlotId::new(1).ok_or("1 is a slot")?;
-    let sword = ItemId::new(7).ok_or("7 is an item")?;
-    let first = LocId::new(101).ok_or("101 is a location")?;
     let sent = part_text(alloc, &Text::of(alloc, " \"sent\" ")?)?;
     assert!(rt; is_written(alloc, &sent, r#"{"text":" \"sent\" "}"#)?);
     let player = part_player(alloc, 1024)?;
     assert!(rt; is_written(alloc, &player, r#"{"text":"1024","type":"player_id"}"#)?);
-    let item = part_item(alloc, sword, 2, 1)?;
+    Ok(())
+}
+
+#[test]
+fn parts_that_name_an_item(rt: HostRuntime) -> Result<(), Fail> {
+    let alloc = rt.alloc();
+    let item = part_item(alloc, ItemId::new(7).ok_or("7 is an item")?, 2, 1)?;
     let text = r#"{"flags":1,"player":2,"text":"7","type":"item_id"}"#;
     assert!(rt; is_written(alloc, &item, text)?);
-    let location = part_location(alloc, first, ann)?;
+    let location = part_location(alloc, LocId::new(101).ok_or("101 is a location")?, ann())?;
     let text = r#"{"player":1,"text":"101","type":"location_id"}"#;
     assert!(rt; is_written(alloc, &location, text)?);
+    Ok(())
+}
+
+fn team() -> TeamId {
+    TeamId::new(0).unwrap()
+}
+
+fn ann() -> SlotId {
+    SlotId::new(1).unwrap()
+}
+
+fn bob() -> SlotId {
+    SlotId::new(2).unwrap()
+}
+
+/// Whether a print is this packet.
+fn prints(alloc: Global, print: Result<ServerPacket, Memory>, text: &str) -> Result<bool, Fail> {
+    Ok(packet_text(alloc, &print?)?.as_str() == text)
+}
+
+#[test]
+fn who_comes_is_printed(rt: HostRuntime) -> Result<(), Fail> {
+    let tags = [Text::of(rt.alloc(), "AP")?];
+    let print = joined(rt.alloc(), team(), ann(), &tags, "Ann");
+    let text =
+        r#"{"cmd":"PrintJSON","data":[{"text":"Ann joined"}],"slot":1,"tags":["AP"],"team":0,"type":"Join"}"#;
+    assert!(rt; prints(rt.alloc(), print, text)?);
+    Ok(())
+}
+
+#[test]
+fn new_tags_are_printed(rt: HostRuntime) -> Result<(), Fail> {
+    let print = changed_tags(rt.alloc(), team(), ann(), &[], "Ann");
+    let text =
+        r#"{"cmd":"PrintJSON","data":[{"text":"Ann changed tags"}],"slot":1,"tags":[],"team":0,"type":"TagsChanged"}"#;
+    assert!(rt; prints(rt.alloc(), print, text)?);
+    Ok(())
+}
+
+#[test]
+fn what_is_said_is_printed(rt: HostRuntime) -> Result<(), Fail> {
+    let print = chatted(rt.alloc(), team(), bob(), "Bob", "hi");
+    let text =
+        r#"{"cmd":"PrintJSON","data":[{"text":"Bob: hi"}],"message":"hi","slot":2,"team":0,"type":"Chat"}"#;
+    assert!(rt; prints(rt.alloc(), print, text)?);
+    let print = command_result(rt.alloc(), "no such name");
+    let text = r#"{"cmd":"PrintJSON","data":[{"text":"no such name"}],"type":"CommandResult"}"#;
+    assert!(rt; prints(rt.alloc(), print, text)?);
+    Ok(())
+}
+
+/// Whether a print tells of Ann with these words and this kind.
+fn tells(
+    alloc: Global,
+    print: Result<ServerPacket, Memory>,
+    words: &str,
+    kind: &str,
+) -> Result<bool, Fail> {
+    let text = format!(in alloc;
+        r#"{{"cmd":"PrintJSON","data":[{{"text":"Ann {words}"}}],"slot":1,"team":0,"type":"{kind}"}}"#
+    )?;
+    Ok(prints(alloc, print, text.as_str())?)
+}
+
+#[test]
+fn what_a_player_does_is_printed(rt: HostRuntime) -> Result<(), Fail> {
+    let alloc = rt.alloc();
+    let print = left(alloc, team(), ann(), "Ann");
+    assert!(rt; tells(alloc, print, "left", "Part")?);
+    let print = reached_goal(alloc, team(), ann(), "Ann");
+    assert!(rt; tells(alloc, print, "reached the goal", "Goal")?);
+    let print = released(alloc, team(), ann(), "Ann");
+    assert!(rt; tells(alloc, print, "released", "Release")?);
+    let print = collected(alloc, team(), ann(), "Ann");
+    assert!(rt; tells(alloc, print, "collected", "Collect")?);
+    Ok(())
+}
+
+#[test]
+fn items_that_are_sent_are_printed(rt: HostRuntime) -> Result<(), Fail> {
+    let sword = NetItem {
+        item: 7,
+        location: 101,
+        player: 1,
+        flags: 1,
+    };
+    let text =
+        r#"{"cmd":"PrintJSON","data":[{"text":"1","type":"player_id"},{"text":" sent "},{"flags":1,"player":2,"text":"7","type":"item_id"},{"text":" to "},{"text":"2","type":"player_id"},{"text":" ("},{"player":1,"text":"101","type":"location_id"},{"text":")"}],"item":{"class":"NetworkItem","flags":1,"item":7,"location":101,"player":1},"receiving":2,"type":"ItemSend"}"#;
+    assert!(rt; prints(rt.alloc(), item_send(rt.alloc(), &sword, 2), text)?);
+    Ok(())
+}
+
+#[test]
+fn items_that_are_found_are_printed(rt: HostRuntime) -> Result<(), Fail> {
+    let coin = NetItem {
+        item: 8,
+        location: 102,
+        player: 1,
+        flags: 0,
+    };
+    let text =
+        r#"{"cmd":"PrintJSON","data":[{"text":"1","type":"player_id"},{"text":" found their "},{"flags":0,"player":1,"text":"8","type":"item_id"},{"text":" ("},{"player":1,"text":"102","type":"location_id"},{"text":")"}],"item":{"class":"NetworkItem","flags":0,"item":8,"location":102,"player":1},"receiving":1,"type":"ItemSend"}"#;
+    assert!(rt; prints(rt.alloc(), item_send(rt.alloc(), &coin, 1), text)?);
+    Ok(())
+}
+
+#[test]
+fn hints_are_printed(rt: HostRuntime) -> Result<(), Fail> {
+    let map = NetItem {
+        item: 9,
+        location: 201,
+        player: 2,
+        flags: 2,
+    };
+    let text =
+        r#"{"cmd":"PrintJSON","data":[{"text":"[Hint]: "},{"text":"1","type":"player_id"},{"text":"'s "},{"flags":2,"player":1,"text":"9","type":"item_id"},{"text":" is at "},{"player":2,"text":"201","type":"location_id"},{"text":" in "},{"text":"2","type":"player_id"},{"text":"'s world"}],"found":false,"item":{"class":"NetworkItem","flags":2,"item":9,"location":201,"player":2},"receiving":1,"type":"Hint"}"#;
+    assert!(rt; prints(rt.alloc(), hint_print(rt.alloc(), &map, 1, false), text)?);
+    Ok(())
+}
+
+fn tables_of(alloc: Global) -> Result<RoomTables, Fail> {
+    Ok(RoomTables::of(alloc, read(alloc, ROOM_A.as_bytes())?)?)
+}
+
+/// Whether a text is this.
+fn is_text(text: Result<Text, Memory>, wanted: &str) -> Result<bool, Fail> {
+    Ok(text?.as_str() == wanted)
+}
+
+#[test]
+fn commands_tell_of_a_slot(rt: HostRuntime) -> Result<(), Fail> {
+    let alloc = rt.alloc();
+    let log = CheckLog::new(alloc, tables_of(alloc)?)?;
+    let text = missing_text(alloc, &log, team(), ann());
+    assert!(rt; is_text(text, "2 missing: A1, A2")?);
+    let text = checked_text(alloc, &log, team(), ann());
+    assert!(rt; is_text(text, "0 checked: ")?);
+    let text = remaining_text(alloc, &log, team(), ann());
+    assert!(rt; is_text(text, "2 remaining: Coin, Map")?);
+    Ok(())
+}
+
+#[test]
+fn commands_tell_of_players(rt: HostRuntime) -> Result<(), Fail> {
+    let tables = tables_of(rt.alloc())?;
+    let members = [(team(), bob()), (team(), ann())];
+    let text = players_text(rt.alloc(), &tables, team(), &members);
+    assert!(rt; is_text(text, "Connected: Ann, Bob")?);
+    assert_eq!(rt; name_of(&tables, team(), bob()), "Bob");
+    Ok(())
+}
+
+#[test]
+fn commands_tell_of_points(rt: HostRuntime) -> Result<(), Fail> {
+    let text = points_text(rt.alloc(), 2, 1);
+    assert!(rt; is_text(text, "2 points, a hint costs 1")?);
+    let text = too_dear_text(rt.alloc(), 3, 2);
+    assert!(rt; is_text(text, "3 points needed, 2 there")?);
+    assert_eq!(rt; no_such_name(), "no such name");
+    assert_eq!(rt; nothing_to_hint(), "nothing to hint");
+    let all = "!help !players !missing !checked !remaining !release !collect !hint !hint_location";
+    assert_eq!(rt; help_text(), all);
     Ok(())
 }

@@ -10,13 +10,19 @@ mod client_members;
 #[cfg(test)]
 mod client_packets;
 #[cfg(test)]
+mod disks;
+#[cfg(test)]
 mod draws;
 #[cfg(test)]
 mod edges;
 #[cfg(test)]
 mod game_names;
 #[cfg(test)]
+mod hints;
+#[cfg(test)]
 mod ids;
+#[cfg(test)]
+mod journals;
 #[cfg(test)]
 mod lock_race;
 #[cfg(test)]

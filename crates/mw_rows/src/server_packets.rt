@@ -1,9 +1,12 @@
 ghost use Rattle.std.specs.Prelude.{◌≡◌, ◌∷◌, [], IfOk};
 
+use crate::client_packets::packets_in;
 use mw_base::{List, NetItem, Permission, SlotId, TeamId, Text};
+use mw_json::{Member, Tree};
+use mw_packets_in::{Bounce, Inbound, Packet};
 use mw_packets_out::{
-    Connected, GameSum, InvalidKind, NetworkPlayer, NetworkSlot, RoomInfo, ServerPacket,
-    write_both, write_message,
+    Bounced, Connected, GameSum, InvalidKind, NetworkPlayer, NetworkSlot, Retrieved, RoomInfo,
+    ServerPacket, SetReply, packet_text, write_both, write_message, write_with,
 };
 use std::alloc::Global;
 use std::test::Fail;
@@ -165,6 +168,116 @@ fn what_stands_there_is_told(rt: HostRuntime) -> Result<(), Fail> {
     assert_eq!(rt;
         write_both(rt.alloc(), &[], list(rt.alloc(), info)?.as_slice())?.as_str(),
         r#"[{"cmd":"LocationInfo","locations":[{"class":"NetworkItem","flags":1,"item":7,"location":101,"player":2}]}]"#
+    );
+    Ok(())
+}
+
+/// Whether a packet is this text.
+fn is_packet(
+    alloc: Global,
+    packet: Result<ServerPacket, Fail>,
+    wanted: &str,
+) -> Result<bool, Fail> {
+    Ok(packet_text(alloc, &packet?)?.as_str() == wanted)
+}
+
+/// The value of a key.
+fn value(alloc: Global) -> Result<ServerPacket, Fail> {
+    let five = Member {
+        name: Text::of(alloc, "k")?,
+        value: Tree::Whole(5),
+    };
+    Ok(ServerPacket::Retrieved(Retrieved {
+        keys: list(alloc, five)?,
+        further: List::new(alloc),
+    }))
+}
+
+/// A key's first value.
+fn change(alloc: Global) -> Result<ServerPacket, Fail> {
+    Ok(ServerPacket::SetReply(SetReply {
+        key: Text::of(alloc, "k")?,
+        value: Tree::Whole(5),
+        original_value: Tree::Null,
+        slot: SlotId::new(2).unwrap(),
+        further: List::new(alloc),
+    }))
+}
+
+#[test]
+fn values_are_told(rt: HostRuntime) -> Result<(), Fail> {
+    let wanted = r#"{"cmd":"Retrieved","keys":{"k":5}}"#;
+    assert!(rt; is_packet(rt.alloc(), value(rt.alloc()), wanted)?);
+    Ok(())
+}
+
+#[test]
+fn changes_are_told(rt: HostRuntime) -> Result<(), Fail> {
+    let wanted = r#"{"cmd":"SetReply","key":"k","original_value":null,"slot":2,"value":5}"#;
+    assert!(rt; is_packet(rt.alloc(), change(rt.alloc()), wanted)?);
+    Ok(())
+}
+
+/// The Bounce of a message.
+fn bounce_in(alloc: Global, message: &str) -> Result<Option<Bounce>, Fail> {
+    let mut found = packets_in(alloc, message)?.into_vec();
+    match found.pop() {
+        Some(Inbound::Good(Packet::Bounce(bounce))) => Ok(Some(bounce)),
+        _ => Ok(None),
+    }
+}
+
+/// What the clients of its games and tags are told.
+fn bounced(bounce: Bounce) -> ServerPacket {
+    ServerPacket::Bounced(Bounced {
+        games: bounce.games,
+        tags: bounce.tags,
+        slots: None,
+        further: bounce.further,
+    })
+}
+
+/// Whether a message of a Bounce is told so.
+fn passes(alloc: Global, message: &str, wanted: &str) -> Result<bool, Fail> {
+    let Some(bounce) = bounce_in(alloc, message)? else {
+        return Ok(false);
+    };
+    let text = packet_text(alloc, &bounced(bounce))?;
+    Ok(text.as_str() == wanted)
+}
+
+#[test]
+fn a_message_passes_through(rt: HostRuntime) -> Result<(), Fail> {
+    for (message, wanted) in [
+        (
+            r#"[{"tags":["DeathLink"],"data":{"time":1712345678,"source":"Ann","cause":""},"cmd":"Bounce"}]"#,
+            r#"{"cmd":"Bounced","data":{"cause":"","source":"Ann","time":1712345678},"tags":["DeathLink"]}"#,
+        ),
+        (
+            r#"[{"games":["G"],"cmd":"Bounce","zeal":[],"at":null}]"#,
+            r#"{"at":null,"cmd":"Bounced","games":["G"],"zeal":[]}"#,
+        ),
+    ] {
+        assert!(rt; passes(rt.alloc(), message, wanted)?, "{message}");
+    }
+    Ok(())
+}
+
+/// A message of a packet and two texts.
+fn with_texts(alloc: Global) -> Result<Text, Fail> {
+    let update = ServerPacket::RoomUpdate {
+        checked_locations: List::new(alloc),
+        hint_points: 2,
+    };
+    Ok(write_with(alloc, &[update], &[], &["{}", r#"{"a":1}"#])?)
+}
+
+#[test]
+fn written_texts_stand_behind(rt: HostRuntime) -> Result<(), Fail> {
+    let text = with_texts(rt.alloc())?;
+    assert_eq!(rt;
+        text.as_str(),
+        r#"[{"checked_locations":[],"cmd":"RoomUpdate","hint_points":2},{},{"a":1}]"#
     );
     Ok(())
 }
