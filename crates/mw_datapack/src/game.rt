@@ -31,7 +31,8 @@ pub(crate) fn data_tree(alloc: Global, game: &Game) -> Result<Tree, Memory>
 /// A game's entry in the data package: its names with their ids, and their checksum. None exactly
 /// where no slot plays the game. Memory is its only error.
 pub fn game_data(alloc: Global, tables: &RoomTables, game: &Text) -> Result<Option<Tree>, Memory>
-    ensures value { IfOk result (λ t. option_map view t ≡ option_map data_json (game_played tables.now game.now)) }
+    ensures value { IfOk result (λ t. option_map view t
+        ≡ option_map data_json (game_played tables.now game.now)) }
     ensures some { IfOk result (λ t. IsSome t ↔ IsTrue (plays tables.now.slots game.now)) }
     ensures writable { IfOk result (λ t. IfSome t (λ d. IsWritable (view d))) }
 {
@@ -44,7 +45,8 @@ pub fn game_data(alloc: Global, tables: &RoomTables, game: &Text) -> Result<Opti
 /// The checksum of a game's names. None exactly where no slot plays the game. Memory is its only
 /// error.
 pub fn checksum(alloc: Global, tables: &RoomTables, game: &Text) -> Result<Option<Text>, Memory>
-    ensures value { IfOk result (λ t. t ≡ option_map checksum_of (game_played tables.now game.now)) }
+    ensures value { IfOk result (λ t. t
+        ≡ option_map checksum_of (game_played tables.now game.now)) }
     ensures some { IfOk result (λ t. IsSome t ↔ IsTrue (plays tables.now.slots game.now)) }
 {
     match played(tables, game.as_str()) {

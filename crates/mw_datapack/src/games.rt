@@ -19,7 +19,8 @@ fn games_in(
     wanted: &Wanted,
     games: &[Game],
 ) -> Result<List<Member>, Memory>
-    ensures { IfOk result (λ ms. map member_view ms ≡ chosen_members slots.now wanted.now games.now) }
+    ensures { IfOk result (λ ms. map member_view ms
+        ≡ chosen_members slots.now wanted.now games.now) }
 {
     let mut found = List::new(alloc);
     for game in games {

@@ -38,7 +38,8 @@ pub fn named(name: Text, value: Tree) -> Member
 
 /// One member more, at the end.
 pub fn put(alloc: Global, members: &mut List<Member>, name: &str, value: Tree) -> Result<(), Memory>
-    ensures { OnOk result (map member_view members.new ≡ map member_view members.old ++ (name.now, view value) ∷ []) }
+    ensures { OnOk result (map member_view members.new
+        ≡ map member_view members.old ++ (name.now, view value) ∷ []) }
 {
     let name = Text::of(alloc, name)?;
     members.push(named(name, value))
@@ -51,7 +52,8 @@ pub fn put_number(
     name: &str,
     value: u64,
 ) -> Result<(), Memory>
-    ensures value { OnOk result (map member_view members.new ≡ map member_view members.old ++ (name.now, whole (pos value)) ∷ []) }
+    ensures value { OnOk result (map member_view members.new
+        ≡ map member_view members.old ++ (name.now, whole (pos value)) ∷ []) }
     ensures range { OnOk result (IsInRange (pos value)) }
 {
     put(alloc, members, name, number_tree(value))
@@ -64,7 +66,8 @@ pub fn put_words(
     name: &str,
     value: &str,
 ) -> Result<(), Memory>
-    ensures { OnOk result (map member_view members.new ≡ map member_view members.old ++ (name.now, words value.now) ∷ []) }
+    ensures { OnOk result (map member_view members.new
+        ≡ map member_view members.old ++ (name.now, words value.now) ∷ []) }
 {
     put(alloc, members, name, words_tree(alloc, value)?)
 }

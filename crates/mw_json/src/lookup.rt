@@ -6,7 +6,8 @@ use crate::tree::{Member, Tree};
 
 /// The value of the member of a name; None exactly where there is none.
 pub fn find<'a>(members: &'a [Member], name: &str) -> Option<&'a Tree>
-    ensures { option_map (λ t. view t.now) result ≡ find_member name.now (members_view members.now) }
+    ensures { option_map (λ t. view t.now) result
+        ≡ find_member name.now (members_view members.now) }
 {
     for member in members {
         if member.name.as_str() == name {

@@ -67,7 +67,8 @@ pub fn some_of<'a>(alloc: Global, items: &'a [Tree]) -> Result<&'a [Tree], Refus
 /// The elements of a list of `count` elements.
 #[tactic(auto, using(crate::proofs::Trees::as_many), unfolding(crate::specs::Parts::list_of_length))]
 pub fn list_with<'a>(alloc: Global, tree: &'a Tree, count: usize) -> Result<&'a [Tree], Refusal>
-    ensures value { GivesBy (λ ts. items_view ts.now) result (list_of_length count (view tree.now)) }
+    ensures value { GivesBy (λ ts. items_view ts.now) result
+        (list_of_length count (view tree.now)) }
     ensures length { IfOk result (λ ts. length ts.now ≡ count) }
 {
     let items = list_of(alloc, tree)?;

@@ -29,7 +29,8 @@ pub fn kind_word(kind: Kind) -> &'static str
 }
 
 fn put_step(out: &mut String, step: &Step) -> Result<(), Memory>
-    ensures { OnOk result (string_bytes out.new ≡ string_bytes out.old ++ codes "/" ++ step_text step.now) }
+    ensures { OnOk result (string_bytes out.new
+        ≡ string_bytes out.old ++ codes "/" ++ step_text step.now) }
 {
     out.push_str("/")?;
     match step {

@@ -70,8 +70,10 @@ fn number_of(n: &Number) -> Tree
 
 #[cycle(tree_of)]
 fn items_of(alloc: Global, items: Vec<Value>, room: usize) -> Result<List<Tree>, JsonError>
-    ensures ok { IfOk result (λ ts. (items_view ts ≡ of_items (data_items items.items)) × (items_depth (items_view ts) ≤ room)) }
-    ensures too_deep { result ≡ Err JsonError.TooDeep → room < items_depth (of_items (data_items items.items)) }
+    ensures ok { IfOk result (λ ts. (items_view ts ≡ of_items (data_items items.items))
+        × (items_depth (items_view ts) ≤ room)) }
+    ensures too_deep { result ≡ Err JsonError.TooDeep
+        → room < items_depth (of_items (data_items items.items)) }
     ensures json { result ≢ Err JsonError.NoJson }
 {
     let mut found = List::with_capacity(alloc, items.len())?;
@@ -87,8 +89,10 @@ fn members_of(
     members: Map<String, Value>,
     room: usize,
 ) -> Result<List<Member>, JsonError>
-    ensures ok { IfOk result (λ ms. (members_view ms ≡ of_members (data_members members.entries)) × (members_depth (members_view ms) ≤ room)) }
-    ensures too_deep { result ≡ Err JsonError.TooDeep → room < members_depth (of_members (data_members members.entries)) }
+    ensures ok { IfOk result (λ ms. (members_view ms ≡ of_members (data_members members.entries))
+        × (members_depth (members_view ms) ≤ room)) }
+    ensures too_deep { result ≡ Err JsonError.TooDeep
+        → room < members_depth (of_members (data_members members.entries)) }
     ensures json { result ≢ Err JsonError.NoJson }
 {
     let mut found = List::with_capacity(alloc, members.len())?;

@@ -24,13 +24,15 @@ pub fn compact(alloc: Global, tree: &Tree) -> Result<Bytes, Memory>
 
 /// What is written is read again.
 pub fn reads_back()
-    ensures { (j : Json) → IsWritable j → IsOrdered j → depth j ≤ max_depth → reading (spelling j) ≡ Some j }
+    ensures { (j : Json) → IsWritable j → IsOrdered j → depth j ≤ max_depth
+        → reading (spelling j) ≡ Some j }
 {}
 
 #[cycle(write)]
 fn write(tree: &Tree, out: &mut Writer) -> Result<(), Memory>
     requires { IsWritable (view tree.now) }
-    ensures ok { OnOk result (out.new.tokens ≡ out.old.tokens ++ json_tokens (outline (view tree.now))) }
+    ensures ok { OnOk result (out.new.tokens
+        ≡ out.old.tokens ++ json_tokens (outline (view tree.now))) }
     ensures before { out.new.before ≡ out.old.before }
 {
     match tree {
@@ -53,7 +55,8 @@ fn write(tree: &Tree, out: &mut Writer) -> Result<(), Memory>
 
 fn write_whole(z: i128, out: &mut Writer) -> Result<(), Memory>
     requires { IsInRange z }
-    ensures ok { OnOk result (out.new.tokens ≡ out.old.tokens ++ number_token (number_text z) ∷ []) }
+    ensures ok { OnOk result (out.new.tokens
+        ≡ out.old.tokens ++ number_token (number_text z) ∷ []) }
     ensures before { out.new.before ≡ out.old.before }
 {
     if z >= 0 {
@@ -67,7 +70,8 @@ fn write_whole(z: i128, out: &mut Writer) -> Result<(), Memory>
 #[cycle(write)]
 fn write_items(items: &[Tree], out: &mut Writer) -> Result<(), Memory>
     requires { ItemsAreWritable (items_view items.now) }
-    ensures ok { OnOk result (out.new.tokens ≡ out.old.tokens ++ items_tokens (items_outline (items_view items.now))) }
+    ensures ok { OnOk result (out.new.tokens
+        ≡ out.old.tokens ++ items_tokens (items_outline (items_view items.now))) }
     ensures before { out.new.before ≡ out.old.before }
 {
     for item in items {
@@ -80,7 +84,8 @@ fn write_items(items: &[Tree], out: &mut Writer) -> Result<(), Memory>
 #[cycle(write)]
 fn write_members(members: &[Member], out: &mut Writer) -> Result<(), Memory>
     requires { MembersAreWritable (members_view members.now) }
-    ensures ok { OnOk result (out.new.tokens ≡ out.old.tokens ++ members_tokens (members_outline (members_view members.now))) }
+    ensures ok { OnOk result (out.new.tokens
+        ≡ out.old.tokens ++ members_tokens (members_outline (members_view members.now))) }
     ensures before { out.new.before ≡ out.old.before }
 {
     for member in members {

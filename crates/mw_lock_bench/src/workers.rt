@@ -30,7 +30,8 @@ pub fn act_all<R: Threads + Wait + Sync>(
     mut passes: Vec<Pass<Counter>>,
     done: Vec<Pass<Counter>>,
 ) -> Vec<Pass<Counter>>
-    requires locks { All (λ p. p.lock ≡ lock.now) passes.items × All (λ p. p.lock ≡ lock.now) done.items }
+    requires locks { All (λ p. p.lock ≡ lock.now) passes.items
+        × All (λ p. p.lock ≡ lock.now) done.items }
     requires room { length done.items + length passes.items ≤ vec_capacity done }
     ensures locks { All (λ p. p.lock ≡ lock.now) result.items }
     ensures all { length result.items ≡ length done.items + length passes.items }
@@ -48,7 +49,8 @@ pub fn act_all<R: Threads + Wait + Sync>(
         { act_often(rt, lock, pass, times) },
         || -> Vec<Pass<Counter>>
             requires sent { IsSync R.row }
-            requires locks { All (λ p. p.lock ≡ lock.now) passes.items × All (λ p. p.lock ≡ lock.now) done.items }
+            requires locks { All (λ p. p.lock ≡ lock.now) passes.items
+                × All (λ p. p.lock ≡ lock.now) done.items }
             requires room { length done.items + length passes.items ≤ vec_capacity done }
             ensures locks { All (λ p. p.lock ≡ lock.entry.now) result.items }
             ensures all { length result.items ≡ length done.items + length passes.items }

@@ -62,7 +62,8 @@ impl<'a> Catalog<'a> {
 /// Notes an id, and tells whether it is new.
 fn note(seen: &mut HashSet<i64>, id: i64) -> Result<bool, Memory>
     ensures added { IfOk result (λ added. added ≡ not (hashed.contains int_eq seen.old id)) }
-    ensures seen { OnOk result ((q : ℤ) → hashed.contains int_eq seen.new q ≡ (hashed.contains int_eq seen.old q || int_eq id q)) }
+    ensures seen { OnOk result ((q : ℤ) → hashed.contains int_eq seen.new q
+        ≡ (hashed.contains int_eq seen.old q || int_eq id q)) }
 {
     Ok(seen.insert(id)?)
 }

@@ -12,7 +12,8 @@ use std::alloc::Global;
 #[tactic(auto, using(crate::proofs::Entries::one_more))]
 fn put_id(alloc: Global, ids: &mut List<Member>, named: &NamedId) -> Result<(), Memory>
     requires { MembersAreWritable (members_view ids.old) }
-    ensures value { OnOk result (map member_view ids.new ≡ map member_view ids.old ++ (named.now.name, whole named.now.id) ∷ []) }
+    ensures value { OnOk result (map member_view ids.new
+        ≡ map member_view ids.old ++ (named.now.name, whole named.now.id) ∷ []) }
     ensures writable { OnOk result (MembersAreWritable (members_view ids.new)) }
 {
     put(alloc, ids, named.name.as_str(), id_tree(named.id))

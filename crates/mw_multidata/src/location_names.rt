@@ -21,7 +21,8 @@ pub(crate) fn played_in<'a, 'b>(played: &'a [Plays<'b>], slot: u16) -> Option<&'
 }
 
 fn judge_location(alloc: Global, finder: &Catalog, held: &Held) -> Result<(), Refusal>
-    ensures { Gives result (demand UnknownName (has_id finder.now.location_name_to_id held.now.location)) }
+    ensures { Gives result (demand UnknownName
+        (has_id finder.now.location_name_to_id held.now.location)) }
 {
     if finder.has_location(held.location.get()) {
         Ok(())
@@ -31,7 +32,8 @@ fn judge_location(alloc: Global, finder: &Catalog, held: &Held) -> Result<(), Re
 }
 
 fn judge_item(alloc: Global, receiver: &Catalog, held: &Held) -> Result<(), Refusal>
-    ensures { Gives result (demand UnknownName (has_id receiver.now.item_name_to_id held.now.item)) }
+    ensures { Gives result (demand UnknownName
+        (has_id receiver.now.item_name_to_id held.now.item)) }
 {
     if receiver.has_item(held.item.get()) {
         Ok(())

@@ -67,7 +67,8 @@ fn game_in<'a>(alloc: Global, catalogs: &'a [Catalog<'a>], name: &str) -> Result
 
 /// A starting item is of the game.
 fn judge_start_item(alloc: Global, game: &Catalog, start: &StartItem) -> Result<(), Refusal>
-    ensures { Gives result (under (Index 0) (demand UnknownName (has_id game.now.item_name_to_id start.now.item))) }
+    ensures { Gives result (under (Index 0)
+        (demand UnknownName (has_id game.now.item_name_to_id start.now.item))) }
 {
     if game.has_item(start.item.get()) {
         Ok(())

@@ -20,7 +20,8 @@ use std::alloc::Global;
 #[tactic(auto, using(crate::proofs::Entries::one_more))]
 fn put_game(alloc: Global, games: &mut List<Member>, game: &Game) -> Result<(), Memory>
     requires { MembersAreWritable (members_view games.old) }
-    ensures value { OnOk result (map member_view games.new ≡ map member_view games.old ++ (game.now.name, game_json game.now) ∷ []) }
+    ensures value { OnOk result (map member_view games.new
+        ≡ map member_view games.old ++ (game.now.name, game_json game.now) ∷ []) }
     ensures writable { OnOk result (MembersAreWritable (members_view games.new)) }
 {
     let tree = game_tree(alloc, game)?;

@@ -77,7 +77,8 @@ fn is_own_member(row: Row, member: &Member) -> bool
 
 /// Copies of the members that a row doesn't have.
 fn others_of(alloc: Global, row: Row, members: &[Member]) -> Result<List<Member>, Memory>
-    ensures { IfOk result (λ ms. members_view ms ≡ others (own_names row) (members_view members.now)) }
+    ensures { IfOk result (λ ms. members_view ms
+        ≡ others (own_names row) (members_view members.now)) }
 {
     let mut found = List::new(alloc);
     for member in members {
@@ -107,7 +108,8 @@ pub(crate) fn further_of(
     row: Row,
     members: &[Member],
 ) -> Result<List<Member>, Refusal>
-    ensures { GivesBy members_view result (further_at (label_of row) (own_names row) (members_view members.now)) }
+    ensures { GivesBy members_view result
+        (further_at (label_of row) (own_names row) (members_view members.now)) }
 {
     let found = others_of(alloc, row, members)?;
     if some_member(found.as_slice()) {

@@ -35,7 +35,8 @@ fn storage_by(alloc: Global, cmd: &str, members: &[Member]) -> Result<Inbound, M
 /// Locations, hints and statuses.
 fn location_by(alloc: Global, cmd: &str, members: &[Member]) -> Result<Inbound, Memory>
     requires { AreRead 62 (members_view members.now) }
-    ensures { IfOk result (λ i. inbound_view i ≡ location_named cmd.now (members_view members.now)) }
+    ensures { IfOk result (λ i. inbound_view i
+        ≡ location_named cmd.now (members_view members.now)) }
 {
     match cmd {
         "LocationChecks" => told(alloc, cmd, checks_of(alloc, members)),
@@ -64,7 +65,8 @@ fn inbound_by(alloc: Global, cmd: &str, members: &[Member]) -> Result<Inbound, M
 /// An element of a message that is an object.
 fn object_inbound(alloc: Global, parts: &[Member]) -> Result<Inbound, Memory>
     requires { IsRead 63 (members (members_view parts.now)) }
-    ensures { IfOk result (λ i. inbound_view i ≡ inbound_of_lem (members (members_view parts.now))) }
+    ensures { IfOk result (λ i. inbound_view i
+        ≡ inbound_of_lem (members (members_view parts.now))) }
 {
     match find(parts, "cmd") {
         Some(Tree::Words(cmd)) => inbound_by(alloc, cmd.as_str(), parts),

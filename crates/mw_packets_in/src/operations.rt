@@ -58,7 +58,8 @@ pub(crate) fn operations_field(
     members: &[Member],
 ) -> Result<List<Operation>, Refusal>
     requires { AreRead 62 (members_view members.now) }
-    ensures { Gives result (field_at (codes "operations") operations_at (members_view members.now)) }
+    ensures { Gives result (field_at (codes "operations") operations_at
+        (members_view members.now)) }
 {
     let found = member_of(alloc, members, "operations")?;
     at_name(alloc, operations_of(alloc, found), "operations")

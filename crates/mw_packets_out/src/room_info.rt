@@ -26,7 +26,8 @@ fn version_tree(alloc: Global) -> Result<Tree, Memory>
 /// The names of the games.
 #[tactic(auto, using(crate::proofs::Writable::same_items))]
 fn games_tree(alloc: Global, games: &[GameSum]) -> Result<Tree, Memory>
-    ensures value { IfOk result (λ t. view t ≡ many (items_of (map text_json (map game_name games.now)))) }
+    ensures value { IfOk result (λ t. view t
+        ≡ many (items_of (map text_json (map game_name games.now)))) }
     ensures writable { IfOk result (λ t. IsWritable (view t)) }
 {
     let mut trees = List::new(alloc);

@@ -29,7 +29,8 @@ impl CheckedLocations {
 
     /// What a slot of a team checked; None exactly where there is no location.
     pub fn new(team: TeamId, slot: SlotId, locations: List<LocId>) -> Option<Self>
-        ensures { SomeIff result (0 < length locations) (record { team = team; slot = slot; locations = locations }) }
+        ensures { SomeIff result (0 < length locations)
+            (record { team = team; slot = slot; locations = locations }) }
     {
         if locations.len() == 0 {
             return None;

@@ -45,7 +45,8 @@ impl Record {
 
     /// The record of what a slot of a team checked; None exactly where there is no location.
     pub fn of_checks(team: TeamId, slot: SlotId, locations: List<LocId>) -> Option<Record>
-        ensures { option_to_list (option_map record_view result) ≡ checks_record team slot locations }
+        ensures { option_to_list (option_map record_view result)
+            ≡ checks_record team slot locations }
     {
         CheckedLocations::new(team, slot, locations).map(Record::Checks)
     }

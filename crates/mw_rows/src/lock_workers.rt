@@ -16,7 +16,8 @@ fn add_all<R: Threads + Wait + Sync>(
     mut passes: Vec<Pass<Sum>>,
     done: Vec<Pass<Sum>>,
 ) -> Vec<Pass<Sum>>
-    requires locks { All (λ p. p.lock ≡ lock.now) passes.items × All (λ p. p.lock ≡ lock.now) done.items }
+    requires locks { All (λ p. p.lock ≡ lock.now) passes.items
+        × All (λ p. p.lock ≡ lock.now) done.items }
     requires room { length done.items + length passes.items ≤ vec_capacity done }
     ensures locks { All (λ p. p.lock ≡ lock.now) result.items }
     ensures all { length result.items ≡ length done.items + length passes.items }
@@ -34,7 +35,8 @@ fn add_all<R: Threads + Wait + Sync>(
         { add(rt, lock, pass, 1, times) },
         || -> Vec<Pass<Sum>>
             requires sent { IsSync R.row }
-            requires locks { All (λ p. p.lock ≡ lock.now) passes.items × All (λ p. p.lock ≡ lock.now) done.items }
+            requires locks { All (λ p. p.lock ≡ lock.now) passes.items
+                × All (λ p. p.lock ≡ lock.now) done.items }
             requires room { length done.items + length passes.items ≤ vec_capacity done }
             ensures locks { All (λ p. p.lock ≡ lock.entry.now) result.items }
             ensures all { length result.items ≡ length done.items + length passes.items }

@@ -35,7 +35,8 @@ fn ask(
     requires made { IsMadeFor joint.now reached.now }
     requires rules { KeepsRules joint.now reached.now }
     requires place { place < length kept.old }
-    requires shown { (p : ℕ) → places_of shown.now p ≡ places_of (slice_set kept.old place false) p }
+    requires shown { (p : ℕ) → places_of shown.now p
+        ≡ places_of (slice_set kept.old place false) p }
     requires table { table.now ≡ only shown.now full.now }
     requires least { HasLeast joint.now (start_count joint.now.slots) table.now reached.now }
     ensures asked { IsAsked joint.now full.now place kept.old kept.new }
