@@ -74,12 +74,13 @@ connect_errors seed c =
 
 -- ---- members
 
--- the team and slot that a session plays, the mask of the items that it wants to hear of, and its tags
+-- the team and slot that a session plays, the mask of the items that it wants to hear of, its tags, and the keys of the data storage whose changes it is told of
 pub record Member : Type 0 where
   pub team : ℕ
   pub slot : ℕ
   pub mask : ℕ
   pub tags : List (List ℕ)
+  pub keys : List (List ℕ)
 
 abbrev pub mask_of : ℤ → ℕ
 mask_of (pos m) = m
@@ -88,7 +89,7 @@ mask_of _ = 0
 abbrev pub member_at : Connect → Option Player → Option Member
 member_at fields None = None
 member_at fields (Some p) =
-    Some record { team = p.team; slot = p.slot; mask = mask_of (unwrap_or fields.items_handling (pos 0)); tags = unwrap_or fields.tags [] }
+    Some record { team = p.team; slot = p.slot; mask = mask_of (unwrap_or fields.items_handling (pos 0)); tags = unwrap_or fields.tags []; keys = [] }
 
 -- the member that a Connect makes, where nothing refuses it
 abbrev pub member_unless : List (List ℕ) → Option Member → Option Member
@@ -100,4 +101,4 @@ member_by seed fields = member_unless (connect_errors seed fields) (member_at fi
 
 -- what is given takes the place of what was there
 abbrev pub updated : Member → ConnectUpdate → Member
-updated m u = record { team = m.team; slot = m.slot; mask = unwrap_or u.items_handling m.mask; tags = unwrap_or u.tags m.tags }
+updated m u = record { team = m.team; slot = m.slot; mask = unwrap_or u.items_handling m.mask; tags = unwrap_or u.tags m.tags; keys = m.keys }

@@ -13,7 +13,7 @@ use Rattle.mw_protocol.specs.Standing.{Standing}
 -- ---- who is told what
 
 abbrev pub to_team : ℕ → Print → Announced
-to_team team print = record { audience = team_hears team; print = printed print }
+to_team team print = record { audience = team_hears team; packet = printed print }
 
 abbrev pub name_at : ℕ → Option Slot → List ℕ
 name_at team None = []
@@ -33,7 +33,7 @@ joining seed now fields (Some m) = record {
   answers = connected (connected_of seed now m) ∷ [];
   whole = true;
   member = Some m;
-  prints = to_team m.team (joined m.team m.slot m.tags (name_of seed m.team m.slot)) ∷ [];
+  announced = to_team m.team (joined m.team m.slot m.tags (name_of seed m.team m.slot)) ∷ [];
 }
 
 -- the same texts in the same order
@@ -51,7 +51,7 @@ tags_told seed before m =
 abbrev pub updating : Seed → Member → ConnectUpdate → Effect
 updating seed m u =
     let new = updated m u in
-    record { records = []; answers = []; whole = not (new.mask == m.mask); member = Some new; prints = tags_told seed m.tags new }
+    record { records = []; answers = []; whole = not (new.mask == m.mask); member = Some new; announced = tags_told seed m.tags new }
 
 -- ---- the end of a session
 

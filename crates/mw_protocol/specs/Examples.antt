@@ -37,10 +37,10 @@ room_a = record {
 }
 
 abbrev pub ann : ℕ → Member
-ann mask = record { team = 0; slot = 1; mask = mask; tags = codes "NoText" ∷ [] }
+ann mask = record { team = 0; slot = 1; mask = mask; tags = codes "NoText" ∷ []; keys = [] }
 
 abbrev pub bob : Member
-bob = record { team = 0; slot = 2; mask = 7; tags = codes "NoText" ∷ [] }
+bob = record { team = 0; slot = 2; mask = 7; tags = codes "NoText" ∷ []; keys = [] }
 
 abbrev pub check_of : ℕ → ℤ → Check
 check_of slot location = record { team = 0; slot = slot; location = location }
@@ -90,7 +90,7 @@ mask_without_own_items = refl
 -- Ann, with these tags, is told of a check of her own
 abbrev pub check_owed : List (List ℕ) → List ServerPacket
 check_owed tags =
-    let m : Member = record { team = 0; slot = 1; mask = 7; tags = tags } in
+    let m : Member = record { team = 0; slot = 1; mask = 7; tags = tags; keys = [] } in
     let effect = effect_of room_a start [] (Some m) (location_checks (pos 101 ∷ [])) in
     owed room_a start (after effect.records) effect true (Some m)
 

@@ -1,4 +1,5 @@
 pub mod Asked
+pub mod Bouncing
 pub mod Checks
 pub mod CommandExamples
 pub mod Commands
@@ -8,6 +9,7 @@ pub mod Effects
 pub mod Entering
 pub mod Equal
 pub mod Examples
+pub mod Further
 pub mod Heard
 pub mod HintExamples
 pub mod HintList
@@ -22,6 +24,7 @@ pub mod Packets
 pub mod Players
 pub mod PrintExamples
 pub mod Prints
+pub mod Reading
 pub mod Records
 pub mod Rooms
 pub mod Sayings
@@ -32,4 +35,5 @@ pub mod Standing
 pub mod Statuses
 pub mod Storage
 pub mod StorageExamples
+pub mod Storing
 pub mod Words

@@ -43,7 +43,7 @@ checking seed now m numbers =
 abbrev pub hint_told : Standing → Hint → Option Held → List Announced
 hint_told now h None = []
 hint_told now h (Some at) =
-    record { audience = slots_hear h.team h.finder at.receiver; print = printed (hint_print (found_item at) at.receiver (is_checked now h.team h.finder h.location)) } ∷ []
+    record { audience = slots_hear h.team h.finder at.receiver; packet = printed (hint_print (found_item at) at.receiver (is_checked now h.team h.finder h.location)) } ∷ []
 
 abbrev pub hints_told : Seed → Standing → List Hint → List Announced
 hints_told seed now [] = []
@@ -77,7 +77,7 @@ scouting seed now m numbers as_hint =
       answers = location_info (scouted seed m.team m.slot numbers) ∷ [];
       whole = false;
       member = None;
-      prints = hints_told seed now (scouts_told seed now m numbers as_hint new);
+      announced = hints_told seed now (scouts_told seed now m numbers as_hint new);
     }
 
 -- ---- a hint's new status

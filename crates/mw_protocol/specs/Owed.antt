@@ -5,7 +5,7 @@ use Rattle.mw_model.specs.Seed.{Seed}
 use Rattle.mw_protocol.specs.Checks.{view_in}
 use Rattle.mw_protocol.specs.Connecting.{Member}
 use Rattle.mw_protocol.specs.Effect.{Effect}
-use Rattle.mw_protocol.specs.Heard.{prints_owed}
+use Rattle.mw_protocol.specs.Heard.{heard_by}
 use Rattle.mw_protocol.specs.Messages.{ServerPacket, received_items, room_update}
 use Rattle.mw_protocol.specs.Standing.{Standing, checked_of, points}
 
@@ -45,4 +45,4 @@ answers_to sends effect = if sends then effect.answers else []
 -- Owed: to a session that is this member after the event, and sent it or not
 abbrev pub owed : Seed → Standing → Standing → Effect → Bool → Option Member → List ServerPacket
 owed seed before after effect sends member =
-    answers_to sends effect ++ growth_owed (effect.whole && sends) seed before after member ++ prints_owed effect.prints sends member
+    answers_to sends effect ++ growth_owed (effect.whole && sends) seed before after member ++ heard_by seed effect.announced sends member

@@ -6,18 +6,21 @@ use Rattle.mw_protocol.specs.Checks.{Check, CheckedAt, is_among, unseen, locatio
 use Rattle.mw_protocol.specs.HintList.{hinted, bought_by}
 use Rattle.mw_protocol.specs.Records.{Record, Hint}
 use Rattle.mw_protocol.specs.Statuses.{SlotStatus, stated, status_of}
+use Rattle.mw_protocol.specs.Storage.{Kept, stored}
 
--- the distinct checks in journal order, the status of each slot that has one, and the hints in the order in which they were made
+-- the distinct checks in journal order, the status of each slot that has one, the hints in the order in which they were made, and the data storage
 pub record Standing : Type 0 where
   pub checked : List Check
   pub statuses : List SlotStatus
   pub hints : List Hint
+  pub storage : List Kept
 
 abbrev pub step : Seed → Standing → Record → Standing
 step seed s r = record {
   checked = s.checked ++ unseen s.checked (asked_by seed r);
   statuses = stated s.statuses r;
   hints = hinted s.hints r;
+  storage = stored s.storage r;
 }
 
 abbrev pub steps : Seed → Standing → List Record → Standing
@@ -25,7 +28,7 @@ steps seed s [] = s
 steps seed s (r ∷ rs) = steps seed (step seed s r) rs
 
 abbrev pub start : Standing
-start = record { checked = []; statuses = []; hints = [] }
+start = record { checked = []; statuses = []; hints = []; storage = [] }
 
 -- the standing of a journal
 abbrev pub standing : Seed → List Record → Standing
