@@ -5,7 +5,7 @@ use Rattle.mw_protocol.specs.Asked.{view}
 use Rattle.mw_protocol.specs.Checks.{view_in}
 use Rattle.mw_protocol.specs.Connecting.{Member, member_by}
 use Rattle.mw_protocol.specs.Entering.{joining, to_team, name_of}
-use Rattle.mw_protocol.specs.Heard.{prints_owed}
+use Rattle.mw_protocol.specs.Heard.{heard}
 use Rattle.mw_protocol.specs.Messages.{ServerPacket, connected}
 use Rattle.mw_protocol.specs.Owed.{items_from, owed, growth_owed, view_of}
 use Rattle.mw_protocol.specs.Packets.{good, wrong, Connect, connect, connect_update, sync, location_checks, location_scouts, update_hint, status_update, say, get_data_package, bounce, get, change, set_notify}
@@ -38,7 +38,7 @@ joining_answers : (seed : Seed) (journal : List Record) (fields : Connect) (made
     → IsAnswerToStranger seed journal (member_after (joining seed (standing seed journal) fields made) true None) (owed_by_joining seed journal fields made)
 joining_answers seed journal fields None = refl
 joining_answers seed journal fields (Some m) =
-    let told = prints_owed (to_team m.team (joined m.team m.slot m.tags (name_of seed m.team m.slot)) ∷ []) true (Some m) in
+    let told = heard seed (to_team m.team (joined m.team m.slot m.tags (name_of seed m.team m.slot)) ∷ []) true m in
     ap (λ is. connected (connected_of seed (standing seed journal) m) ∷ is ++ told) (whole_is seed journal m)
 
 joining_records : (seed : Seed) (now : Standing) (fields : Connect) (made : Option Member) → (joining seed now fields made).records ≡ []

@@ -17,13 +17,15 @@ use Rattle.mw_protocol.specs.Players.{room_info_of}
 use Rattle.mw_protocol.specs.Rooms.{Message, Session, Room, Event, opened, sent, failed, lost, is_full, text_of, untaken, overrun_by, with_message, with_member, told, member_in, members_in, or_else, new_session, effect_in, next, empty_room}
 use Rattle.mw_protocol.specs.Sayings.{said_of}
 use Rattle.mw_protocol.specs.Standing.{Standing, standing}
+use Rattle.mw_protocol.specs.Storage.{set_case}
+use Rattle.mw_protocol.specs.Storing.{watched, with_keys}
 use Rattle.mw_laws.specs.Clients.{hear_packets, hear_messages, client_list, ClientsFollow}
 use Rattle.mw_laws.specs.Told.{staying, newcomers, session_then}
 use Rattle.mw_laws.specs.Turns.{Turn, happens, takes, after, after_all, room_after, now, is_of, member_then, owed_by}
 use Rattle.mw_laws.specs.Views.{is_received_items, asks_whole, asks_by, view_then, view_before, items_told}
 use Rattle.mw_laws.proofs.Answered.{view_is}
 use Rattle.mw_laws.proofs.Each.{Each, each_with, each_map, each_in, each_without, each_taken, some_same, none_some}
-use Rattle.mw_laws.proofs.Effects.{is_answer, saying_plain, parting_plain, event_answers}
+use Rattle.mw_laws.proofs.Effects.{is_answer, saying_plain, storing_stays, parting_plain, event_answers}
 use Rattle.mw_laws.proofs.Journals.{next_seed, all_seed}
 use Rattle.mw_laws.proofs.Numbers.{IsNumbered, found, after_numbered}
 use Rattle.mw_laws.proofs.Pairs.{each_append}
@@ -77,8 +79,8 @@ member_sees seed s members k (say text) e m is = same_sees k m (ap (λ made. or_
 member_sees seed s members k (get_data_package games) e m is = same_sees k m is
 member_sees seed s members k (bounce b) e m is = same_sees k m is
 member_sees seed s members k (get keys further) e m is = same_sees k m is
-member_sees seed s members k (change set) e m is = same_sees k m is
-member_sees seed s members k (set_notify keys) e m is = same_sees k m is
+member_sees seed s members k (change set) e m is = same_sees k m (ap (λ made. or_else made (Some k)) (sym (storing_stays s k set (set_case s.storage set)).2) ∙ is)
+member_sees seed s members k (set_notify keys) e m is = same_sees (with_keys (watched k.keys keys) k) m is
 
 packet_sees : (seed : Seed) (s : Standing) (members : List Member) (member : Option Member) (packet : Packet) → asks_whole seed member packet ≡ false → Sees member (effect_of seed s members member packet)
 packet_sees seed s members None packet e = stranger_sees seed s packet e

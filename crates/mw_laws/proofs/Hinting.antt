@@ -150,7 +150,7 @@ steps_once seed s (r ∷ rs) h = steps_once seed (step seed s r) rs (hinted_once
 
 made_again : (seed : Seed) (s : Standing) (h k : Hint) → hint_at s.hints h.team h.finder h.location ≡ Some k → step seed s (hint h) ≡ s
 made_again seed s h k e =
-    ap₂ (λ (cs : List Check) (hs : List Hint). let t : Standing = record { checked = cs; statuses = s.statuses; hints = hs } in t)
+    ap₂ (λ (cs : List Check) (hs : List Hint). let t : Standing = record { checked = cs; statuses = s.statuses; hints = hs; storage = s.storage } in t)
     (append-nil s.checked) (cond-true (is_some (hint_at s.hints h.team h.finder h.location)) s.hints (s.hints ++ h ∷ []) (ap is_some e))
 
 pub hints_cost_once : HintsCostOnce

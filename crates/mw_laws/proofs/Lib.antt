@@ -1,7 +1,9 @@
 mod Answered
 mod Each
 mod Effects
+mod Equal
 mod Following
+mod Getting
 mod Hinting
 pub mod Journal
 mod Journals
@@ -10,10 +12,16 @@ mod Numbers
 mod Once
 mod Pairs
 mod Points
+mod Quiet
+mod Recording
 mod Sessions
+mod Setting
 mod Silent
 mod Slots
+mod Stored
 mod Strangers
 mod Telling
 mod Updates
 mod Viewing
+mod Watched
+mod Watching

@@ -1,6 +1,6 @@
 -- Lists that pass a test, and what a filter leaves of them.
 use Rattle.std.proofs.Common.{◌≡◌, ℕ, List, Bool, true, false, ◌∷◌, [], ◌++◌, take, zero, suc, filter, refl, ap, ap₂, ◌∙◌, append-nil}
-use Rattle.std.proofs.lemmas.Bool.{and_parts, and_from, cond-true, cond-false}
+use Rattle.std.proofs.lemmas.Bool.{and_parts, and_from, cond_both, cond-true, cond-false}
 use Rattle.std.proofs.lemmas.List.Elements.{filter-append}
 use Rattle.std.specs.List.{list_all}
 
@@ -19,6 +19,10 @@ module _ {X : Type 0} (p : X → Bool) where
   passed-weaker q more (x ∷ xs) h =
       let parts = and_parts (q x) (list_all q xs) h in
       and_from (p x) (list_all p xs) (more x parts.0) (passed-weaker q more xs parts.1)
+
+  pub passed-filter : (xs : List X) → list_all p (filter p xs) ≡ true
+  passed-filter [] = refl
+  passed-filter (x ∷ xs) = cond_both (p x) (x ∷ filter p xs) (filter p xs) (λ ys. list_all p ys ≡ true) (λ is. and_from (p x) (list_all p (filter p xs)) is (passed-filter xs)) (λ _. passed-filter xs)
 
   -- all is left where each passes
   pub filter-all : (xs : List X) → list_all p xs ≡ true → filter p xs ≡ xs

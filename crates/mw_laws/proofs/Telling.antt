@@ -1,34 +1,19 @@
 -- What an event leaves of a room's sessions.
-use Rattle.std.proofs.Common.{◌≡◌, ℕ, List, Bool, true, false, cond, ◌∷◌, [], ◌++◌, Option, Some, None, map, length, refl, sym, ap, ap₂, ◌∙◌, append-nil}
-use Rattle.std.proofs.Math.Seq.{drop-length}
+use Rattle.std.proofs.Common.{◌≡◌, ℕ, List, false, ◌∷◌, [], ◌++◌, Option, Some, None, map, length, refl, sym, ap, ap₂, append-nil}
 use Rattle.mw_model.specs.Seed.{Seed}
 use Rattle.mw_protocol.specs.Connecting.{Member}
 use Rattle.mw_protocol.specs.Effect.{nothing}
-use Rattle.mw_protocol.specs.Heard.{wants_no_text, prints_owed}
-use Rattle.mw_protocol.specs.Messages.{ServerPacket}
-use Rattle.mw_protocol.specs.Owed.{owed, items_from, view_of}
+use Rattle.mw_protocol.specs.Owed.{owed}
 use Rattle.mw_protocol.specs.Rooms.{Session, Room, opened, sent, failed, lost, told, with_member, new_session, next}
 use Rattle.mw_protocol.specs.Standing.{Standing}
 use Rattle.mw_laws.specs.Told.{session_then, EventsTell}
 use Rattle.mw_laws.specs.Turns.{now}
-use Rattle.mw_laws.proofs.Updates.{no_update}
-
-no_prints : (m : Member) → prints_owed [] false (Some m) ≡ []
-no_prints m = by (wants_no_text m)
-  where
-    none : List ServerPacket
-    none = []
-
-    by : (b : Bool) → cond b none none ≡ none
-    by true = refl
-    by false = refl
+use Rattle.mw_laws.proofs.Updates.{no_growth}
 
 -- nothing owes nothing
 nothing_owed : (seed : Seed) (s : Standing) (member : Option Member) → owed seed s s nothing false member ≡ []
 nothing_owed seed s None = refl
-nothing_owed seed s (Some m) =
-    let view = view_of seed s m in
-    ap₂ (λ us is. us ++ items_from (length view) is ++ prints_owed [] false (Some m)) (no_update seed s m) (drop-length view) ∙ no_prints m
+nothing_owed seed s (Some m) = ap (λ ps. ps ++ []) (no_growth seed s s (Some m) refl refl)
 
 untouched : (room : Room) (time : ℕ) (s : Session) → session_then room (opened time) s ≡ s
 untouched room time s = ap (λ packets. told packets (length room.journal) (with_member s.member s)) (nothing_owed room.seed (now room) s.member)

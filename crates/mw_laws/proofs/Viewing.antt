@@ -1,12 +1,13 @@
 -- What an event owes of a slot's items.
-use Rattle.std.proofs.Common.{◌≡◌, ℕ, ◌==◌, ◌&&◌, List, Bool, true, false, cond, ◌∷◌, [], ◌++◌, Some, length, drop, filter, refl, sym, ap, ap₂, ◌∙◌, eqb-true}
-use Rattle.std.proofs.lemmas.Bool.{and_from, and_parts, false≢true}
+use Rattle.std.proofs.Common.{◌≡◌, ℕ, ◌==◌, ◌&&◌, ◌||◌, List, Bool, true, false, cond, ◌∷◌, [], ◌++◌, Some, length, drop, filter, refl, sym, ap, ap₂, ◌∙◌, eqb-true}
+use Rattle.std.proofs.lemmas.Bool.{and_from, and_parts, or_left, or_right, cond_both, false≢true}
 use Rattle.std.specs.List.{list_all}
 use Rattle.mw_model.specs.Items.{NetItem}
+use Rattle.mw_model.specs.Seed.{Seed}
 use Rattle.mw_protocol.specs.Checks.{keeps, items_found}
 use Rattle.mw_protocol.specs.Connecting.{Member}
 use Rattle.mw_protocol.specs.Effect.{Effect}
-use Rattle.mw_protocol.specs.Heard.{Announced, hears, wants_no_text, prints_heard, prints_owed}
+use Rattle.mw_protocol.specs.Heard.{Audience, team_hears, slots_hear, sender_hears, watchers_hear, named_hear, Announced, hears, heard}
 use Rattle.mw_protocol.specs.Messages.{ServerPacket, room_info, connected, received_items, room_update, connection_refused, location_info, data_package, invalid_packet, print, retrieved, set_reply, bounced}
 use Rattle.mw_protocol.specs.Owed.{items_from, items_owed, owed, update_owed, update_with, answers_to, view_of}
 use Rattle.mw_protocol.specs.Rooms.{Session, Room, Event, opened, sent, failed, lost, member_in, members_in, effect_in, next}
@@ -16,7 +17,7 @@ use Rattle.mw_laws.specs.Turns.{now, is_of, member_then}
 use Rattle.mw_laws.specs.Views.{is_received_items, asks_whole, asks_by, view_then, view_before, items_told, WholeViewsAreOwed}
 use Rattle.mw_laws.proofs.Answered.{view_is}
 use Rattle.mw_laws.proofs.Each.{found_by}
-use Rattle.mw_laws.proofs.Effects.{is_answer, tells_print, packet_facts, parting_plain, event_answers, event_prints}
+use Rattle.mw_laws.proofs.Effects.{is_answer, is_notice, fits, is_fitting, is_bounced, AreFitting, packet_facts, parting_plain, event_answers, event_fit}
 use Rattle.mw_laws.proofs.Journal.{view-append, drop-grown, fresh}
 use Rattle.mw_laws.proofs.Journals.{next_journal, next_seed}
 use Rattle.mw_laws.proofs.Lists.{filter-none, filter-third}
@@ -37,19 +38,23 @@ answer_is_none (retrieved r) e = refl
 answer_is_none (set_reply r) e = refl
 answer_is_none (bounced b) e = refl
 
-print_is_none : (p : ServerPacket) → is_print p ≡ true → is_received_items p ≡ false
-print_is_none (received_items index items) e = absurd (false≢true e)
-print_is_none (room_info info) e = refl
-print_is_none (connected c) e = refl
-print_is_none (room_update locations points) e = refl
-print_is_none (connection_refused errors) e = refl
-print_is_none (location_info items) e = refl
-print_is_none (data_package content) e = refl
-print_is_none (invalid_packet bad) e = refl
-print_is_none (print p) e = refl
-print_is_none (retrieved r) e = refl
-print_is_none (set_reply r) e = refl
-print_is_none (bounced b) e = refl
+-- a print, a SetReply or a Bounced
+abbrev is_told : ServerPacket → Bool
+is_told p = is_print p || is_notice p
+
+told_is_none : (p : ServerPacket) → is_told p ≡ true → is_received_items p ≡ false
+told_is_none (received_items index items) e = absurd (false≢true e)
+told_is_none (room_info info) e = refl
+told_is_none (connected c) e = refl
+told_is_none (room_update locations points) e = refl
+told_is_none (connection_refused errors) e = refl
+told_is_none (location_info items) e = refl
+told_is_none (data_package content) e = refl
+told_is_none (invalid_packet bad) e = refl
+told_is_none (print p) e = refl
+told_is_none (retrieved r) e = refl
+told_is_none (set_reply r) e = refl
+told_is_none (bounced b) e = refl
 
 pub answers_none : (sends : Bool) (effect : Effect) → list_all is_answer effect.answers ≡ true → filter is_received_items (answers_to sends effect) ≡ []
 answers_none true effect h = filter-none is_received_items is_answer answer_is_none effect.answers h
@@ -63,22 +68,24 @@ items_all : (index : ℕ) (items : List NetItem) → filter is_received_items (i
 items_all index [] = refl
 items_all index (i ∷ is) = refl
 
--- of prints only prints are heard
-pub heard_prints : (announced : List Announced) (sends : Bool) (m : Member) → list_all tells_print announced ≡ true → list_all is_print (prints_heard announced sends m) ≡ true
-heard_prints [] sends m h = refl
-heard_prints (a ∷ others) sends m h =
-    let parts = and_parts (tells_print a) (list_all tells_print others) h in
-    elim (hears a.audience sends m) as (λ b. list_all is_print (cond b (a.print ∷ prints_heard others sends m) (prints_heard others sends m)) ≡ true) [
-      | true ↦ and_from (is_print a.print) (list_all is_print (prints_heard others sends m)) parts.0 (heard_prints others sends m parts.1)
-      | false ↦ heard_prints others sends m parts.1
-    ]
+fitting_told : (named : Bool) (a : Audience) (p : ServerPacket) → fits named a p ≡ true → is_told p ≡ true
+fitting_told named (team_hears team) p h = or_left (is_print p) (is_notice p) h
+fitting_told named (slots_hear team a b) p h = or_left (is_print p) (is_notice p) h
+fitting_told named sender_hears p h = or_left (is_print p) (is_notice p) h
+fitting_told named (watchers_hear key replies) p h = or_right (is_print p) (is_notice p) h
+fitting_told named (named_hear team n) p h = or_right (is_print p) (is_notice p) (and_parts named (is_notice p) h).1
 
-prints_none : (announced : List Announced) (sends : Bool) (m : Member) → list_all tells_print announced ≡ true → filter is_received_items (prints_owed announced sends (Some m)) ≡ []
-prints_none announced sends m h =
-    elim (wants_no_text m) as (λ b. filter is_received_items (cond b [] (prints_heard announced sends m)) ≡ []) [
-      | true ↦ refl
-      | false ↦ filter-none is_received_items is_print print_is_none (prints_heard announced sends m) (heard_prints announced sends m h)
-    ]
+-- of what is announced nothing else is heard
+heard_told : (named : Bool) (seed : Seed) (announced : List Announced) (sends : Bool) (m : Member) → AreFitting named announced → list_all is_told (heard seed announced sends m) ≡ true
+heard_told named seed [] sends m h = refl
+heard_told named seed (a ∷ others) sends m h =
+    let parts = and_parts (is_fitting named a) (list_all (is_fitting named) others) h in
+    let rest = heard_told named seed others sends m parts.1 in
+    cond_both (hears seed a.audience sends m) (a.packet ∷ heard seed others sends m) (heard seed others sends m) (λ ps. list_all is_told ps ≡ true)
+    (λ _. and_from (is_told a.packet) (list_all is_told (heard seed others sends m)) (fitting_told named a.audience a.packet parts.0) rest) (λ _. rest)
+
+heard_none : (named : Bool) (seed : Seed) (announced : List Announced) (sends : Bool) (m : Member) → AreFitting named announced → filter is_received_items (heard seed announced sends m) ≡ []
+heard_none named seed announced sends m h = filter-none is_received_items is_told told_is_none (heard seed announced sends m) (heard_told named seed announced sends m h)
 
 -- ---- the items
 
@@ -96,11 +103,11 @@ items_are room event s m is =
     let effect = effect_in room event in
     let sends = is_of event s.number in
     ap (λ member. filter is_received_items (owed room.seed (now room) (now (next room event)) effect sends member)) is
-    ∙ filter-third is_received_items (answers_to sends effect) (update_owed room.seed (now room) (now (next room event)) m) (items_at (effect.whole && sends) room event m) (prints_owed effect.prints sends (Some m))
+    ∙ filter-third is_received_items (answers_to sends effect) (update_owed room.seed (now room) (now (next room event)) m) (items_at (effect.whole && sends) room event m) (heard room.seed effect.announced sends m)
     (answers_none sends effect (event_answers room event))
     (update_none (points room.seed (now room) m.team m.slot) (points room.seed (now (next room event)) m.team m.slot) (drop (length (checked_of (now room) m.team m.slot)) (checked_of (now (next room event)) m.team m.slot)))
     (items_alone (effect.whole && sends) room event m)
-    (prints_none effect.prints sends m (event_prints room event))
+    (heard_none (is_bounced event) room.seed effect.announced sends m (event_fit room event))
 
 -- ---- whether they are asked for
 

@@ -1,9 +1,12 @@
+pub mod Bounced
 pub mod Clients
 pub mod Hinted
 pub mod Items
 pub mod Journals
 pub mod Silence
+pub mod Stored
 pub mod Strangers
 pub mod Told
 pub mod Turns
 pub mod Views
+pub mod Watched

@@ -7,7 +7,7 @@ use Rattle.mw_protocol.specs.Connecting.{Member}
 use Rattle.mw_protocol.specs.Effect.{Effect}
 use Rattle.mw_protocol.specs.Effects.{effect_of, bad_effect}
 use Rattle.mw_protocol.specs.Entering.{to_team, name_of}
-use Rattle.mw_protocol.specs.Heard.{prints_owed}
+use Rattle.mw_protocol.specs.Heard.{heard_by}
 use Rattle.mw_protocol.specs.Messages.{ServerPacket, room_info, connected, received_items, room_update, connection_refused, location_info, data_package, invalid_packet, print, retrieved, set_reply, bounced}
 use Rattle.mw_protocol.specs.Owed.{items_from, owed}
 use Rattle.mw_protocol.specs.Packets.{Inbound, good, wrong}
@@ -81,7 +81,7 @@ abbrev pub IsAnswerToStranger : Seed → List Record → Option Member → List 
 IsAnswerToStranger seed journal None packets = AtMostOneForStrangers packets
 IsAnswerToStranger seed journal (Some m) packets =
     packets ≡ connected (connected_of seed (standing seed journal) m) ∷ items_from 0 (view seed m.mask m.team m.slot journal)
-    ++ prints_owed (to_team m.team (joined m.team m.slot m.tags (name_of seed m.team m.slot)) ∷ []) true (Some m)
+    ++ heard_by seed (to_team m.team (joined m.team m.slot m.tags (name_of seed m.team m.slot)) ∷ []) true (Some m)
 
 -- what a session sends that plays no slot owes it such an answer, and records nothing
 pub record StrangerIsAnswered (seed : Seed) (journal : List Record) (members : List Member) (inbound : Inbound) : Type 0 where

@@ -1,5 +1,7 @@
 -- What an event leaves of a room's sessions, by what it owes to each.
-use Rattle.std.specs.Prelude.{◌≡◌, ◌++◌, ◌∷◌, [], List, map, length}
+use Rattle.std.specs.Prelude.{◌≡◌, ℕ, ◌++◌, ◌∷◌, [], List, Bool, map, length, if◌then◌else◌}
+use Rattle.mw_protocol.specs.Messages.{ServerPacket}
+use Rattle.mw_protocol.specs.Records.{Record}
 use Rattle.mw_protocol.specs.Rooms.{Session, Room, Event, opened, sent, failed, lost, told, with_member, without, new_session, next}
 use Rattle.mw_laws.specs.Turns.{member_then, owed_by}
 
@@ -22,3 +24,17 @@ session_then room event s = told (owed_by room event s) (length (next room event
 
 abbrev pub EventsTell : Type 0
 EventsTell = (room : Room) (event : Event) → (next room event).sessions ≡ map (session_then room event) (staying room event) ++ newcomers room event
+
+-- ---- one packet alone
+
+-- the room with more records
+abbrev pub recording_more : List Record → Room → Room
+recording_more records room = record { seed = room.seed; journal = room.journal ++ records; opened = room.opened; sessions = room.sessions }
+
+abbrev pub told_if : (Session → Bool) → ServerPacket → ℕ → Session → Session
+told_if who packet length s = if who s then told (packet ∷ []) length s else s
+
+-- the room as it is, but that some of its sessions are told one packet, in a message that carries the journal's length
+abbrev pub telling_where : (Session → Bool) → ServerPacket → Room → Room
+telling_where who packet room =
+    record { seed = room.seed; journal = room.journal; opened = room.opened; sessions = map (told_if who packet (length room.journal)) room.sessions }

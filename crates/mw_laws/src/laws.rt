@@ -1,12 +1,16 @@
 //! What is true of every room, whatever the seed is and whatever happens.
+ghost use Rattle.mw_laws.specs.Bounced.{BouncesReach};
 ghost use Rattle.mw_laws.specs.Clients.{ClientsFollow};
 ghost use Rattle.mw_laws.specs.Hinted.{HintsStand, HintsCostOnce, SlotsNeverOwe};
 ghost use Rattle.mw_laws.specs.Items.{ItemsComeOnce};
 ghost use Rattle.mw_laws.specs.Journals.{JournalsGrow};
 ghost use Rattle.mw_laws.specs.Silence.{NoTextIsTold};
+ghost use Rattle.mw_laws.specs.Stored.{GetsAreAnswered, KeysStay, RefusedSetsChangeNothing};
+ghost use Rattle.mw_laws.specs.Stored.{SetsAreGot, SetsAreTold};
 ghost use Rattle.mw_laws.specs.Strangers.{StrangersHear, SlotsStay, StrangersAreAnswered, StrangersHearNoOthers};
 ghost use Rattle.mw_laws.specs.Told.{EventsTell};
 ghost use Rattle.mw_laws.specs.Views.{ViewsGrow, WholeViewsAreOwed};
+ghost use Rattle.mw_laws.specs.Watched.{WatchersStay};
 
 /// A session that plays no slot was only ever owed RoomInfo, refusals of its Connects, the names of
 /// games, and word of what was no packet, whatever else happened in the room.
@@ -77,7 +81,8 @@ pub fn paid_once()
     ensures { HintsCostOnce }
 {}
 
-/// A session with the tag NoText is owed what it would be owed without it, less the prints.
+/// A session with the tag NoText is owed no print, and all else that it would be owed with any
+/// other tags, but for a Bounce that names it by the one tags alone.
 pub fn no_text()
     ensures { NoTextIsTold }
 {}
@@ -86,4 +91,44 @@ pub fn no_text()
 /// worth, less what it paid.
 pub fn slots_never_owe()
     ensures { SlotsNeverOwe }
+{}
+
+/// A key of the data storage keeps its value, or isn't kept, as long as no session sends a Set of
+/// it, whatever else happens.
+pub fn keys_stay()
+    ensures { KeysStay }
+{}
+
+/// A Get of a session that plays a slot is answered by the values of just the keys that it asks
+/// for, and changes nothing.
+pub fn gets_are_answered()
+    ensures { GetsAreAnswered }
+{}
+
+/// Once a session that plays a slot has sent a Set that isn't refused, its new value is what each
+/// Get of the key is answered, until another Set of it comes.
+pub fn set_is_got()
+    ensures { SetsAreGot }
+{}
+
+/// A Set that is refused is answered by why it is, and changes nothing.
+pub fn refused_sets_change_nothing()
+    ensures { RefusedSetsChangeNothing }
+{}
+
+/// A Set that isn't refused is told to just those who watch its key, and to its sender where it
+/// asks for that, and records the new value where it is another.
+pub fn sets_are_told()
+    ensures { SetsAreTold }
+{}
+
+/// A session watches the keys that its SetNotify names, up to 1,024, as long as it is open.
+pub fn watchers_stay()
+    ensures { WatchersStay }
+{}
+
+/// A Bounce of a session that plays a slot is told to just those of its team whom it names, and
+/// changes nothing.
+pub fn bounces_reach()
+    ensures { BouncesReach }
 {}

@@ -4,7 +4,8 @@
 mod laws;
 
 pub use laws::{
-    events_tell, found_stays, journals_grow, no_item_twice, no_text, paid_once, slots_never_owe,
-    slots_stay, strangers_are_answered, strangers_hear, strangers_hear_no_others, views_grow,
-    whole_views_are_owed,
+    bounces_reach, clients_follow, events_tell, found_stays, gets_are_answered, journals_grow,
+    keys_stay, no_item_twice, no_text, paid_once, refused_sets_change_nothing, set_is_got,
+    sets_are_told, slots_never_owe, slots_stay, strangers_are_answered, strangers_hear,
+    strangers_hear_no_others, views_grow, watchers_stay, whole_views_are_owed,
 };
