@@ -5,7 +5,7 @@ use Rattle.mw_model.specs.Json.{Json, Members, no_members, member}
 use Rattle.mw_model.specs.Texts.{has_text}
 use Rattle.mw_json.specs.View.{members_of, member_view, members_view}
 use Rattle.mw_json.specs.declared.tree.Member.{Member}
-use Rattle.mw_packets_in.specs.Fields.{others}
+use Rattle.mw_protocol.specs.Further.{others}
 
 -- these before those
 abbrev pub ahead : List (List ℕ × Json) → Members → Members

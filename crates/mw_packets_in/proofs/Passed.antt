@@ -1,13 +1,15 @@
 -- What is read from a text passes as it stands, where each number in it is whole.
-use Rattle.std.proofs.Common.{◌≡◌, ◌≤◌, ◌||◌, ◌+◌, ℕ, pos, List, [], ◌∷◌, Bool, true, false, Option, Some, None, Ok, codes, refl, arith}
+use Rattle.std.proofs.Common.{◌≡◌, ◌≤◌, ◌||◌, ◌+◌, ℕ, ℤ, pos, List, [], ◌∷◌, Bool, true, false, Option, Some, None, Ok, codes, refl, arith}
 use Rattle.std.specs.Prelude.{All, IfOk, IfSome, bytes_eq, if◌then◌else◌}
 use Rattle.std.proofs.lemmas.List.Elements.{All-nil, All-cons}
 use Rattle.std.proofs.lemmas.Result.{IfOk-at_ok}
-use Rattle.mw_model.specs.Json.{Json, null, flag, whole, not_whole, words, many, members, Items, no_items, item, Members, no_members, member, items_depth, find_member, ComeAfter, IsWritable, ItemsAreWritable, MembersAreWritable, IsOrdered, ItemsAreOrdered, MembersAreOrdered}
+use Rattle.mw_model.specs.Json.{Json, null, flag, whole, not_whole, words, many, members, Items, no_items, item, Members, no_members, member, items_depth, find_member, ComeAfter, IsInRange, IsWritable, ItemsAreWritable, MembersAreWritable, IsOrdered, ItemsAreOrdered, MembersAreOrdered}
 use Rattle.mw_model.specs.Passed.{IsPassed, AreFurther}
 use Rattle.mw_model.specs.Sets.{Operation}
 use Rattle.mw_model.specs.Texts.{has_text}
+use Rattle.mw_protocol.specs.Further.{others}
 use Rattle.mw_json.specs.Grammar.{refused, under, list_at, object_at, found_or_missing, member_at, field_at, text_at}
+use Rattle.mw_json.specs.Parts.{read_if, field_if_at}
 use Rattle.mw_json.specs.Readers.{each_from, first_at, field_or_at}
 use Rattle.mw_json.specs.Sets.{IsOperation, IsSet, set_names}
 use Rattle.mw_json.specs.Valid.{IsValid, ItemsAreValid, MembersAreValid}
@@ -16,8 +18,8 @@ use Rattle.mw_json.specs.declared.refusal.Kind.TheVariants.{NotWhole}
 use Rattle.mw_json.specs.declared.refusal.Step.TheVariants.{Name, Index}
 use Rattle.mw_json.specs.declared.tree.Tree.{Tree}
 use Rattle.mw_json.proofs.Passing.{past, after, within, if_told}
-use Rattle.mw_packets_in.specs.Fields.{value_at, any_at, all_whole, others, further_at}
-use Rattle.mw_packets_in.specs.Kept.{IsRead, AreRead, bounce_names, get_names}
+use Rattle.mw_packets_in.specs.Fields.{whole_at, value_at, any_at, wholes_at, all_whole, further_at}
+use Rattle.mw_packets_in.specs.Kept.{IsRead, AreRead, IsBounce, bounce_names, get_names}
 use Rattle.mw_packets_in.specs.Rows.{operation_at, operations_at}
 use Rattle.mw_packets_in.specs.Whole.{has_not_whole, items_have_not_whole, members_have_not_whole}
 
@@ -74,7 +76,7 @@ passed j h e = record { writable = writable j h.valid e; ordered = ordered j h.v
 
 -- ---- further members
 
-others_after : (names : List (List ℕ)) (k : List ℕ) (ms : Members) → ComeAfter k ms → ComeAfter k (others names ms)
+pub others_after : (names : List (List ℕ)) (k : List ℕ) (ms : Members) → ComeAfter k ms → ComeAfter k (others names ms)
 others_after names k no_members h = tt
 others_after names k (member l j ms) h =
     elim (has_text names l) as (λ own. ComeAfter k (if own then others names ms else member l j (others names ms))) [
@@ -108,9 +110,6 @@ further_kept name names ms further h e =
       | false ↦ λ found f. IfOk-at_ok (AreFurther names) f (further_passed names ms h found)
     ] in
     at refl e
-
-pub bounce_kept : (further ms : Members) → AreRead 62 ms → further_at (codes "data") bounce_names ms ≡ Ok further → AreFurther bounce_names further
-bounce_kept further ms h e = further_kept (codes "data") bounce_names ms further h e
 
 pub get_kept : (further ms : Members) → AreRead 62 ms → further_at (codes "keys") get_names ms ≡ Ok further → AreFurther get_names further
 get_kept further ms h e = further_kept (codes "keys") get_names ms further h e
@@ -228,6 +227,52 @@ unfolding field_at
 operations_kept operations ms h e =
     IfOk-at_ok (All IsOperation) e (after (IsRead 62) (All IsOperation) (member_at (codes "operations") ms) _ (member_is (IsRead 62) (codes "operations") ms (found_read (codes "operations") ms h)) (λ j r.
     within (All IsOperation) (Name (codes "operations")) (operations_at j) (operations_is j r)))
+
+-- ---- a message between clients
+
+whole_is : (j : Json) → IsValid j → IfOk (whole_at j) IsInRange
+whole_is (whole z) h = h
+whole_is null h = tt
+whole_is (flag b) h = tt
+whole_is not_whole h = tt
+whole_is (words s) h = tt
+whole_is (many js) h = tt
+whole_is (members ms) h = tt
+
+each_whole : (i : ℕ) (js : Items) → ItemsAreValid js → IfOk (each_from whole_at i js) (All IsInRange)
+each_whole i no_items h = All-nil IsInRange
+each_whole i (item j js) h =
+    after IsInRange (All IsInRange) (under (Index i) (whole_at j)) _ (within IsInRange (Index i) (whole_at j) (whole_is j h.0)) (λ first p.
+    after (All IsInRange) (All IsInRange) (each_from whole_at (i + 1) js) _ (each_whole (i + 1) js h.1) (λ rest q.
+    All-cons IsInRange first rest p q))
+
+wholes_are : (j : Json) → IsRead 62 j → IfOk (wholes_at j) (All IsInRange)
+unfolding wholes_at
+wholes_are j h =
+    after (λ js. list_at j ≡ Ok js) (All IsInRange) (list_at j) _ (if_told (λ js. list_at j ≡ Ok js) (list_at j) (λ js e. e)) (λ js e.
+    let read : ItemsAreRead js = items_read j js e h in
+    each_whole 0 js read.0)
+
+-- the slots, where they are given
+abbrev SlotsInRange : Option (List ℤ) → Type 0
+SlotsInRange slots = IfSome slots (All IsInRange)
+
+slots_are : (found : Option Json) → IfSome found (IsRead 62) → IfOk (read_if (λ j. under (Name (codes "slots")) (wholes_at j)) found) SlotsInRange
+slots_are None h = tt
+slots_are (Some j) h =
+    after (All IsInRange) SlotsInRange (under (Name (codes "slots")) (wholes_at j)) _ (within (All IsInRange) (Name (codes "slots")) (wholes_at j) (wholes_are j h)) (λ zs p. p)
+
+slots_kept : (slots : Option (List ℤ)) (ms : Members) → AreRead 62 ms → field_if_at (codes "slots") wholes_at ms ≡ Ok slots → SlotsInRange slots
+unfolding field_if_at
+slots_kept slots ms h e = IfOk-at_ok SlotsInRange e (slots_are (find_member (codes "slots") ms) (found_read (codes "slots") ms h))
+
+pub bounce_kept : (games tags : Option (List (List ℕ))) (slots : Option (List ℤ)) (further ms : Members) → AreRead 62 ms
+    → field_if_at (codes "slots") wholes_at ms ≡ Ok slots → further_at (codes "data") bounce_names ms ≡ Ok further
+    → IsBounce record { games = games; tags = tags; slots = slots; further = further }
+bounce_kept games tags slots further ms h s f = record {
+  slots = slots_kept slots ms h s;
+  further = further_kept (codes "data") bounce_names ms further h f;
+}
 
 -- ---- a change
 

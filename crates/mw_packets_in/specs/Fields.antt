@@ -1,8 +1,8 @@
 -- Kinds of values in the packets of clients.
 use Rattle.std.specs.Prelude.{ℕ, ℤ, pos, List, Bool, Result, Ok, if◌then◌else◌}
-use Rattle.mw_model.specs.Json.{Json, null, flag, whole, not_whole, words, many, members, Members, no_members, member}
-use Rattle.mw_model.specs.Texts.{has_text}
+use Rattle.mw_model.specs.Json.{Json, null, flag, whole, not_whole, words, many, members, Members}
 use Rattle.mw_protocol.specs.Connecting.{is_mask}
+use Rattle.mw_protocol.specs.Further.{others}
 use Rattle.mw_json.specs.Grammar.{Breach, ◌>>=◌, refused, under, number_at, text_at, list_at}
 use Rattle.mw_json.specs.Readers.{each_from}
 use Rattle.mw_json.specs.declared.refusal.Kind.TheVariants.{NotWhole, WrongKind}
@@ -78,14 +78,10 @@ wholes_at j = do
 abbrev pub all_whole : Json → Members → Result Members Breach
 all_whole j ms = if has_not_whole j then refused NotWhole else Ok ms
 
--- the members that have none of these names
-abbrev pub others : List (List ℕ) → Members → Members
-others names no_members = no_members
-others names (member k j ms) = if has_text names k then others names ms else member k j (others names ms)
-
--- those, where each number in them is whole; else they are refused under a name
+-- these, where each number in them is whole; else they are refused under a name
 abbrev pub whole_further : List ℕ → Members → Result Members Breach
 whole_further name ms = if members_have_not_whole ms then under (Name name) (refused NotWhole) else Ok ms
 
+-- the members that have none of these names, each number in them whole
 abbrev pub further_at : List ℕ → List (List ℕ) → Members → Result Members Breach
 further_at name names ms = whole_further name (others names ms)

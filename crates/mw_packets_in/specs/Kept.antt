@@ -1,6 +1,6 @@
 -- What the packets of clients keep.
-use Rattle.std.specs.Prelude.{ℕ, ℤ, pos, ◌==◌, ◌≤◌, ◌||◌, List, [], ◌∷◌, Bool, Option, IfSome, IsTrue, codes}
-use Rattle.mw_model.specs.Json.{Json, Members, depth, members_depth}
+use Rattle.std.specs.Prelude.{ℕ, ℤ, pos, ◌==◌, ◌≤◌, ◌||◌, List, [], ◌∷◌, All, Bool, Option, IfSome, IsTrue, codes}
+use Rattle.mw_model.specs.Json.{Json, Members, IsInRange, depth, members_depth}
 use Rattle.mw_model.specs.Passed.{AreFurther}
 use Rattle.mw_protocol.specs.Connecting.{is_mask}
 use Rattle.mw_protocol.specs.Packets.{Bounce}
@@ -39,8 +39,10 @@ pub record Get : Type 0 where
   pub keys : List (List ℕ)
   pub further : Members
 
-abbrev pub IsBounce : Bounce → Type 0
-IsBounce bounce = AreFurther bounce_names bounce.further
+-- its slots are in range, and its further members pass as they stand
+pub record IsBounce (bounce : Bounce) : Type 0 where
+  pub slots : IfSome bounce.slots (All IsInRange)
+  pub further : AreFurther bounce_names bounce.further
 
 abbrev pub IsGet : Get → Type 0
 IsGet get = AreFurther get_names get.further

@@ -1,10 +1,11 @@
 ghost use Rattle.std.specs.Prelude.{◌≡◌, IfOk};
 ghost use Rattle.mw_model.specs.Texts.{has_text};
+ghost use Rattle.mw_protocol.specs.Further.{others};
 ghost use Rattle.mw_json.specs.Grammar.{GivesBy, refused, under};
 ghost use Rattle.mw_json.specs.View.{member_view, members_view};
 ghost use Rattle.mw_json.specs.declared.refusal.Kind.TheVariants.{NotWhole};
 ghost use Rattle.mw_json.specs.declared.refusal.Step.TheVariants.{Name};
-ghost use Rattle.mw_packets_in.specs.Fields.{further_at, others};
+ghost use Rattle.mw_packets_in.specs.Fields.{further_at};
 ghost use Rattle.mw_json.specs.Sets.{set_names};
 ghost use Rattle.mw_packets_in.specs.Kept.{bounce_names, get_names};
 ghost use Rattle.mw_packets_in.specs.Own.{label_of, own_names};

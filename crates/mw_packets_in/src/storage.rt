@@ -22,7 +22,7 @@ pub struct Bounce {
     pub games: Option<List<Text>>,
     /// Tags; none where it is absent.
     pub tags: Option<List<Text>>,
-    /// Slots, some of which may not be there; none where it is absent.
+    /// Slots, some of which may not be there, from -2^63 to 2^64 - 1; none where it is absent.
     pub slots: Option<List<i128>>,
     /// Further members, in ascending byte order of their names, none of them named `cmd`, `games`,
     /// `tags` or `slots`.
@@ -34,8 +34,7 @@ impl Model for Bounce {
     ghost use Rattle.mw_json.specs.TreeCode.{coded_members};
     ghost use Rattle.mw_json.specs.View.{members_view};
     ghost use Rattle.mw_protocol.specs.Packets as plain;
-    ghost use Rattle.mw_packets_in.specs.Kept.{bounce_names};
-    ghost use Rattle.mw_model.specs.Passed.{AreFurther};
+    ghost use Rattle.mw_packets_in.specs.Kept.{IsBounce};
 
     ghost Value = { plain.Bounce };
 
@@ -48,7 +47,12 @@ impl Model for Bounce {
       further = members_view b.further;
     } };
 
-    ghost invariant = { λ b. AreFurther bounce_names (members_view b.further) };
+    ghost invariant = { λ b. IsBounce record {
+      games = b.games;
+      tags = b.tags;
+      slots = b.slots;
+      further = members_view b.further;
+    } };
 }
 
 /// A question for values of the data storage.
@@ -78,7 +82,7 @@ impl Model for Get {
 }
 
 /// The members of a Bounce.
-#[tactic(auto, using(crate::proofs::Passed::bounce_kept), unfolding(crate::specs::Rows::bounce_at))]
+#[tactic(auto, unfolding(crate::specs::Rows::bounce_at))]
 pub(crate) fn bounce_of(alloc: Global, members: &[Member]) -> Result<Packet, Refusal>
     requires { AreRead 62 (members_view members.now) }
     ensures { GivesBy packet_view result (bounce_at (members_view members.now)) }

@@ -49,8 +49,8 @@ pub(crate) fn put_copies(
     Ok(())
 }
 
-/// A copy of members.
-pub(crate) fn copied(alloc: Global, given: &[Member]) -> Result<List<Member>, Memory>
+/// A copy of members. Memory is its only error.
+pub fn copy_members(alloc: Global, given: &[Member]) -> Result<List<Member>, Memory>
     ensures { IfOk result (λ ms. map member_view ms ≡ map member_view given.now) }
 {
     let mut copies = List::new(alloc);
@@ -64,7 +64,7 @@ pub(crate) fn further_of(alloc: Global, further: &[Member]) -> Result<Vec<Member
     ensures value { IfOk result (λ ms. members_view ms.items ≡ members_view further.now) }
     ensures writable { IfOk result (λ ms. MembersAreWritable (members_view ms.items)) }
 {
-    Ok(copied(alloc, further)?.into_vec())
+    Ok(copy_members(alloc, further)?.into_vec())
 }
 
 /// A copy of values, as a list.

@@ -4,7 +4,7 @@ ghost use Rattle.mw_model.specs.Trees.{put_member};
 ghost use Rattle.mw_protocol.specs.Messages.{retrieved_json, set_reply_json};
 ghost use Rattle.mw_json.specs.View.{view, members_view};
 
-use crate::placing::{copied, further_of, insert};
+use crate::placing::{copy_members, further_of, insert};
 use mw_base::{List, Memory, SlotId, Text};
 use mw_json::{Member, Tree, copy, number_tree, words_tree};
 use std::alloc::Global;
@@ -92,7 +92,7 @@ pub(crate) fn retrieved_tree(alloc: Global, it: &Retrieved) -> Result<Tree, Memo
     ensures value { IfOk result (λ t. view t ≡ retrieved_json it.now) }
     ensures writable { IfOk result (λ t. IsWritable (view t)) }
 {
-    let keys = Tree::Members(copied(alloc, it.keys.as_slice())?);
+    let keys = Tree::Members(copy_members(alloc, it.keys.as_slice())?);
     let mut parts = further_of(alloc, it.further.as_slice())?;
     insert(&mut parts, Text::of(alloc, "keys")?, keys)?;
     insert(

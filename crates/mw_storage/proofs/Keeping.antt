@@ -1,5 +1,5 @@
 -- What operations make of values that can be written, with objects in order, can be written, with objects in order.
-use Rattle.std.proofs.Common.{◌≡◌, ◌^◌, ◌+◌, ◌*ℤ◌, ℕ, ℤ, pos, negsuc, zero, suc, Bool, true, false, List, [], ◌∷◌, Option, Some, None, Result, Ok, Err, bytes_eq, codes, nat_cmp, is_some, refl, ap, subst, ◌∙◌, arith}
+use Rattle.std.proofs.Common.{◌≡◌, ◌^◌, ◌+◌, ◌*ℤ◌, ℕ, ℤ, pos, negsuc, zero, suc, Bool, true, false, List, [], ◌∷◌, Option, Some, None, Result, Ok, Err, bytes_eq, codes, nat_cmp, is_some, refl, ap, sym, subst, ◌∙◌, arith}
 use Rattle.std.specs.Prelude.{if◌then◌else◌, IfOk, IfSome, All}
 use Rattle.std.specs.Ordering.{ordering_reverse, int_eq}
 use Rattle.std.specs.declared.cmp.Ordering.{Ordering}
@@ -7,14 +7,19 @@ use Rattle.std.specs.declared.cmp.Ordering.TheVariants.{Less, Equal, Greater}
 use Rattle.std.specs.Cmp.Lexicographic.{slice_cmp}
 use Rattle.std.proofs.lemmas.Cmp.{nat_list_cmp_total}
 use Rattle.std.proofs.lemmas.Grind.{common_steps}
-use Rattle.mw_model.specs.Json.{Json, whole, words, many, members, Items, no_items, item, Members, no_members, member, ComeAfter, IsInRange, ItemsAreWritable, ItemsAreOrdered, MembersAreWritable, MembersAreOrdered}
+use Rattle.mw_model.specs.Json.{Json, whole, words, many, members, Items, no_items, item, Members, no_members, member, ComeAfter, IsInRange, IsWritable, IsOrdered, ItemsAreWritable, ItemsAreOrdered, MembersAreWritable, MembersAreOrdered}
 use Rattle.mw_model.specs.Passed.{IsPassed}
 use Rattle.mw_model.specs.Sets.{Operation, SetPacket}
 use Rattle.mw_json.specs.Sets.{IsOperation}
 use Rattle.std.proofs.lemmas.List.Elements.{All-head, All-tail}
 use Rattle.mw_protocol.specs.Operations.{Fault, is_number, number_in, in_range, shifted_left, shifted_right, floor_quotient, modulo, remainder, of_bits, of_numbers, of_both, itself, append_items, place_from, without_at, without_place, lacking, without_index, without_member, set_member, set_members, joined, added, removed, popped_index, popped_name, popped, updated_list, updated_object, updated, operated}
 use Rattle.mw_protocol.specs.Storage.{Kept, private_key, refused_at, run_from, ◌then◌, put, value_or, before, is_private, within_limits, kept_after, set_case}
-use Rattle.mw_storage.specs.Stored.{IsKept}
+use Rattle.mw_storage.proofs.Shallow.{new_shallow}
+
+-- it can be written, and its objects are in order
+record IsKept (j : Json) : Type 0 where
+  writable : IsWritable j
+  ordered : IsOrdered j
 
 abbrev ItemsKept : Items → Type 0
 ItemsKept js = ItemsAreWritable js × ItemsAreOrdered js
@@ -78,25 +83,36 @@ after_set l name value (member k j ms) less h =
     let P : Ordering → Type 0 = λ o. ComeAfter l (elim o [ Less ↦ member name value (member k j ms) | Equal ↦ member k value ms | Greater ↦ member k j (set_member name value ms) ]) in
     elim (slice_cmp nat_cmp name k) as P [ Less ↦ (less, h) | Equal ↦ h | Greater ↦ (h.0, after_set l name value ms less h.1) ]
 
-set_member_kept : (name : List ℕ) (value : Json) (ms : Members) → IsKept value → MembersKept ms → MembersKept (set_member name value ms)
-set_member_kept name value no_members v h = ((v.writable, tt), (v.ordered, tt, tt))
-set_member_kept name value (member k j ms) v h =
-    let Q : Ordering → Type 0 = λ o. MembersKept (elim o [ Less ↦ member name value (member k j ms) | Equal ↦ member k value ms | Greater ↦ member k j (set_member name value ms) ]) in
+set_writable : (name : List ℕ) (value : Json) (ms : Members) → IsWritable value → MembersAreWritable ms → MembersAreWritable (set_member name value ms)
+set_writable name value no_members v h = (v, tt)
+set_writable name value (member k j ms) v h =
+    let P : Ordering → Type 0 = λ o. MembersAreWritable (elim o [ Less ↦ member name value (member k j ms) | Equal ↦ member k value ms | Greater ↦ member k j (set_member name value ms) ]) in
+    elim (slice_cmp nat_cmp name k) as P [ Less ↦ (v, h) | Equal ↦ (v, h.1) | Greater ↦ (h.0, set_writable name value ms v h.1) ]
+
+set_ordered : (name : List ℕ) (value : Json) (ms : Members) → IsOrdered value → MembersAreOrdered ms → MembersAreOrdered (set_member name value ms)
+set_ordered name value no_members v h = (v, tt, tt)
+set_ordered name value (member k j ms) v h =
+    let Q : Ordering → Type 0 = λ o. MembersAreOrdered (elim o [ Less ↦ member name value (member k j ms) | Equal ↦ member k value ms | Greater ↦ member k j (set_member name value ms) ]) in
     let P : Ordering → Type 0 = λ o. slice_cmp nat_cmp name k ≡ o → Q o in
-    let r : MembersKept (set_member name value ms) = set_member_kept name value ms v (h.0.1, h.1.2) in
     let at : P (slice_cmp nat_cmp name k) =
     elim (slice_cmp nat_cmp name k) as P [
-      | Less ↦ λ is. ((v.writable, h.0), (v.ordered, (is, come_through name k ms is h.1.1), h.1))
-      | Equal ↦ λ is. ((v.writable, h.0.1), (v.ordered, h.1.1, h.1.2))
-      | Greater ↦ λ is. ((h.0.0, r.0), (h.1.0, after_set k name value ms (nat_list_cmp_total.antisymm k name ∙ ap ordering_reverse is) h.1.1, r.1))
+      | Less ↦ λ is. (v, (is, come_through name k ms is h.1), h)
+      | Equal ↦ λ is. (v, h.1, h.2)
+      | Greater ↦ λ is. (h.0, after_set k name value ms (nat_list_cmp_total.antisymm k name ∙ ap ordering_reverse is) h.1, set_ordered name value ms v h.2)
     ] in
     at refl
+
+-- members among which one was set
+pub set_stays_writable : (name : List ℕ) (value : Json) (ms all : Members) → all ≡ set_member name value ms → IsWritable value → MembersAreWritable ms → MembersAreWritable all
+set_stays_writable name value ms all e v h = subst MembersAreWritable (sym e) (set_writable name value ms v h)
+
+pub set_stays_ordered : (name : List ℕ) (value : Json) (ms all : Members) → all ≡ set_member name value ms → IsOrdered value → MembersAreOrdered ms → MembersAreOrdered all
+set_stays_ordered name value ms all e v h = subst MembersAreOrdered (sym e) (set_ordered name value ms v h)
 
 set_members_kept : (ms ns : Members) → MembersKept ms → MembersKept ns → MembersKept (set_members ms ns)
 set_members_kept ms no_members h k = h
 set_members_kept ms (member name j ns) h k =
-    let value : IsKept j = record { writable = k.0.0; ordered = k.1.0 } in
-    set_members_kept (set_member name j ms) ns (set_member_kept name j ms value h) (k.0.1, k.1.2)
+    set_members_kept (set_member name j ms) ns (set_writable name j ms k.0.0 h.0, set_ordered name j ms k.1.0 h.1) (k.0.1, k.1.2)
 
 -- ---- numbers
 
@@ -199,11 +215,11 @@ unfolding operated
 operated_kept o j v h =
     search (either, v, h, itself_kept, added_kept, removed_kept, popped_kept, updated_kept, both_kept) depth 12
 
-abbrev pub OperandsKept : List Operation → Type 0
+abbrev OperandsKept : List Operation → Type 0
 OperandsKept [] = Unit {0}
 OperandsKept (o ∷ os) = IsKept o.value × OperandsKept os
 
-pub run_kept : (i : ℕ) (os : List Operation) (j : Json) → OperandsKept os → IsKept j → IfOk (run_from i os j) IsKept
+run_kept : (i : ℕ) (os : List Operation) (j : Json) → OperandsKept os → IsKept j → IfOk (run_from i os j) IsKept
 run_kept i [] j v h = h
 run_kept i (o ∷ os) j v h = by (operated o j) (operated_kept o j v.0 h) (λ k. run_kept (i + 1) os k v.1)
   where
@@ -219,12 +235,15 @@ operands (o ∷ os) h =
     let passed : IsPassed o.value = All-head IsOperation o os h in
     (record { writable = passed.writable; ordered = passed.ordered }, operands os (All-tail IsOperation o os h))
 
-pub new_kept : (os : List Operation) (start new : Json) → All IsOperation os → IsKept start → run_from 0 os start ≡ Ok new → IsKept new
-new_kept os start new h s e = subst (λ made. IfOk made IsKept) e (run_kept 0 os start (operands os h) s)
+pub new_kept : (os : List Operation) (start new : Json) → All IsOperation os → IsPassed start → run_from 0 os start ≡ Ok new → IsPassed new
+new_kept os start new h s e =
+    let begun : IsKept start = record { writable = s.writable; ordered = s.ordered } in
+    let kept : IsKept new = subst (λ made. IfOk made IsKept) e (run_kept 0 os start (operands os h) begun) in
+    record { writable = kept.writable; ordered = kept.ordered; shallow = new_shallow 62 os start new (omega arith) h s.shallow e }
 
-pub first_kept : (fallback : Json) (found : Option Json) → IsPassed fallback → IfSome found IsKept → IsKept (value_or fallback found)
+pub first_kept : (fallback : Json) (found : Option Json) → IsPassed fallback → IfSome found IsPassed → IsPassed (value_or fallback found)
 first_kept fallback (Some j) p h = h
-first_kept fallback None p h = record { writable = p.writable; ordered = p.ordered }
+first_kept fallback None p h = p
 
 pub case_of : (kept : List Kept) (set : SetPacket) (old new : Json) → is_private set.key ≡ false → before kept set ≡ old → run_from 0 set.operations old ≡ Ok new
     → set_case kept set ≡ within_limits (put set.key new kept) record { old = old; new = new }

@@ -153,7 +153,7 @@ module _ (n : ℕ) where
   operated_shallow o j v h =
       search (either, v, h, itself_shallow, added_shallow, removed_shallow, popped_shallow, updated_shallow, both_shallow) depth 12
 
-  pub run_shallow : (i : ℕ) (os : List Operation) (j : Json) → 62 ≤ n → All IsOperation os → IsShallow j → IfOk (run_from i os j) IsShallow
+  run_shallow : (i : ℕ) (os : List Operation) (j : Json) → 62 ≤ n → All IsOperation os → IsShallow j → IfOk (run_from i os j) IsShallow
   run_shallow i [] j m v h = h
   run_shallow i (o ∷ os) j m v h =
       let operand : IsPassed o.value = All-head IsOperation o os v in

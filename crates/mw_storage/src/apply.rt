@@ -21,8 +21,8 @@ pub struct Changed {
     pub new: Tree,
 }
 
-/// Whether a key is one of those that are read alone.
-pub(crate) fn is_private(key: &str) -> bool
+/// Whether a key is one of those that are read alone: whether it begins with `_read_`.
+pub fn is_private(key: &str) -> bool
     ensures { result ≡ is_private key.now }
 {
     key.as_bytes().starts_with(b"_read_")

@@ -15,7 +15,8 @@ mod run;
 mod size;
 mod store;
 
-pub use apply::Changed;
+pub use apply::{Changed, is_private};
 pub use growth::StoreGrowth;
+pub use objects::set_member;
 pub use refusal::StoreRefusal;
 pub use store::Store;

@@ -1,5 +1,5 @@
 ghost use Rattle.std.specs.Prelude.{◌≡◌, ◌<◌, ◌≤◌, ◌+◌, length, take, drop, IfOk, MatchOption};
-ghost use Rattle.mw_model.specs.Json.{Json, member};
+ghost use Rattle.mw_model.specs.Json.{Json, member, IsOrdered, IsWritable, MembersAreOrdered, MembersAreWritable};
 ghost use Rattle.mw_json.specs.View.{view, members_view};
 ghost use Rattle.mw_protocol.specs.Operations.{set_member, set_members, without_member};
 ghost use Rattle.mw_storage.specs.Places.{in_front, with_first_value, set_at, IsPlace};
@@ -51,10 +51,16 @@ fn with_value(members: List<Member>, at: usize, value: Tree) -> List<Member>
     List::from_vec(members)
 }
 
-/// A member with this value: the one of this name, or a new one at its place.
-fn set_member(members: List<Member>, name: Text, value: Tree) -> Result<List<Member>, Memory>
-    ensures { IfOk result (λ all.
+/// Members among which the one of this name has this value. Where none has the name, a new one
+/// stands before the first whose name comes after it in byte order. After `Memory` they are gone.
+#[tactic(auto, using(crate::proofs::Keeping::set_stays_writable, crate::proofs::Keeping::set_stays_ordered))]
+pub fn set_member(members: List<Member>, name: Text, value: Tree) -> Result<List<Member>, Memory>
+    ensures value { IfOk result (λ all.
         members_view all ≡ set_member name (view value) (members_view members)) }
+    ensures writable { IsWritable (view value) → MembersAreWritable (members_view members)
+        → IfOk result (λ all. MembersAreWritable (members_view all)) }
+    ensures ordered { IsOrdered (view value) → MembersAreOrdered (members_view members)
+        → IfOk result (λ all. MembersAreOrdered (members_view all)) }
 {
     match place_for(members.as_slice(), name.as_str()) {
         Place::At(at) => Ok(with_value(members, at, value)),

@@ -1,6 +1,6 @@
 use Rattle.std.proofs.Common.{◌≡◌, ◌∷◌, ◌+◌, suc, add-one, drop, drop-cons, map, sym, ap, ◌∙◌}
 use Rattle.mw_json.specs.View.{member_view, members_view}
-use Rattle.mw_packets_in.specs.Fields.{others}
+use Rattle.mw_protocol.specs.Further.{others}
 use Rattle.mw_packets_in.specs.Own.{own_names}
 use Rattle.mw_packets_in.proofs.Others.{ahead, none_left, one_more}
 use Rattle.mw_packets_in.proofs.further.others_of.Goals as goal
