@@ -1,5 +1,5 @@
 -- Releases and collects: what their records come to.
-use Rattle.std.proofs.Common.{◌≡◌, ℕ, ℤ, ◌==◌, true, false, cond, List, [], ◌∷◌, ◌++◌, Bool, Option, Some, None, map, refl, sym, ap, ap₂, ◌∙◌, subst, append-nil, append_assoc, length, ◌<◌, codes, arith}
+use Rattle.std.proofs.Common.{◌≡◌, ℕ, ℤ, true, cond, List, [], ◌∷◌, ◌++◌, Bool, Option, None, map, refl, sym, ap, ap₂, ◌∙◌, subst, append-nil, append_assoc, length, ◌<◌, codes, arith}
 use Rattle.std.proofs.lemmas.List.{length-map, map-append}
 use Rattle.mw_protocol.specs.Asked.{asked_by}
 use Rattle.mw_protocol.specs.Checks.{Check, unseen}
@@ -12,6 +12,7 @@ use Rattle.mw_protocol.specs.Records.{Hint}
 use Rattle.mw_protocol.specs.Standing as plain
 use Rattle.mw_protocol.specs.Standing.{step, steps}
 use Rattle.mw_protocol.specs.Statuses.{SlotStatus, set_status}
+use Rattle.mw_protocol.specs.Storage.{Kept}
 use Rattle.mw_checks.proofs.Releasing.{fresh_joined}
 use Rattle.mw_checks.specs.Log.{AreFresh, check_of, checks_of}
 use Rattle.mw_laws.proofs.Journal.{steps-append}
@@ -30,7 +31,7 @@ use Rattle.mw_room.specs.declared.standing.Standing.{Standing}
 -- what stands once records of gifts are done
 asked_after : (s : Standing) (team : ℕ) (g : Given) (r : recorded.Record) → IsGiven s team g
     → where_new s.log.seed (steps s.log.seed (standing_of s) (map record_view g.records)) r ≡ if_some (unseen (s.log.checked ++ checks_of team g.new) (asked_by s.log.seed r)) r
-asked_after s team g r given = ap (λ (now : plain.Standing). where_new s.log.seed now r) (given.comes_to s.statuses.items s.hints.hints)
+asked_after s team g r given = ap (λ (now : plain.Standing). where_new s.log.seed now r) (given.comes_to s.statuses.items s.hints.hints s.store.kept)
 
 -- nothing is new
 pub none_more : (s : Standing) (team : ℕ) (g : Given) (r : recorded.Record) (more : List (ℕ × ℤ)) → IsGiven s team g
@@ -45,11 +46,11 @@ pub one_more : (s : Standing) (team : ℕ) (g : Given) (r : recorded.Record) (p 
 one_more s team g r p more given is = asked_after s team g r given ∙ ap (λ (cs : List Check). if_some cs r) (sym is)
 
 -- a gift's record changes checks alone
-gift_step : (seed : _) (giving : Giving) (team slot : ℕ) (cs : List Check) (ss : List SlotStatus) (hs : List Hint)
-    → step seed (record { checked = cs; statuses = ss; hints = hs }) (asking giving team slot)
-    ≡ record { checked = cs ++ unseen cs (asked_by seed (asking giving team slot)); statuses = ss; hints = hs }
-gift_step seed Release team slot cs ss hs = refl
-gift_step seed Collect team slot cs ss hs = refl
+gift_step : (seed : _) (giving : Giving) (team slot : ℕ) (cs : List Check) (ss : List SlotStatus) (hs : List Hint) (ks : List Kept)
+    → step seed (record { checked = cs; statuses = ss; hints = hs; storage = ks }) (asking giving team slot)
+    ≡ record { checked = cs ++ unseen cs (asked_by seed (asking giving team slot)); statuses = ss; hints = hs; storage = ks }
+gift_step seed Release team slot cs ss hs ks = refl
+gift_step seed Collect team slot cs ss hs ks = refl
 
 -- a gift more is given
 pub gift_more : (s : Standing) (team slot : ℕ) (giving : Giving) (g h : Given) (more : List (ℕ × ℤ)) → IsGiven s team g
@@ -66,33 +67,33 @@ gift_more s team slot giving g h more given is fresh records new =
     ∙ ap (λ (cs : List Check). s.log.checked ++ cs) (sym (map-append (check_of team) g.new more) ∙ ap (checks_of team) (sym new)) in
     record {
       fresh = subst (AreFresh seed s.log.checked team) (sym new) (fresh_joined seed s.log.checked team g.new more given.fresh fresh);
-      comes_to = λ ss hs.
-          let start : plain.Standing = record { checked = s.log.checked; statuses = ss; hints = hs } in
+      comes_to = λ ss hs ks.
+          let start : plain.Standing = record { checked = s.log.checked; statuses = ss; hints = hs; storage = ks } in
           ap (steps seed start) records
           ∙ steps-append seed start (map record_view g.records) (asking giving team slot ∷ [])
-          ∙ ap (λ (now : plain.Standing). step seed now (asking giving team slot)) (given.comes_to ss hs)
-          ∙ gift_step seed giving team slot before ss hs
-          ∙ ap (λ (cs : List Check). record { checked = cs; statuses = ss; hints = hs }) all;
+          ∙ ap (λ (now : plain.Standing). step seed now (asking giving team slot)) (given.comes_to ss hs ks)
+          ∙ gift_step seed giving team slot before ss hs ks
+          ∙ ap (λ (cs : List Check). record { checked = cs; statuses = ss; hints = hs; storage = ks }) all;
     }
 
 -- nothing is given
 pub gifts_none : (s : Standing) (team : ℕ) (g : Given) → map record_view g.records ≡ [] → g.new ≡ [] → IsGiven s team g
 gifts_none s team g records new = record {
   fresh = subst (AreFresh s.log.seed s.log.checked team) (sym new) tt;
-  comes_to = λ ss hs.
-      ap (steps s.log.seed (record { checked = s.log.checked; statuses = ss; hints = hs })) records
-      ∙ ap (λ (cs : List Check). record { checked = cs; statuses = ss; hints = hs }) (sym (append-nil s.log.checked))
-      ∙ ap (λ (ps : List (ℕ × ℤ)). record { checked = s.log.checked ++ checks_of team ps; statuses = ss; hints = hs }) (sym new);
+  comes_to = λ ss hs ks.
+      ap (steps s.log.seed (record { checked = s.log.checked; statuses = ss; hints = hs; storage = ks })) records
+      ∙ ap (λ (cs : List Check). record { checked = cs; statuses = ss; hints = hs; storage = ks }) (sym (append-nil s.log.checked))
+      ∙ ap (λ (ps : List (ℕ × ℤ)). record { checked = s.log.checked ++ checks_of team ps; statuses = ss; hints = hs; storage = ks }) (sym new);
 }
 
 -- what a status and then gifts come to
 pub stated_comes : (s : Standing) (team slot status : ℕ) (g : Given) → IsGiven s team g
-    → record { checked = s.log.checked ++ checks_of team g.new; statuses = set_status team slot status s.statuses.items; hints = s.hints.hints }
+    → record { checked = s.log.checked ++ checks_of team g.new; statuses = set_status team slot status s.statuses.items; hints = s.hints.hints; storage = s.store.kept }
     ≡ steps s.log.seed (standing_of s) (recorded.status team slot status ∷ map record_view g.records)
 stated_comes s team slot status g given =
     let ss = set_status team slot status s.statuses.items in
-    sym (given.comes_to ss s.hints.hints)
-    ∙ ap (λ (cs : List Check). steps s.log.seed (record { checked = cs; statuses = ss; hints = s.hints.hints }) (map record_view g.records)) (sym (append-nil s.log.checked))
+    sym (given.comes_to ss s.hints.hints s.store.kept)
+    ∙ ap (λ (cs : List Check). steps s.log.seed (record { checked = cs; statuses = ss; hints = s.hints.hints; storage = s.store.kept }) (map record_view g.records)) (sym (append-nil s.log.checked))
 
 some_given : (seed : _) (rs : List recorded.Record) → 0 < length rs → announcing seed rs ≡ giving seed rs
 some_given seed [] h = absurd (omega arith)
@@ -101,10 +102,10 @@ some_given seed (r ∷ rs) h = refl
 -- of a gift by command
 pub gift_effect : (e : Effect) (s : Standing) (m : Member) (permission status : ℕ) (r : recorded.Record) (g : Given) → is_allowed permission status ≡ true → IsGiven s m.team g
     → map record_view g.records ≡ where_new s.log.seed (standing_of s) r → 0 < length g.records
-    → e.records ≡ g.records → e.team ≡ m.team → e.new ≡ g.new → e.status ≡ None → e.hints ≡ [] → e.payer ≡ None
+    → e.records ≡ g.records → e.team ≡ m.team → e.new ≡ g.new → e.status ≡ None → e.hints ≡ [] → e.payer ≡ None → e.stored ≡ None
     → effect_view e ≡ announcing s.log.seed (map record_view g.records)
     → IsEffect e s (where_allowed permission status (giving s.log.seed (where_new s.log.seed (standing_of s) r)))
-gift_effect e s m permission status r g allowed given records some is of new stated hints payer view =
+gift_effect e s m permission status r g allowed given records some is of new stated hints payer stored view =
     let seed = s.log.seed in
     record {
       is =
@@ -112,9 +113,9 @@ gift_effect e s m permission status r g allowed given records some is of new sta
           ∙ ap (giving seed) records
           ∙ sym (ap (λ (b : Bool). cond b (giving seed (where_new seed (standing_of s) r)) (telling (codes "not allowed"))) allowed);
       logged =
-          logged_by e s hints payer
+          logged_by e s hints payer stored
           (subst (λ (ps : List (ℕ × ℤ)). AreFresh seed s.log.checked e.team ps) (sym new) (subst (λ (t : ℕ). AreFresh seed s.log.checked t g.new) (sym of) given.fresh))
-          (ap₂ (λ (cs : List Check) (o : Option SlotStatus). record { checked = s.log.checked ++ cs; statuses = stated_by o s.statuses.items; hints = s.hints.hints }) (ap₂ checks_of of new) stated
-          ∙ sym (given.comes_to s.statuses.items s.hints.hints)
+          (ap₂ (λ (cs : List Check) (o : Option SlotStatus). record { checked = s.log.checked ++ cs; statuses = stated_by o s.statuses.items; hints = s.hints.hints; storage = s.store.kept }) (ap₂ checks_of of new) stated
+          ∙ sym (given.comes_to s.statuses.items s.hints.hints s.store.kept)
           ∙ ap (λ (rs : List Record). steps seed (standing_of s) (map record_view rs)) (sym is));
     }

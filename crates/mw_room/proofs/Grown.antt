@@ -3,8 +3,8 @@ use Rattle.std.proofs.Common.{◌≡◌, ℕ, ℤ, ◌+◌, ◌*◌, ◌-◌, �
 use Rattle.std.specs.List.{filter}
 use Rattle.std.proofs.lemmas.List.Elements.{filter-append}
 use Rattle.mw_model.specs.Seed.{Seed, Held, slot_of, held_at}
-use Rattle.mw_checks.specs.Log.{Log, check_of, checks_of}
-use Rattle.mw_protocol.specs.Checks.{Check, keeps, item_for, found_item, start_items, items_found, received_in as received, locations_in}
+use Rattle.mw_checks.specs.Log.{check_of, checks_of}
+use Rattle.mw_protocol.specs.Checks.{keeps, item_for, found_item, start_items, items_found, received_in as received, locations_in}
 use Rattle.mw_protocol.specs.Connecting.{Member}
 use Rattle.mw_protocol.specs.HintList.{bought_by}
 use Rattle.mw_protocol.specs.Owed.{update_with, items_from, view_of, update_owed, items_owed, growth_owed}

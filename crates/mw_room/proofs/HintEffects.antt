@@ -1,17 +1,16 @@
 -- Effects that record hints.
-use Rattle.std.proofs.Common.{◌≡◌, ℕ, ℤ, zero, suc, ◌==◌, ◌+◌, ◌&&◌, true, false, cond, List, [], ◌∷◌, ◌++◌, Bool, Option, Some, None, not, is_some, map, length, refl, sym, ap, ap₂, ◌∙◌, subst, arith}
+use Rattle.std.proofs.Common.{◌≡◌, ℕ, ℤ, ◌==◌, ◌+◌, ◌&&◌, true, false, cond, List, [], ◌∷◌, Bool, Option, Some, None, not, is_some, map, length, refl, sym, ap, ap₂, ◌∙◌}
 use Rattle.std.proofs.lemmas.Bool.Decides.{Decides-eqb}
 use Rattle.mw_model.specs.Seed.{Seed, held_at}
 use Rattle.mw_protocol.specs.Checks.{Check}
 use Rattle.mw_protocol.specs.Connecting.{Member}
-use Rattle.mw_protocol.specs.Effect as plain
 use Rattle.mw_protocol.specs.Heard.{Announced}
-use Rattle.mw_protocol.specs.HintList.{bought_by, hint_at, hinted_all, made}
+use Rattle.mw_protocol.specs.HintList.{bought_by, hinted_all, made}
 use Rattle.mw_protocol.specs.Hints.{scouted_among}
 use Rattle.mw_protocol.specs.Hints as plain_hints
 use Rattle.mw_protocol.specs.Locating.{hint_told, hints_at, hints_told, mark_record, scouting, slot_number, marking}
 use Rattle.mw_protocol.specs.Locations.{known_checks, scouted_at}
-use Rattle.mw_protocol.specs.Messages.{ServerPacket, location_info}
+use Rattle.mw_protocol.specs.Messages.{location_info}
 use Rattle.mw_protocol.specs.Packets.{UpdateHint}
 use Rattle.mw_protocol.specs.Records as recorded
 use Rattle.mw_protocol.specs.Records.{Hint, hint}
@@ -57,26 +56,26 @@ pub scouts_effect : (e : Effect) (s : Standing) (m : Member) (numbers : List ℤ
     → checks_of m.team known ≡ known_checks s.log.seed m.team m.slot numbers
     → map record_view e.records ≡ map hint_view e.hints
     → map hint_view e.hints ≡ map hint (scouted_where n (standing_of s) m.team m.slot (checks_of m.team known))
-    → e.new ≡ [] → e.status ≡ None → e.payer ≡ None
-    → effect_view e ≡ record { records = map record_view e.records; answers = location_info (scouted_at s.log.seed m.slot (checks_of m.team known)) ∷ []; whole = false; member = None; prints = told_with n s.log.seed (standing_of s) m.team m.slot known }
+    → e.new ≡ [] → e.status ≡ None → e.payer ≡ None → e.stored ≡ None
+    → effect_view e ≡ record { records = map record_view e.records; answers = location_info (scouted_at s.log.seed m.slot (checks_of m.team known)) ∷ []; whole = false; member = None; announced = told_with n s.log.seed (standing_of s) m.team m.slot known }
     → IsEffect e s (scouting s.log.seed (standing_of s) m numbers n)
-scouts_effect e s m numbers n known is records hints new status payer view =
+scouts_effect e s m numbers n known is records hints new status payer stored view =
     let now = standing_of s in
     let seed = s.log.seed in
     record {
       is =
           view
-          ∙ ap₂ (λ (rs : List recorded.Record) (ps : List Announced). record { records = rs; answers = location_info (scouted_at seed m.slot (checks_of m.team known)) ∷ []; whole = false; member = None; prints = ps })
+          ∙ ap₂ (λ (rs : List recorded.Record) (ps : List Announced). record { records = rs; answers = location_info (scouted_at seed m.slot (checks_of m.team known)) ∷ []; whole = false; member = None; announced = ps })
           (records ∙ hints) (told_is seed now m.team m.slot known n)
           ∙ ap (λ (cs : List Check). record {
             records = map hint (scouted_where n now m.team m.slot cs);
             answers = location_info (scouted_at seed m.slot cs) ∷ [];
             whole = false;
             member = None;
-            prints = hints_told seed now (cond (n == 1) (hints_at (hinted_all now.hints (map hint (scouted_where n now m.team m.slot cs))) m.team m.slot cs) (scouted_where n now m.team m.slot cs));
+            announced = hints_told seed now (cond (n == 1) (hints_at (hinted_all now.hints (map hint (scouted_where n now m.team m.slot cs))) m.team m.slot cs) (scouted_where n now m.team m.slot cs));
           }) is;
       logged =
-          hints_logged e s new status records
+          hints_logged e s new status stored records
           (λ team slot.
           ap (λ (rs : List recorded.Record). length (bought_by (hinted_all now.hints rs) team slot)) hints
           ∙ scouts_unpaid now m.team m.slot n team slot (checks_of m.team known)
@@ -98,15 +97,15 @@ marks_unpaid seed now m finder location (Some status) team slot =
 pub marks_effect : (e : Effect) (s : Standing) (m : Member) (u : UpdateHint)
     → map record_view e.records ≡ map hint_view e.hints
     → map hint_view e.hints ≡ mark_record s.log.seed (standing_of s) m (slot_number u.player) u.location u.status
-    → e.new ≡ [] → e.status ≡ None → e.payer ≡ None
-    → effect_view e ≡ record { records = map record_view e.records; answers = []; whole = false; member = None; prints = [] }
+    → e.new ≡ [] → e.status ≡ None → e.payer ≡ None → e.stored ≡ None
+    → effect_view e ≡ record { records = map record_view e.records; answers = []; whole = false; member = None; announced = [] }
     → IsEffect e s (marking s.log.seed (standing_of s) m u)
-marks_effect e s m u records hints new status payer view =
+marks_effect e s m u records hints new status payer stored view =
     let now = standing_of s in
     record {
-      is = view ∙ ap (λ (rs : List recorded.Record). record { records = rs; answers = []; whole = false; member = None; prints = [] }) (records ∙ hints);
+      is = view ∙ ap (λ (rs : List recorded.Record). record { records = rs; answers = []; whole = false; member = None; announced = [] }) (records ∙ hints);
       logged =
-          hints_logged e s new status records
+          hints_logged e s new status stored records
           (λ team slot.
           ap (λ (rs : List recorded.Record). length (bought_by (hinted_all now.hints rs) team slot)) hints
           ∙ marks_unpaid s.log.seed now m (slot_number u.player) u.location u.status team slot
@@ -127,15 +126,15 @@ bought_paid e s m h is of payer team slot =
 
 pub bought_effect : (e : Effect) (s : Standing) (m : Member) (entry : HintRecord) (h : Hint) → IsBought (standing_of s) m.team m.slot h → hint_view entry ≡ hint h
     → map record_view e.records ≡ map hint_view e.hints → e.hints ≡ entry ∷ []
-    → e.team ≡ m.team → e.new ≡ [] → e.status ≡ None → e.payer ≡ Some m.slot
-    → effect_view e ≡ record { records = map record_view e.records; answers = []; whole = false; member = None; prints = hint_told (standing_of s) h (held_at s.log.seed h.finder h.location) }
+    → e.team ≡ m.team → e.new ≡ [] → e.status ≡ None → e.payer ≡ Some m.slot → e.stored ≡ None
+    → effect_view e ≡ record { records = map record_view e.records; answers = []; whole = false; member = None; announced = hint_told (standing_of s) h (held_at s.log.seed h.finder h.location) }
     → IsEffect e s (buying s.log.seed (standing_of s) (plain_hints.bought h))
-bought_effect e s m entry h is same records hints of new status payer view =
+bought_effect e s m entry h is same records hints of new status payer stored view =
     let now = standing_of s in
     let one : map hint_view e.hints ≡ hint h ∷ [] = ap (map hint_view) hints ∙ ap (λ (r : recorded.Record). r ∷ []) same in
     record {
-      is = view ∙ ap (λ (rs : List recorded.Record). record { records = rs; answers = []; whole = false; member = None; prints = hint_told now h (held_at s.log.seed h.finder h.location) }) (records ∙ one);
+      is = view ∙ ap (λ (rs : List recorded.Record). record { records = rs; answers = []; whole = false; member = None; announced = hint_told now h (held_at s.log.seed h.finder h.location) }) (records ∙ one);
       logged =
-          hints_logged e s new status records
+          hints_logged e s new status stored records
           (λ team slot. ap (λ (rs : List recorded.Record). length (bought_by (hinted_all now.hints rs) team slot)) one ∙ bought_paid e s m h is of payer team slot);
     }

@@ -1,9 +1,9 @@
 -- Hints that a scouting tells again.
-use Rattle.std.proofs.Common.{◌≡◌, ℕ, ℤ, ◌==◌, ◌&&◌, ◌||◌, true, false, not, cond, List, [], ◌∷◌, ◌++◌, Bool, Option, Some, None, is_some, map, refl, sym, ap, ap₂, ◌∙◌, subst, append_assoc, append-nil, true≢false}
+use Rattle.std.proofs.Common.{◌≡◌, ℕ, ℤ, ◌&&◌, ◌||◌, true, false, not, cond, List, [], ◌∷◌, ◌++◌, Bool, Option, Some, None, is_some, map, refl, sym, ap, ap₂, ◌∙◌, subst, append_assoc, append-nil, true≢false}
 use Rattle.std.specs.Option.{unwrap_or}
 use Rattle.std.specs.Ordering.{int_eq}
 use Rattle.std.proofs.lemmas.Bool.Decides.{Decides-and, Decides-eqb, Decides-int_eq}
-use Rattle.mw_model.specs.Seed.{Seed, Held, held_at}
+use Rattle.mw_model.specs.Seed.{Seed, held_at}
 use Rattle.mw_protocol.specs.Checks.{Check, CheckedAt}
 use Rattle.mw_protocol.specs.HintList.{is_at, hint_at, made, hinted_all}
 use Rattle.mw_protocol.specs.Hints.{scouted_among, scouted_hint}

@@ -1,46 +1,46 @@
 -- Records of hints: what they come to, and which are told.
-use Rattle.std.proofs.Common.{◌≡◌, ℕ, ℤ, ◌==◌, ◌+◌, ◌&&◌, ◌||◌, true, false, not, cond, List, [], ◌∷◌, ◌++◌, Bool, Option, Some, None, is_some, map, length, refl, sym, ap, ap₂, ◌∙◌, subst, append-nil, append_assoc, arith}
+use Rattle.std.proofs.Common.{◌≡◌, ℕ, ℤ, ◌+◌, ◌||◌, true, false, cond, List, [], ◌∷◌, ◌++◌, Option, Some, None, is_some, map, length, refl, sym, ap, ap₂, ◌∙◌, subst, append-nil}
 use Rattle.mw_model.specs.Seed.{Seed, Held, held_at}
-use Rattle.mw_protocol.specs.Checks.{Check, CheckedAt}
-use Rattle.mw_protocol.specs.Heard.{Announced}
+use Rattle.mw_protocol.specs.Checks.{Check}
 use Rattle.mw_protocol.specs.HintList.{bought_by, hint_at, hinted, hinted_all}
 use Rattle.mw_protocol.specs.Hints.{scouted_among}
 use Rattle.mw_protocol.specs.Locating.{hint_told, hints_told}
-use Rattle.mw_protocol.specs.Records as recorded
 use Rattle.mw_protocol.specs.Records.{Hint}
 use Rattle.mw_protocol.specs.Standing as plain
 use Rattle.mw_protocol.specs.Standing.{is_checked, step, steps}
 use Rattle.mw_protocol.specs.Statuses.{SlotStatus}
+use Rattle.mw_protocol.specs.Storage.{Kept}
 use Rattle.mw_checks.specs.Log.{AreFresh, checks_of}
 use Rattle.mw_records.specs.Records.{record_view, hint_view}
 use Rattle.mw_base.specs.declared.hint.HintRecord.{HintRecord}
 use Rattle.mw_base.specs.declared.hint.HintRecord.TheVariants.{Made, Marked}
 use Rattle.mw_room.specs.Hinting.{all_told, told_where, told_at}
-use Rattle.mw_room.specs.Parts.{IsLogged, grown, paid_by, standing_of, stated_by}
+use Rattle.mw_room.specs.Parts.{IsLogged, kept_by, paid_by, standing_of, stated_by}
 use Rattle.mw_room.specs.declared.effect.Effect.{Effect}
 use Rattle.mw_room.specs.declared.standing.Standing.{Standing}
 
 -- a hint's record changes hints alone
-hint_step : (seed : Seed) (now : plain.Standing) (h : HintRecord) → step seed now (hint_view h) ≡ record { checked = now.checked; statuses = now.statuses; hints = hinted now.hints (hint_view h) }
+hint_step : (seed : Seed) (now : plain.Standing) (h : HintRecord) → step seed now (hint_view h) ≡ record { checked = now.checked; statuses = now.statuses; hints = hinted now.hints (hint_view h); storage = now.storage }
 hint_step seed now (Made team finder loc bought buyer status) =
-    ap (λ (cs : List Check). record { checked = cs; statuses = now.statuses; hints = hinted now.hints (hint_view (Made team finder loc bought buyer status)) }) (append-nil now.checked)
+    ap (λ (cs : List Check). record { checked = cs; statuses = now.statuses; hints = hinted now.hints (hint_view (Made team finder loc bought buyer status)); storage = now.storage }) (append-nil now.checked)
 hint_step seed now (Marked team finder loc status) =
-    ap (λ (cs : List Check). record { checked = cs; statuses = now.statuses; hints = hinted now.hints (hint_view (Marked team finder loc status)) }) (append-nil now.checked)
+    ap (λ (cs : List Check). record { checked = cs; statuses = now.statuses; hints = hinted now.hints (hint_view (Marked team finder loc status)); storage = now.storage }) (append-nil now.checked)
 
 steps_hints : (seed : Seed) (now : plain.Standing) (hs : List HintRecord)
-    → steps seed now (map hint_view hs) ≡ record { checked = now.checked; statuses = now.statuses; hints = hinted_all now.hints (map hint_view hs) }
+    → steps seed now (map hint_view hs) ≡ record { checked = now.checked; statuses = now.statuses; hints = hinted_all now.hints (map hint_view hs); storage = now.storage }
 steps_hints seed now [] = refl
-steps_hints seed now (h ∷ hs) = ap (λ (x : plain.Standing). steps seed x (map hint_view hs)) (hint_step seed now h) ∙ steps_hints seed (record { checked = now.checked; statuses = now.statuses; hints = hinted now.hints (hint_view h) }) hs
+steps_hints seed now (h ∷ hs) = ap (λ (x : plain.Standing). steps seed x (map hint_view hs)) (hint_step seed now h) ∙ steps_hints seed (record { checked = now.checked; statuses = now.statuses; hints = hinted now.hints (hint_view h); storage = now.storage }) hs
 
 -- an effect that records hints alone
-pub hints_logged : (e : Effect) (s : Standing) → e.new ≡ [] → e.status ≡ None → map record_view e.records ≡ map hint_view e.hints
+pub hints_logged : (e : Effect) (s : Standing) → e.new ≡ [] → e.status ≡ None → e.stored ≡ None → map record_view e.records ≡ map hint_view e.hints
     → ((team slot : ℕ) → length (bought_by (hinted_all s.hints.hints (map hint_view e.hints)) team slot) ≡ length (bought_by s.hints.hints team slot) + paid_by e team slot)
     → IsLogged s e
-hints_logged e s new status records paid = record {
+hints_logged e s new status stored records paid = record {
   fresh = subst (AreFresh s.log.seed s.log.checked e.team) (sym new) tt;
   comes_to =
-      ap₂ (λ (ps : List (ℕ × ℤ)) (o : Option SlotStatus). record { checked = s.log.checked ++ checks_of e.team ps; statuses = stated_by o s.statuses.items; hints = hinted_all s.hints.hints (map hint_view e.hints) }) new status
-      ∙ ap (λ (cs : List Check). record { checked = cs; statuses = s.statuses.items; hints = hinted_all s.hints.hints (map hint_view e.hints) }) (append-nil s.log.checked)
+      ap₂ (λ (ps : List (ℕ × ℤ)) (o : Option SlotStatus). record { checked = s.log.checked ++ checks_of e.team ps; statuses = stated_by o s.statuses.items; hints = hinted_all s.hints.hints (map hint_view e.hints); storage = kept_by e.stored s.store.kept }) new status
+      ∙ ap (λ (k : Option Kept). record { checked = s.log.checked ++ []; statuses = s.statuses.items; hints = hinted_all s.hints.hints (map hint_view e.hints); storage = kept_by k s.store.kept }) stored
+      ∙ ap (λ (cs : List Check). record { checked = cs; statuses = s.statuses.items; hints = hinted_all s.hints.hints (map hint_view e.hints); storage = s.store.kept }) (append-nil s.log.checked)
       ∙ sym (steps_hints s.log.seed (standing_of s) e.hints)
       ∙ ap (steps s.log.seed (standing_of s)) (sym records);
   paid = paid;

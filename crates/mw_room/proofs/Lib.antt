@@ -12,8 +12,10 @@ mod Messages
 mod Numbers
 mod Places
 mod Planning
+mod Sets
 mod Slots
 mod Sparse
 mod Statuses
 mod Tags
 mod Turns
+mod Values

@@ -1,5 +1,5 @@
 -- Numbers of slots.
-use Rattle.std.proofs.Common.{◌≡◌, ℕ, ℤ, pos, negsuc, zero, suc, ◌≤ℤ◌, ◌≤◌, ◌<◌, ◌==◌, ◌&&◌, ◌∷◌, [], List, All, Bool, true, false, cond, Option, Some, None, not, length, map, refl, sym, ap, ◌∙◌, subst, arith, true≢false}
+use Rattle.std.proofs.Common.{◌≡◌, ℕ, ℤ, pos, negsuc, zero, suc, ◌≤ℤ◌, ◌<◌, ◌==◌, ◌&&◌, ◌∷◌, [], List, All, true, false, cond, Option, Some, None, not, length, refl, sym, ap, ◌∙◌, subst, arith, true≢false}
 use Rattle.std.proofs.lemmas.Bool.Decides.{Decides-and, Decides-eqb, Decides-int_eq}
 use Rattle.std.proofs.lemmas.Int.{ints}
 use Rattle.std.proofs.lemmas.List.Elements.{All-head, All-tail}
@@ -11,7 +11,7 @@ use Rattle.mw_protocol.specs.Connecting.{Member}
 use Rattle.mw_protocol.specs.HintList.{hint_at}
 use Rattle.mw_protocol.specs.Hints.{differs, receives}
 use Rattle.mw_protocol.specs.Locating.{mark_record, slot_number}
-use Rattle.mw_protocol.specs.Records.{Record, hint_status}
+use Rattle.mw_protocol.specs.Records.{hint_status}
 use Rattle.mw_protocol.specs.Standing.{Standing, is_checked}
 use Rattle.mw_multidata.specs.SeedKept.{IsSeed, HeldKept, game_of, has_location}
 

@@ -1,5 +1,5 @@
 -- Lists of tags.
-use Rattle.std.proofs.Common.{◌≡◌, ℕ, suc, ◌&&◌, ◌≢◌, List, [], ◌∷◌, false, true, length, refl, ap, arith}
+use Rattle.std.proofs.Common.{◌≡◌, ℕ, suc, ◌&&◌, ◌≢◌, List, [], ◌∷◌, false, true, length, refl, ap}
 use Rattle.std.specs.Prelude.{bytes_eq}
 use Rattle.mw_protocol.specs.Entering.{same_texts}
 

@@ -3,7 +3,8 @@ use Rattle.std.specs.Prelude.{ℕ, ◌<◌, ◌≤◌, ◌+◌, ◌^◌, ◌∷�
 use Rattle.mw_base.specs.Space.{HasSpace}
 use Rattle.mw_checks.specs.Log.{HasRoom}
 use Rattle.mw_hints.specs.Room.{HasRoom as HasHintRoom}
-use Rattle.mw_room.specs.Parts.{IsLogged}
+use Rattle.mw_storage.specs.Stored.{HasRoom as HasKeyRoom}
+use Rattle.mw_room.specs.Parts.{IsLogged, keys_in}
 use Rattle.mw_room.specs.declared.plan.Plan.{Plan}
 use Rattle.mw_room.specs.declared.room.Room.{Room}
 use Rattle.mw_room.specs.declared.session.Change.{Change}
@@ -18,6 +19,7 @@ ChangesFit from ss (c ∷ cs) = (from ≤ c.at) × (c.at < length ss) × ((d : S
 pub record Fits (room : Room) (plan : Plan) : Type 0 where
   pub log : HasRoom room.standing.log plan.log_growth (length plan.effect.new)
   pub hints : HasHintRoom room.standing.hints plan.hint_growth (length plan.effect.hints)
+  pub keys : HasKeyRoom room.standing.store plan.store_growth (keys_in plan.effect.stored)
   pub statuses : HasSpace room.standing.statuses plan.status_growth 1
   pub sessions : HasSpace room.sessions plan.sessions_growth (vec_len plan.new_sessions)
   pub changes : ChangesFit 0 room.sessions.items plan.changes.items

@@ -5,6 +5,7 @@ use Rattle.mw_protocol.specs.Commands.{at_goal, is_automatic, where_new}
 use Rattle.mw_protocol.specs.Records.{Record, Hint, release, collect}
 use Rattle.mw_protocol.specs.Standing as plain
 use Rattle.mw_protocol.specs.Statuses.{SlotStatus}
+use Rattle.mw_protocol.specs.Storage.{Kept}
 use Rattle.mw_checks.specs.Log.{AreFresh, checks_of}
 use Rattle.mw_records.specs.Records.{record_view}
 use Rattle.mw_room.specs.declared.giving.Given.{Given}
@@ -24,9 +25,9 @@ given_where permission seed now r = if is_automatic permission then where_new se
 abbrev pub given_with : ℕ → Seed → plain.Standing → ℕ → ℕ → List Record
 given_with status seed now team slot = if status == 30 then at_goal seed now team slot else []
 
--- the checks aren't there yet, and are what the records come to, whatever the statuses and hints
+-- the checks aren't there yet, and are what the records come to, whatever the statuses, hints and keys
 pub record IsGiven (s : Standing) (team : ℕ) (g : Given) : Type 0 where
   pub fresh : AreFresh s.log.seed s.log.checked team g.new
-  pub comes_to : (ss : List SlotStatus) (hs : List Hint)
-      → plain.steps s.log.seed (record { checked = s.log.checked; statuses = ss; hints = hs }) (map record_view g.records)
-      ≡ record { checked = s.log.checked ++ checks_of team g.new; statuses = ss; hints = hs }
+  pub comes_to : (ss : List SlotStatus) (hs : List Hint) (ks : List Kept)
+      → plain.steps s.log.seed (record { checked = s.log.checked; statuses = ss; hints = hs; storage = ks }) (map record_view g.records)
+      ≡ record { checked = s.log.checked ++ checks_of team g.new; statuses = ss; hints = hs; storage = ks }

@@ -17,7 +17,7 @@ use Rattle.mw_room.specs.declared.standing.Standing.{Standing as RustStanding}
 abbrev pub told_at : Standing → ℕ → ℕ → ℤ → Option Held → List Announced
 told_at now team finder location None = []
 told_at now team finder location (Some at) =
-    record { audience = slots_hear team finder at.receiver; print = printed (hint_print (found_item at) at.receiver (is_checked now team finder location)) } ∷ []
+    record { audience = slots_hear team finder at.receiver; packet = printed (hint_print (found_item at) at.receiver (is_checked now team finder location)) } ∷ []
 
 -- a hint that is there is told again or not, one that isn't there is made where the location isn't checked
 abbrev pub told_where : Option Hint → Bool → Bool → Bool

@@ -22,4 +22,4 @@ abbrev pub member_where : List (List ℕ) → Option Player → Option ℕ → L
 member_where (error ∷ errors) player mask tags = None
 member_where [] None mask tags = None
 member_where [] (Some p) None tags = None
-member_where [] (Some p) (Some mask) tags = Some record { team = p.team; slot = p.slot; mask = mask; tags = tags }
+member_where [] (Some p) (Some mask) tags = Some record { team = p.team; slot = p.slot; mask = mask; tags = tags; keys = [] }

@@ -11,5 +11,6 @@ pub mod Parts
 pub mod Playable
 pub mod Stands
 pub mod States
+pub mod Storing
 pub mod Views
 pub mod Written

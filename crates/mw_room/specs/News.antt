@@ -1,5 +1,5 @@
 -- What new checks and hints give a member.
-use Rattle.std.specs.Prelude.{ℕ, ◌+◌, ◌++◌, List, Bool, length, filter, if◌then◌else◌}
+use Rattle.std.specs.Prelude.{ℕ, ◌++◌, List, Bool, length, filter, if◌then◌else◌}
 use Rattle.mw_model.specs.Items.{NetItem}
 use Rattle.mw_model.specs.Seed.{Seed}
 use Rattle.mw_checks.specs.Log.{Log, view_of}
@@ -30,7 +30,7 @@ points_before s m = points s.log.seed (standing_of s) m.team m.slot
 abbrev pub points_after : Standing → Effect → Member → ℕ
 points_after s e m = points s.log.seed (grown s e) m.team m.slot
 
--- what a member is owed once an effect is done, beside the answer to its own packet and prints
+-- what a member is owed once an effect is done, beside the answer to its own packet and what is told to several
 abbrev pub growth_in : Bool → Standing → Effect → Member → List ServerPacket
 growth_in whole s e m =
     update_with (points_before s m) (points_after s e m) (locations_in m.team m.slot (news_of e)) ++ received_in whole s.log m (news_of e)

@@ -14,7 +14,7 @@ use Rattle.mw_room.specs.Known.{Shown, Known, message_of, shown_after, told, wit
 use Rattle.mw_room.specs.Parts.{IsLogged, grown, standing_of}
 use Rattle.mw_room.specs.declared.effect.Announced.{Announced}
 use Rattle.mw_room.specs.declared.effect.Audience.{Audience}
-use Rattle.mw_room.specs.declared.effect.Audience.TheVariants.{Team, Slots, Sender}
+use Rattle.mw_room.specs.declared.effect.Audience.TheVariants.{Team, Slots, Sender, Watchers, Named}
 use Rattle.mw_room.specs.declared.effect.Effect.{Effect}
 use Rattle.mw_room.specs.declared.standing.Standing.{Standing}
 use Rattle.mw_room.specs.declared.plan.Plan.{Plan}
@@ -81,9 +81,11 @@ abbrev pub audience_view : Audience → heard.Audience
 audience_view (Team team) = heard.team_hears team
 audience_view (Slots team finder receiver) = heard.slots_hear team finder receiver
 audience_view Sender = heard.sender_hears
+audience_view (Watchers key replies) = heard.watchers_hear key replies
+audience_view (Named team whom) = heard.named_hear team whom
 
 abbrev pub announced_view : Announced → heard.Announced
-announced_view a = record { audience = audience_view a.audience; print = told_by.packet_view a.print }
+announced_view a = record { audience = audience_view a.audience; packet = told_by.packet_view a.packet }
 
 abbrev pub effect_view : Effect → plain_effects.Effect
 effect_view e = record {
@@ -91,7 +93,7 @@ effect_view e = record {
   answers = map told_by.packet_view e.answers;
   whole = e.whole;
   member = e.member;
-  prints = map announced_view e.prints;
+  announced = map announced_view e.announced;
 }
 
 -- the text that an effect of the sender's, or of another's, owes a session which is this member after it

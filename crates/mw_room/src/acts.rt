@@ -22,6 +22,7 @@ use crate::sessions::{change_all, close_lost, member_of, state_in, take_texts};
 use crate::standing::Standing;
 use crate::state::SessionState;
 use crate::status::set_status;
+use crate::storing::{keys_in, put_stored};
 use mw_base::{Growth, List, Memory, SessionId, Text};
 use mw_multidata::RoomTables;
 use mw_packets_in::{Bad, Packet};
@@ -192,6 +193,7 @@ impl Room {
         let log_growth = self.standing.log.room_for(effect.new.len() as u64)?;
         let hint_growth = self.standing.hints.room_for(effect.hints.len() as u64)?;
         let status_growth = Growth::of(alloc, &self.standing.statuses, 1)?;
+        let store_growth = self.standing.store.room_for(keys_in(&effect.stored))?;
         let sessions_growth = Growth::of(alloc, &self.sessions, new_sessions.len())?;
         Ok(Plan {
             effect,
@@ -203,6 +205,7 @@ impl Room {
             log_growth,
             hint_growth,
             status_growth,
+            store_growth,
             sessions_growth,
         })
     }
@@ -230,6 +233,7 @@ impl Room {
             log_growth,
             hint_growth,
             status_growth,
+            store_growth,
             sessions_growth,
         } = plan;
         let Effect {
@@ -237,6 +241,7 @@ impl Room {
             new,
             status,
             hints,
+            stored,
             ..
         } = effect;
         self.standing
@@ -244,6 +249,7 @@ impl Room {
             .add_grown(team, new.as_slice(), log_growth);
         self.standing.hints.add_grown(hints.as_slice(), hint_growth);
         set_status(&mut self.standing.statuses, status, status_growth);
+        put_stored(&mut self.standing.store, stored, store_growth);
         self.recorded = length;
         self.opened = opened;
         change_all(&mut self.sessions, changes, length);

@@ -10,7 +10,7 @@ ghost use Rattle.mw_room.specs.Written.{AreWritten};
 ghost use Rattle.mw_room.specs.Views.{session_view, changed, due_after, due_text, effect_view, made_for, due_by, IsChange};
 
 use crate::effect::Effect;
-use crate::hearing::{heard_texts, print_texts};
+use crate::hearing::{heard_texts, written};
 use crate::member::Member;
 use crate::owed::growth_owed;
 use crate::session::{Change, Session};
@@ -19,21 +19,21 @@ use mw_base::{Growth, Memory, Text};
 use mw_packets_out::{ServerPacket, write_with};
 use std::alloc::Global;
 
-/// The text of a message of these packets, those, and the prints that were written, where there
-/// are some.
+/// The text of a message of these packets, those, and others that were written, where there are
+/// some.
 pub fn message_text(
     alloc: Global,
     answers: &[ServerPacket],
     others: &[ServerPacket],
-    prints: &[&str],
+    written: &[&str],
 ) -> Result<Option<Text>, Memory>
-    ensures { IfOk result (λ t. (ps : List Told) → map packet_text ps ≡ map (λ p. p.now) prints.now
+    ensures { IfOk result (λ t. (ps : List Told) → map packet_text ps ≡ map (λ p. p.now) written.now
         → t ≡ message_of (map packet_view answers.now ++ map packet_view others.now ++ ps)) }
 {
-    if answers.len() == 0 && others.len() == 0 && prints.len() == 0 {
+    if answers.len() == 0 && others.len() == 0 && written.len() == 0 {
         return Ok(None);
     }
-    Ok(Some(write_with(alloc, answers, others, prints)?))
+    Ok(Some(write_with(alloc, answers, others, written)?))
 }
 
 /// The answers to the sender, where this is the sender.
@@ -57,13 +57,14 @@ fn owed_text(
     member: &Option<Member>,
 ) -> Result<Option<Text>, Memory>
     requires logged { IsLogged standing.now effect.now }
-    requires written { AreWritten texts.now effect.now.prints }
+    requires written { AreWritten texts.now effect.now.announced }
     ensures { IfOk result (λ t. t ≡ due_text standing.now effect.now sends member.now) }
 {
     let whole = effect.whole & sends;
     let others = growth_owed(alloc, standing, effect, whole, member)?;
-    let prints = heard_texts(alloc, effect.prints.as_slice(), texts, sends, member)?;
-    let text = message_text(alloc, answers_to(effect, sends), others.as_slice(), &prints)?;
+    let announced = effect.announced.as_slice();
+    let heard = heard_texts(alloc, standing.seed(), announced, texts, sends, member)?;
+    let text = message_text(alloc, answers_to(effect, sends), others.as_slice(), &heard)?;
     Ok(text)
 }
 
@@ -121,7 +122,7 @@ fn change_of(
     session: &Session,
 ) -> Result<Option<Change>, Memory>
     requires logged { IsLogged standing.now effect.now }
-    requires written { AreWritten texts.now effect.now.prints }
+    requires written { AreWritten texts.now effect.now.announced }
     ensures { IfOk result (λ o. IsChange o at
         (due_after standing.now effect.now sender) session.now) }
 {
@@ -158,7 +159,7 @@ pub fn changes_for(
         (map session_view sessions.now)) }
     ensures fit { IfOk result (λ cs. ChangesFit 0 sessions.now cs.items) }
 {
-    let texts = print_texts(alloc, effect.prints.as_slice())?;
+    let texts = written(alloc, effect.announced.as_slice())?;
     let mut changes = Vec::new(alloc);
     for (at, session) in sessions.iter().enumerate() {
         let change = change_of(alloc, standing, effect, &texts, sender, at, session)?;

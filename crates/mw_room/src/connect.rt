@@ -114,7 +114,7 @@ fn mask_in(items_handling: &Option<i128>) -> Option<u8>
 
 /// The slot of a number.
 #[tactic(auto, using(crate::proofs::Numbers::slot_of_before))]
-fn slot_at(seed: &Multidata, number: SlotId) -> Option<&Slot>
+pub(crate) fn slot_at(seed: &Multidata, number: SlotId) -> Option<&Slot>
     ensures { option_copied result ≡ slot_of seed.now number }
 {
     let at = number.get() - 1;
@@ -198,6 +198,7 @@ fn member_where(
             slot: player.slot,
             mask,
             tags: copy_texts(alloc, tags)?,
+            keys: List::new(alloc),
         })),
         _ => Ok(None),
     }

@@ -4,40 +4,77 @@ ghost use Rattle.mw_packets_out.specs.View.{packet_view};
 ghost use Rattle.mw_room.specs.Parts.{IsQuiet};
 ghost use Rattle.mw_room.specs.Views.{announced_view, audience_view, effect_view};
 
+use crate::bouncing::Named;
 use crate::member::Member;
 use crate::news::Pair;
 use crate::status::SlotStatus;
-use mw_base::{HintRecord, List, Memory, SlotId, TeamId};
+use mw_base::{HintRecord, List, Memory, SlotId, TeamId, Text};
 use mw_chat::command_result;
+use mw_json::Tree;
 use mw_packets_out::ServerPacket;
 use mw_records::Record;
 use std::alloc::Global;
+use std::marker::Model;
 
-/// Who hears a print.
-#[derive(Clone, Copy, Debug)]
+/// Who hears what is told to several.
+#[derive(Debug, Drop)]
 pub enum Audience {
-    /// Everybody of a team.
+    /// Of a print: everybody of a team.
     Team(TeamId),
-    /// In a team, those who play either slot.
+    /// Of a print: in a team, those who play either slot.
     Slots {
         team: TeamId,
         finder: SlotId,
         receiver: u16,
     },
-    /// Who sent the packet.
+    /// Of a print: who sent the packet.
     Sender,
+    /// Those who watch a key, and who sent the packet, where it asks for that.
+    Watchers {
+        key: Text,
+        replies: bool,
+    },
+    /// In a team, those whom a message is for.
+    Named {
+        team: TeamId,
+        named: Named,
+    },
 }
 
-/// A print beside who hears it.
+/// A packet beside who hears it.
 #[derive(Debug, Drop)]
 pub struct Announced {
     pub audience: Audience,
-    pub print: ServerPacket,
+    pub packet: ServerPacket,
+}
+
+/// A key of the data storage with its new value.
+#[derive(Debug, Drop)]
+pub struct NewValue {
+    pub key: Text,
+    pub value: Tree,
+}
+
+impl Model for NewValue {
+    ghost use Rattle.std.specs.Coded.{codes};
+    ghost use Rattle.mw_model.specs.Passed.{IsPassed};
+    ghost use Rattle.mw_protocol.specs.Storage as plain;
+    ghost use Rattle.mw_json.specs.TreeCode.{coded_json};
+    ghost use Rattle.mw_json.specs.View.{view as tree_view};
+
+    ghost Value = { plain.Kept };
+
+    ghost coded = { Prim.hlevel (codes, coded_json) };
+
+    ghost view = { λ n. record { key = n.key; value = tree_view n.value } };
+
+    ghost invariant = { λ n. IsPassed (tree_view n.value) };
 }
 
 /// What an event does: what it records; what this comes to, all in one team: checks, a status,
-/// hints, and the slot that pays for one; its answers to the sender, whether the sender is owed its
-/// whole view, the member that it becomes, if it becomes one, and the prints.
+/// hints, the slot that pays for one, and a key's value; its answers to the sender, whether the
+/// sender is owed its whole view, the member that it becomes, if it becomes one, and what is told
+/// to several.
 #[derive(Drop)]
 pub struct Effect {
     pub records: List<Record>,
@@ -46,10 +83,11 @@ pub struct Effect {
     pub status: Option<SlotStatus>,
     pub hints: List<HintRecord>,
     pub payer: Option<SlotId>,
+    pub stored: Option<NewValue>,
     pub answers: List<ServerPacket>,
     pub whole: bool,
     pub member: Option<Member>,
-    pub prints: List<Announced>,
+    pub announced: List<Announced>,
 }
 
 /// An effect that records nothing.
@@ -59,7 +97,7 @@ pub fn quiet(
     answers: List<ServerPacket>,
     whole: bool,
     member: Option<Member>,
-    prints: List<Announced>,
+    announced: List<Announced>,
 ) -> Effect
     ensures quiet { IsQuiet result }
     ensures is { effect_view result ≡ record {
@@ -67,7 +105,7 @@ pub fn quiet(
       answers = map packet_view answers;
       whole = whole;
       member = member;
-      prints = map announced_view prints;
+      announced = map announced_view announced;
     } }
 {
     Effect {
@@ -77,10 +115,11 @@ pub fn quiet(
         status: None,
         hints: List::new(alloc),
         payer: None,
+        stored: None,
         answers,
         whole,
         member,
-        prints,
+        announced,
     }
 }
 
@@ -102,26 +141,26 @@ pub fn answering(alloc: Global, packet: ServerPacket) -> Result<Effect, Memory>
     Ok(quiet(alloc, answers, false, None, List::new(alloc)))
 }
 
-/// The effect that is prints alone.
-pub fn announcing(alloc: Global, prints: List<Announced>) -> Effect
+/// The effect that several are told of alone.
+pub fn announcing(alloc: Global, announced: List<Announced>) -> Effect
     ensures quiet { IsQuiet result }
-    ensures is { effect_view result ≡ recording_lem [] (map announced_view prints) }
+    ensures is { effect_view result ≡ recording_lem [] (map announced_view announced) }
 {
-    quiet(alloc, List::new(alloc), false, None, prints)
+    quiet(alloc, List::new(alloc), false, None, announced)
 }
 
-/// A list of one print.
-pub fn one_print(
+/// One packet for an audience.
+pub fn one_told(
     alloc: Global,
     audience: Audience,
-    print: ServerPacket,
+    packet: ServerPacket,
 ) -> Result<List<Announced>, Memory>
     ensures { IfOk result (λ ps. map announced_view ps
-        ≡ record { audience = audience_view audience; print = packet_view print } ∷ []) }
+        ≡ record { audience = audience_view audience; packet = packet_view packet } ∷ []) }
 {
-    let mut prints = List::new(alloc);
-    prints.push(Announced { audience, print })?;
-    Ok(prints)
+    let mut announced = List::new(alloc);
+    announced.push(Announced { audience, packet })?;
+    Ok(announced)
 }
 
 /// The sender is told a text.
@@ -130,6 +169,6 @@ pub fn telling(alloc: Global, text: &str) -> Result<Effect, Memory>
     ensures is { IfOk result (λ e. effect_view e ≡ telling_lem text.now) }
 {
     let print = command_result(alloc, text)?;
-    let prints = one_print(alloc, Audience::Sender, print)?;
-    Ok(announcing(alloc, prints))
+    let announced = one_told(alloc, Audience::Sender, print)?;
+    Ok(announcing(alloc, announced))
 }

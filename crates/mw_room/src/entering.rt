@@ -8,7 +8,7 @@ ghost use Rattle.mw_room.specs.Parts.{IsQuiet, standing_of};
 ghost use Rattle.mw_room.specs.Views.{announced_view, effect_view};
 
 use crate::connect::{connect_errors, member_by};
-use crate::effect::{Announced, Audience, Effect, announcing, nothing, one_print, quiet};
+use crate::effect::{Announced, Audience, Effect, announcing, nothing, one_told, quiet};
 use crate::member::{Member, updated};
 use crate::people::connected;
 use crate::standing::Standing;
@@ -32,7 +32,7 @@ fn joined_told(
     let name = name_of(tables, member.team, member.slot);
     let tags = member.tags.as_slice();
     let print = joined(alloc, member.team, member.slot, tags, name)?;
-    one_print(alloc, Audience::Team(member.team), print)
+    one_told(alloc, Audience::Team(member.team), print)
 }
 
 /// The effect of a Connect of a session that plays no slot.
@@ -89,7 +89,7 @@ fn tags_told(
     }
     let name = name_of(tables, member.team, member.slot);
     let print = changed_tags(alloc, member.team, member.slot, tags, name)?;
-    one_print(alloc, Audience::Team(member.team), print)
+    one_told(alloc, Audience::Team(member.team), print)
 }
 
 /// The effect of a ConnectUpdate.
@@ -117,7 +117,7 @@ fn left_told(alloc: Global, tables: &RoomTables, member: &Member) -> Result<List
 {
     let name = name_of(tables, member.team, member.slot);
     let print = left(alloc, member.team, member.slot, name)?;
-    one_print(alloc, Audience::Team(member.team), print)
+    one_told(alloc, Audience::Team(member.team), print)
 }
 
 /// The effect of the end of a session, which was this member, if it was one.

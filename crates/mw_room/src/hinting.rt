@@ -50,7 +50,10 @@ fn told_print(
         finder,
         receiver,
     };
-    Ok(Announced { audience, print })
+    Ok(Announced {
+        audience,
+        packet: print,
+    })
 }
 
 /// Tells those who find or receive what is at a location that there is a hint of it.
@@ -189,12 +192,13 @@ fn hinted(
     ensures status { result.status ≡ None }
     ensures hints { result.hints ≡ hints }
     ensures payer { result.payer ≡ payer }
+    ensures stored { result.stored ≡ None }
     ensures is { effect_view result ≡ record {
       records = map record_view records;
       answers = map packet_view answers;
       whole = false;
       member = None;
-      prints = map announced_view prints;
+      announced = map announced_view prints;
     } }
 {
     Effect {
@@ -204,10 +208,11 @@ fn hinted(
         status: None,
         hints,
         payer,
+        stored: None,
         answers,
         whole: false,
         member: None,
-        prints,
+        announced: prints,
     }
 }
 

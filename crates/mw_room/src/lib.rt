@@ -2,6 +2,7 @@
 #![tactic(auto)]
 
 mod acts;
+mod bouncing;
 mod changes;
 mod connect;
 mod effect;
@@ -19,6 +20,7 @@ mod packets;
 mod people;
 mod plan;
 mod playable;
+mod reading;
 mod refusals;
 mod room;
 mod scouts;
@@ -28,6 +30,8 @@ mod speaking;
 mod standing;
 mod state;
 mod status;
+mod storing;
+mod watching;
 
 pub use event::Event;
 pub use member::Member;

@@ -59,7 +59,10 @@ fn push_sent(
         let item = found_item(held);
         let print = item_send(alloc, &item, held.receiver)?;
         let audience = Audience::Team(member.team);
-        prints.push(Announced { audience, print })?;
+        prints.push(Announced {
+            audience,
+            packet: print,
+        })?;
     }
     Ok(())
 }
@@ -121,12 +124,13 @@ fn checked(
     ensures status { result.status ≡ None }
     ensures hints { result.hints ≡ [] }
     ensures payer { result.payer ≡ None }
+    ensures stored { result.stored ≡ None }
     ensures is { effect_view result ≡ record {
       records = map record_view records;
       answers = [];
       whole = false;
       member = None;
-      prints = map announced_view prints;
+      announced = map announced_view prints;
     } }
 {
     Effect {
@@ -136,9 +140,10 @@ fn checked(
         status: None,
         hints: List::new(alloc),
         payer: None,
+        stored: None,
         answers: List::new(alloc),
         whole: false,
         member: None,
-        prints,
+        announced: prints,
     }
 }

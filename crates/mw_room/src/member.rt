@@ -6,7 +6,8 @@ use mw_packets_in::ConnectUpdate;
 use std::alloc::Global;
 use std::marker::Model;
 
-/// The team and slot that a session plays, the items that it wants, and what kind of client it is.
+/// The team and slot that a session plays, the items that it wants, what kind of client it is, and
+/// the keys of the data storage that it watches.
 #[derive(Debug, Drop)]
 pub struct Member {
     /// The team.
@@ -17,6 +18,8 @@ pub struct Member {
     pub mask: u8,
     /// What kind of client it is.
     pub tags: List<Text>,
+    /// The keys of the data storage whose changes it is told of.
+    pub keys: List<Text>,
 }
 
 impl Model for Member {
@@ -24,7 +27,13 @@ impl Model for Member {
 
     ghost Value = { plain.Member };
 
-    ghost view = { λ m. record { team = m.team; slot = m.slot; mask = m.mask; tags = m.tags } };
+    ghost view = { λ m. record {
+      team = m.team;
+      slot = m.slot;
+      mask = m.mask;
+      tags = m.tags;
+      keys = m.keys;
+    } };
 }
 
 impl Member {
@@ -39,6 +48,7 @@ impl Member {
             slot: self.slot,
             mask: self.mask,
             tags: copy_texts(alloc, self.tags.as_slice())?,
+            keys: copy_texts(alloc, self.keys.as_slice())?,
         })
     }
 }
@@ -73,5 +83,6 @@ pub fn updated(alloc: Global, member: &Member, update: &ConnectUpdate) -> Result
         slot: member.slot,
         mask: update.items_handling.unwrap_or(member.mask),
         tags: copy_texts(alloc, tags_or(&update.tags, member.tags.as_slice()))?,
+        keys: copy_texts(alloc, member.keys.as_slice())?,
     })
 }

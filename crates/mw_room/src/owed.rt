@@ -181,7 +181,8 @@ fn add_items_owed(
     add_new_items(alloc, packets, log, effect, member)
 }
 
-/// What a member is owed once an effect is done, beside the answer to its own packet and prints.
+/// What a member is owed once an effect is done, beside the answer to its own packet and what is
+/// told to several.
 fn growth_of(
     alloc: Global,
     standing: &Standing,
@@ -199,7 +200,8 @@ fn growth_of(
     Ok(packets)
 }
 
-/// What a session is owed once an effect is done, beside the answer to its own packet and prints.
+/// What a session is owed once an effect is done, beside the answer to its own packet and what is
+/// told to several.
 #[tactic(auto, using(crate::proofs::Grown::growth_is))]
 pub fn growth_owed(
     alloc: Global,

@@ -10,16 +10,20 @@ ghost use Rattle.mw_room.specs.Known.{members_of};
 ghost use Rattle.mw_room.specs.Parts.{IsQuiet, standing_of};
 ghost use Rattle.mw_room.specs.Views.{effect_view, session_view, IsEffect};
 
+use crate::bouncing::bouncing;
 use crate::effect::{Effect, answering, nothing, quiet};
 use crate::entering::{joining, updating};
 use crate::hinting::{marking, scouting};
 use crate::locating::checking;
 use crate::member::Member;
 use crate::packages::data_package;
+use crate::reading::reading;
 use crate::refusals::{already_connected, invalid_packet};
 use crate::session::Session;
 use crate::speaking::{saying, stating};
 use crate::standing::Standing;
+use crate::storing::changing;
+use crate::watching::watching;
 use mw_base::{List, Memory, Text};
 use mw_multidata::RoomTables;
 use mw_packets_in::{Bad, Packet};
@@ -39,7 +43,7 @@ pub fn bad_effect(alloc: Global, bad: &Bad) -> Result<Effect, Memory>
 fn syncing(alloc: Global) -> Effect
     ensures quiet { IsQuiet result }
     ensures is { effect_view result
-        ≡ record { records = []; answers = []; whole = true; member = None; prints = [] } }
+        ≡ record { records = []; answers = []; whole = true; member = None; announced = [] } }
 {
     quiet(alloc, List::new(alloc), true, None, List::new(alloc))
 }
@@ -109,7 +113,10 @@ fn member_effect(
         Packet::StatusUpdate(update) => return stating(alloc, standing, member, update.status),
         Packet::Say { text } => return saying(alloc, standing, sessions, member, text),
         Packet::GetDataPackage { games } => packaging(alloc, tables, games)?,
-        _ => nothing(alloc),
+        Packet::Bounce(bounce) => bouncing(alloc, member, bounce)?,
+        Packet::Get(get) => reading(alloc, standing, get)?,
+        Packet::Change(set) => return changing(alloc, standing, member, set),
+        Packet::SetNotify { keys } => watching(alloc, member, keys.as_slice())?,
     };
     Ok(effect)
 }

@@ -5,6 +5,7 @@ use mw_base::{Growth, List};
 use mw_checks::CheckGrowth;
 use mw_hints::HintGrowth;
 use mw_records::Record;
+use mw_storage::StoreGrowth;
 
 /// What an event does to a room, with the memory that it takes.
 #[derive(Drop)]
@@ -18,6 +19,7 @@ pub struct Plan {
     pub(crate) log_growth: CheckGrowth,
     pub(crate) hint_growth: HintGrowth,
     pub(crate) status_growth: Growth<SlotStatus>,
+    pub(crate) store_growth: StoreGrowth,
     pub(crate) sessions_growth: Growth<Session>,
 }
 

@@ -17,7 +17,7 @@ ghost use Rattle.mw_room.specs.Known.{members_of};
 ghost use Rattle.mw_room.specs.Parts.{IsQuiet, standing_of};
 ghost use Rattle.mw_room.specs.Views.{announced_view, effect_view, session_view, IsEffect};
 
-use crate::effect::{Announced, Audience, Effect, announcing, nothing, one_print, telling};
+use crate::effect::{Announced, Audience, Effect, announcing, nothing, one_told, telling};
 use crate::giving::{Given, Giving, at_goal, given_by, is_allowed};
 use crate::hinting::wanting;
 use crate::member::Member;
@@ -62,7 +62,10 @@ fn print_of(alloc: Global, tables: &RoomTables, entry: &Record) -> Result<Option
         _ => return Ok(None),
     };
     let audience = Audience::Team(team);
-    Ok(Some(Announced { audience, print }))
+    Ok(Some(Announced {
+        audience,
+        packet: print,
+    }))
 }
 
 /// What teams are told of records.
@@ -97,6 +100,7 @@ fn told(
     ensures status { IfOk result (λ e. e.status ≡ status) }
     ensures hints { IfOk result (λ e. e.hints ≡ []) }
     ensures payer { IfOk result (λ e. e.payer ≡ None) }
+    ensures stored { IfOk result (λ e. e.stored ≡ None) }
     ensures is { IfOk result (λ e. effect_view e
         ≡ announcing_lem tables.now (map record_view given.records)) }
 {
@@ -109,10 +113,11 @@ fn told(
         status,
         hints: List::new(alloc),
         payer: None,
+        stored: None,
         answers: List::new(alloc),
         whole: false,
         member: None,
-        prints,
+        announced: prints,
     })
 }
 
@@ -197,7 +202,7 @@ fn chatting(
 {
     let name = name_of(tables, member.team, member.slot);
     let print = chatted(alloc, member.team, member.slot, name, text)?;
-    let prints = one_print(alloc, Audience::Team(member.team), print)?;
+    let prints = one_told(alloc, Audience::Team(member.team), print)?;
     Ok(announcing(alloc, prints))
 }
 

@@ -7,14 +7,17 @@ use mw_base::{Memory, SlotId, TeamId};
 use mw_checks::CheckLog;
 use mw_hints::HintBook;
 use mw_multidata::{Multidata, RoomTables};
+use mw_storage::Store;
 use std::alloc::Global;
 
-/// What a room's records come to: the distinct checks, the hints, and the statuses of slots.
+/// What a room's records come to: the distinct checks, the hints, the statuses of slots, and the
+/// data storage.
 #[derive(Drop)]
 pub struct Standing {
     pub log: CheckLog,
     pub hints: HintBook,
     pub statuses: Vec<SlotStatus>,
+    pub store: Store,
 }
 
 impl Standing {
@@ -27,6 +30,7 @@ impl Standing {
             log: CheckLog::new(alloc, tables)?,
             hints: HintBook::new(alloc),
             statuses: Vec::new(alloc),
+            store: Store::new(alloc),
         })
     }
 

@@ -1,10 +1,10 @@
 use Rattle.std.proofs.Common.{◌≡◌, ◌++◌, drop, map}
-use Rattle.mw_protocol.specs.Heard.{prints_heard}
+use Rattle.mw_protocol.specs.Heard.{heard}
 use Rattle.mw_protocol.specs.Messages.{packet_text}
 use Rattle.mw_room.specs.Views.{announced_view}
 use Rattle.mw_room.proofs.hearing.texts_for.Given as goal
 
 abbrev pub invariant-loop-at : goal.invariant-loop-at
 invariant-loop-at l =
-    map (λ t. t.now) l.heard.items ++ map packet_text (prints_heard (map announced_view (drop l.at l.prints)) l.sends l.member)
-    ≡ map packet_text (prints_heard (map announced_view l.prints) l.sends l.member)
+    map (λ t. t.now) l.found.items ++ map packet_text (heard l.seed (map announced_view (drop l.at l.announced)) l.sends l.member)
+    ≡ map packet_text (heard l.seed (map announced_view l.announced) l.sends l.member)

@@ -1,5 +1,4 @@
-use Rattle.std.proofs.Common.{arith, ◌≡◌, ◌∷◌, [], map, ap, ◌∙◌, sym, subst}
-use Rattle.mw_protocol.specs.Connecting.{Member}
+use Rattle.std.proofs.Common.{arith, ◌≡◌, map, ap, ◌∙◌, sym, subst}
 use Rattle.mw_protocol.specs.Hints.{Answer}
 use Rattle.mw_protocol.specs.Speaking.{buying}
 use Rattle.mw_protocol.specs.Standing.{points}
@@ -28,4 +27,5 @@ returns c =
     (c.hinted.ensures.hints ∙ c.in_ok-hints.ensures)
     c.hinted.ensures.team c.hinted.ensures.new c.hinted.ensures.status
     (grind (arith, c.hinted.ensures.payer, c.member.view_is))
+    c.hinted.ensures.stored
     (grind (arith, c.hinted.ensures.is, c.in_ok-prints.ensures h same, c.hinted.ensures.records)))

@@ -10,5 +10,5 @@ returns c =
     marks_effect e c.args.standing.now c.args.member.now c.args.update.now
     (ap (map record_view) c.hinted.ensures.records ∙ records ∙ ap (map hint_view) (sym c.hinted.ensures.hints))
     (ap (map hint_view) (c.hinted.ensures.hints ∙ c.in_ok-hints.ensures) ∙ c.marked.ensures)
-    c.hinted.ensures.new c.hinted.ensures.status c.hinted.ensures.payer
+    c.hinted.ensures.new c.hinted.ensures.status c.hinted.ensures.payer c.hinted.ensures.stored
     (grind (arith, c.hinted.ensures.is))

@@ -1,6 +1,4 @@
-use Rattle.std.proofs.Common.{rules, ◌≡◌, ◌∷◌, [], map, ap, ◌∙◌, sym}
-use Rattle.mw_checks.specs.Log.{checks_of}
-use Rattle.mw_protocol.specs.Locations.{scouted_at}
+use Rattle.std.proofs.Common.{rules, ◌≡◌, map, ap, ◌∙◌, sym}
 use Rattle.mw_records.specs.Records.{record_view, hint_view}
 use Rattle.mw_room.proofs.HintEffects.{scouts_effect}
 use Rattle.mw_room.proofs.hinting.scouting.Goals as goal
@@ -16,5 +14,5 @@ returns c =
     (search rules)
     (ap (map record_view) c.hinted.ensures.records ∙ records ∙ ap (map hint_view) (sym c.hinted.ensures.hints))
     (search rules)
-    c.hinted.ensures.new c.hinted.ensures.status c.hinted.ensures.payer
+    c.hinted.ensures.new c.hinted.ensures.status c.hinted.ensures.payer c.hinted.ensures.stored
     (search rules)

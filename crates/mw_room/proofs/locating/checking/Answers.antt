@@ -28,12 +28,12 @@ returns c =
     let e = c.checked.result in
     let same : checks_of e.team e.new ≡ due = ap₂ checks_of c.checked.ensures.team c.checked.ensures.new ∙ news in
     record {
-      is = c.checked.ensures.is ∙ ap₂ (λ (rs : List recorded.Record) (ps : List Announced). record { records = rs; answers = []; whole = false; member = None; prints = ps }) records prints;
+      is = c.checked.ensures.is ∙ ap₂ (λ (rs : List recorded.Record) (ps : List Announced). record { records = rs; answers = []; whole = false; member = None; announced = ps }) records prints;
       logged =
-          logged_by e s c.checked.ensures.hints c.checked.ensures.payer
+          logged_by e s c.checked.ensures.hints c.checked.ensures.payer c.checked.ensures.stored
           (subst (λ (ps : List (ℕ × ℤ)). AreFresh log.seed log.checked e.team ps) (sym c.checked.ensures.new)
           (subst (λ t. AreFresh log.seed log.checked t c.in_ok-new.new) (sym c.checked.ensures.team) c.in_ok-new.ensures.fresh))
-          (ap₂ (λ (cs : List Check) (ss : List SlotStatus). record { checked = log.checked ++ cs; statuses = ss; hints = s.hints.hints }) same (ap (λ o. stated_by o s.statuses.items) c.checked.ensures.status)
+          (ap₂ (λ (cs : List Check) (ss : List SlotStatus). record { checked = log.checked ++ cs; statuses = ss; hints = s.hints.hints; storage = s.store.kept }) same (ap (λ o. stated_by o s.statuses.items) c.checked.ensures.status)
           ∙ sym (steps_checks log.seed (standing_of s) m.team m.slot (known log.seed m.slot ns))
           ∙ ap (steps log.seed (standing_of s)) (sym (ap (map record_view) c.checked.ensures.records ∙ records)));
     }

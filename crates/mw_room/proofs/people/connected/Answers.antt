@@ -1,11 +1,11 @@
-use Rattle.std.proofs.Common.{◌≡◌, ℕ, ℤ, List, Bool, not, ap, ap₂, ◌∙◌}
+use Rattle.std.proofs.Common.{◌≡◌, ℕ, ℤ, List, not, ap, ap₂, ◌∙◌}
 use Rattle.std.specs.List.{filter}
 use Rattle.mw_model.specs.Seed.{Seed, Slot, Held}
 use Rattle.mw_protocol.specs.Asked.{locations_among}
 use Rattle.mw_protocol.specs.Connecting.{Member}
-use Rattle.mw_protocol.specs.Messages.{Connected, NetworkPlayer, NetworkSlot}
+use Rattle.mw_protocol.specs.Messages.{NetworkPlayer, NetworkSlot}
 use Rattle.mw_protocol.specs.Players.{players_of, slot_infos}
-use Rattle.mw_protocol.specs.Standing.{is_checked, points}
+use Rattle.mw_protocol.specs.Standing.{is_checked}
 use Rattle.mw_room.specs.Parts.{standing_of}
 use Rattle.mw_room.proofs.people.connected.Goals as goal
 

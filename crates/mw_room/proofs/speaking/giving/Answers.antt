@@ -1,7 +1,6 @@
-use Rattle.std.proofs.Common.{rules, ◌≡◌, ◌<◌, true, length, ap, ap₂, ◌∙◌, sym, arith}
+use Rattle.std.proofs.Common.{rules, ◌≡◌, ◌<◌, true, length, arith}
 use Rattle.mw_base.specs.Permissions.{permission_number}
 use Rattle.mw_protocol.specs.Commands.{is_allowed}
-use Rattle.mw_protocol.specs.Connecting.{Member}
 use Rattle.mw_protocol.specs.Standing.{status_in}
 use Rattle.mw_room.specs.Given.{asking}
 use Rattle.mw_room.specs.Parts.{standing_of}
@@ -18,4 +17,4 @@ returns c =
     let some : 0 < length given.records = grind arith in
     gift_effect c.in_ok-effect-3.effect s m (permission_number c.args.permission) (status_in (standing_of s) m.team m.slot) (asking c.args.giving m.team m.slot) given allowed
     c.in_ok-given.ensures.given c.in_ok-given.ensures.records some
-    told.records told.team told.new told.status told.hints told.payer (search rules)
+    told.records told.team told.new told.status told.hints told.payer told.stored (search rules)

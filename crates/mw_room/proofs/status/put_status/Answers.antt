@@ -1,4 +1,4 @@
-use Rattle.std.proofs.Common.{◌≡◌, ◌∷◌, [], ◌++◌, ◌<◌, ◌≤◌, List, length, set, ap, ◌∙◌, subst, sym, arith}
+use Rattle.std.proofs.Common.{◌≡◌, ◌<◌, ◌≤◌, List, length, set, ap, ◌∙◌, arith}
 use Rattle.mw_protocol.specs.Statuses.{SlotStatus}
 use Rattle.mw_room.specs.Parts.{place_of_status}
 use Rattle.mw_room.proofs.Statuses.{set_there, set_last}
