@@ -1,5 +1,6 @@
 //! What players say, and what they are told of one another.
 use crate::session_harness::marked;
+use crate::team_tests::ROOM as ROOM_OF_TEAMS;
 use crate::tests::ROOM_A;
 use std::alloc::Global;
 use std::test::Fail;
@@ -159,5 +160,86 @@ take 2
         r#"2 [{"cmd":"PrintJSON","data":[{"text":"Ann reached the goal"}],"slot":1,"team":0,"type":"Goal"}]
 "#;
     assert_eq!(rt; text.as_str(), expected);
+    Ok(())
+}
+
+/// Both players of the teams 0 and 1, who hear texts of the room from the mark on.
+const TWO_TEAMS: &str = r#"open
+text 1 [{"cmd":"Connect","game":"G","items_handling":7,"name":"A0","tags":[],"version":{"build":0,"major":0,"minor":5}}]
+open
+text 2 [{"cmd":"Connect","game":"G","items_handling":7,"name":"B0","tags":[],"version":{"build":0,"major":0,"minor":5}}]
+open
+text 3 [{"cmd":"Connect","game":"G","items_handling":7,"name":"A1","tags":[],"version":{"build":0,"major":0,"minor":5}}]
+open
+text 4 [{"cmd":"Connect","game":"G","items_handling":7,"name":"B1","tags":[],"version":{"build":0,"major":0,"minor":5}}]
+take 1
+take 2
+take 3
+take 4
+mark
+text 1 [{"cmd":"Say","text":"hi"}]
+text 4 [{"cmd":"Say","text":"ho"}]
+take 1
+take 2
+take 3
+take 4
+"#;
+
+#[test]
+fn teams_do_not_hear_each_other(rt: HostRuntime) -> Result<(), Fail> {
+    let text = marked(rt.alloc(), ROOM_OF_TEAMS, TWO_TEAMS)?;
+    let expected =
+        r#"1 [{"cmd":"PrintJSON","data":[{"text":"A0: hi"}],"message":"hi","slot":1,"team":0,"type":"Chat"}]
+2 [{"cmd":"PrintJSON","data":[{"text":"A0: hi"}],"message":"hi","slot":1,"team":0,"type":"Chat"}]
+3 [{"cmd":"PrintJSON","data":[{"text":"B1: ho"}],"message":"ho","slot":2,"team":1,"type":"Chat"}]
+4 [{"cmd":"PrintJSON","data":[{"text":"B1: ho"}],"message":"ho","slot":2,"team":1,"type":"Chat"}]
+"#;
+    assert_eq!(rt; text.as_str(), expected);
+    Ok(())
+}
+
+/// What Bob hears when Ann says a text that has this spelling in JSON.
+fn heard(alloc: Global, said: &str) -> Result<String, Fail> {
+    let lines = format!(in alloc; "text 1 [{{\"cmd\":\"Say\",\"text\":\"{said}\"}}]\ntake 2\n")?;
+    both_then(alloc, lines.as_str())
+}
+
+/// What he is to hear, where it is printed with this spelling.
+fn chat_of_ann(alloc: Global, told: &str) -> Result<String, Fail> {
+    Ok(format!(in alloc;
+        "2 [{{\"cmd\":\"PrintJSON\",\"data\":[{{\"text\":\"Ann: {told}\"}}],\"message\":\"{told}\",\"slot\":1,\"team\":0,\"type\":\"Chat\"}}]\n"
+    )?)
+}
+
+/// Spellings of characters as they may be sent, and as they are printed.
+const ESCAPES: [(&str, &str); 6] = [
+    (r#"\u0022\"\u005C\\"#, r#"\"\"\\\\"#),
+    (r#"\u0008\u0009\u000A\u000C\u000D"#, r#"\b\t\n\f\r"#),
+    (r#"\b\t\n\f\r"#, r#"\b\t\n\f\r"#),
+    (r#"\u0000\u0001\u000B\u001F"#, r#"\u0000\u0001\u000b\u001f"#),
+    (r#"\u007F\/\u002F"#, "\u{7f}//"),
+    (r#"\u00E4\uD83D\uDE00"#, "\u{e4}\u{1f600}"),
+];
+
+/// Whether Bob hears so what Ann says.
+fn is_heard(alloc: Global, said: &str, told: &str) -> Result<bool, Fail> {
+    let text = heard(alloc, said)?;
+    let expected = chat_of_ann(alloc, told)?;
+    Ok(text.as_str() == expected.as_str())
+}
+
+#[test]
+fn quotes_and_control_characters_are_said(rt: HostRuntime) -> Result<(), Fail> {
+    for (said, told) in ESCAPES {
+        assert!(rt; is_heard(rt.alloc(), said, told)?, "at {said}");
+    }
+    Ok(())
+}
+
+#[test]
+fn ten_thousand_characters_are_said(rt: HostRuntime) -> Result<(), Fail> {
+    let said = r#"\"\u0001\u00e4\n\\"#.repeat(rt.alloc(), 2_000)?;
+    let told = "\\\"\\u0001\u{e4}\\n\\\\".repeat(rt.alloc(), 2_000)?;
+    assert!(rt; is_heard(rt.alloc(), said.as_str(), told.as_str())?);
     Ok(())
 }

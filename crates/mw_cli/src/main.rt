@@ -72,6 +72,8 @@ mod session_harness;
 #[cfg(test)]
 mod session_tests;
 #[cfg(test)]
+mod storage_tests;
+#[cfg(test)]
 mod team_tests;
 #[cfg(test)]
 mod tests;

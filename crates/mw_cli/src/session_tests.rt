@@ -336,15 +336,7 @@ fn told_of_line(alloc: Global, line: &str) -> Result<String, Fail> {
 
 #[test]
 fn lines_that_are_not_built(rt: HostRuntime) -> Result<(), Fail> {
-    for line in [
-        "commit",
-        "crash",
-        r#"text 1 [{"cmd":"Sync"},{"cmd":"Get","keys":["k"]}]"#,
-        r#"text 1 [{"cmd":"Bounce"}]"#,
-        r#"text 1 [{"cmd":"Get","keys":[]}]"#,
-        r#"text 1 [{"cmd":"Set","key":"k","operations":[]}]"#,
-        r#"text 1 [{"cmd":"SetNotify","keys":[]}]"#,
-    ] {
+    for line in ["commit", "crash"] {
         let told = told_of_line(rt.alloc(), line)?;
         assert_eq!(rt; told.as_str(), "7 not built: line 2\n", "{line}");
     }

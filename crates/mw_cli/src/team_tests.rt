@@ -3,7 +3,7 @@ use std::alloc::Global;
 use std::test::Fail;
 
 /// A room of eight teams, in each of which slot 1 finds the Sword of slot 2.
-const ROOM: &str =
+pub(crate) const ROOM: &str =
     r#"{"format":"mw-multidata-1","games":{"G":{"item_name_to_id":{"Boots":5,"Coin":8,"Map":9,"Sword":7},"location_name_to_id":{"A1":101,"A2":102,"B1":201}}},"locations":[[1,101,7,2,1],[1,102,8,1,0],[2,201,9,1,2]],"seed_name":"A","server":{"collect":"goal","hint_cost":10,"location_check_points":1,"password":"","release":"goal","remaining":"goal"},"slots":[{"game":"G","names":["A0","A1","A2","A3","A4","A5","A6","A7"],"start":[[5,0]]},{"game":"G","names":["B0","B1","B2","B3","B4","B5","B6","B7"],"start":[]}],"spheres":[],"teams":8}"#;
 
 /// The teams, and the sessions of their two players.
@@ -130,5 +130,32 @@ take 3
     let text = marked(rt.alloc(), ROOM, lines)?;
     let expected = connected_of_five(rt.alloc())?;
     assert_eq!(rt; text.as_str(), expected.as_str());
+    Ok(())
+}
+
+#[test]
+fn messages_stay_in_their_team(rt: HostRuntime) -> Result<(), Fail> {
+    let lines = r#"open
+connect 1 A0 7
+open
+connect 2 B0 7
+open
+connect 3 A1 7
+take 1
+take 2
+take 3
+mark
+text 1 [{"cmd":"Bounce","slots":[1,2]},{"cmd":"Set","key":"k","operations":[{"operation":"replace","value":5}]}]
+text 3 [{"cmd":"Get","keys":["k"]}]
+take 1
+take 2
+take 3
+"#;
+    let text = marked(rt.alloc(), ROOM, lines)?;
+    let expected = r#"1 [{"cmd":"Bounced","slots":[1,2]}]
+2 [{"cmd":"Bounced","slots":[1,2]}]
+3 [{"cmd":"Retrieved","keys":{"k":5}}]
+"#;
+    assert_eq!(rt; text.as_str(), expected);
     Ok(())
 }

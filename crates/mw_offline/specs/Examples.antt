@@ -1,13 +1,12 @@
 -- Rows of a script beside the definitions.
 use Rattle.std.specs.Prelude.{◌≡◌, ◌∷◌, [], Some, None, true, refl}
-use Rattle.mw_model.specs.Json.{no_members}
 use Rattle.mw_model.specs.Seed.{Seed}
-use Rattle.mw_protocol.specs.Packets.{good, sync, get}
+use Rattle.mw_protocol.specs.Packets.{good, sync}
 use Rattle.mw_protocol.specs.Rooms.{Room, empty_room}
 use Rattle.mw_offline.specs.Commands.{sends, takes, loses}
 use Rattle.mw_offline.specs.Drive.{all_puts, overrun, gone}
-use Rattle.mw_offline.specs.Lines.{commit_line}
-use Rattle.mw_offline.specs.Script.{built_line, built_message}
+use Rattle.mw_offline.specs.Lines.{commit_line, crash_line}
+use Rattle.mw_offline.specs.Script.{built_line}
 
 -- ---- what is put
 
@@ -33,12 +32,8 @@ still_lost seed = refl
 
 -- ---- what is built
 
-pub no_packets : built_message 1 [] ≡ Some (sends 1 [] ∷ [])
-no_packets = refl
-
 pub no_commit : built_line (Some commit_line) ≡ None
 no_commit = refl
 
--- a question for values of the data storage
-pub no_values : built_message 1 (good sync ∷ good (get [] no_members) ∷ []) ≡ None
-no_values = refl
+pub no_crash : built_line (Some crash_line) ≡ None
+no_crash = refl

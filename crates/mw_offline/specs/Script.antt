@@ -1,44 +1,17 @@
 -- A script: the commands of its lines, or the line at which it is refused.
-use Rattle.std.specs.Prelude.{ℕ, ◌+◌, ◌++◌, ◌∷◌, [], List, Bool, Option, Some, None, true, false, length, take, nat_le, is_some, unwrap_or, if◌then◌else◌, Result, Ok, Err}
-use Rattle.std.specs.List.{list_all}
-use Rattle.mw_protocol.specs.Packets.{Packet, connect, connect_update, sync, location_checks, location_scouts, update_hint, status_update, say, get_data_package, bounce, get, change, set_notify, Inbound, good, wrong}
+use Rattle.std.specs.Prelude.{ℕ, ◌+◌, ◌++◌, ◌∷◌, [], List, Option, Some, None, length, take, nat_le, is_some, unwrap_or, if◌then◌else◌, Result, Ok, Err}
 use Rattle.mw_packets_in.specs.PacketsOf.{packets_of}
 use Rattle.mw_offline.specs.Commands.{Command, opens, sends, takes, loses}
 use Rattle.mw_offline.specs.Lines.{Line, nothing, open_line, text_line, take_line, lost_line, commit_line, crash_line, line_of, lines_of, ended_lines}
 
 -- ---- built lines
 
--- what the room answers so far: all but the packets of the data storage, and what is sent to others
-abbrev pub is_built : Packet → Bool
-is_built (connect fields) = true
-is_built (connect_update u) = true
-is_built sync = true
-is_built (location_checks numbers) = true
-is_built (location_scouts numbers as_hint) = true
-is_built (update_hint u) = true
-is_built (status_update s) = true
-is_built (say text) = true
-is_built (get_data_package games) = true
-is_built (bounce b) = false
-is_built (get keys further) = false
-is_built (change set) = false
-is_built (set_notify keys) = false
-
--- what is no packet is answered
-abbrev pub is_built_element : Inbound → Bool
-is_built_element (good packet) = is_built packet
-is_built_element (wrong bad) = true
-
--- a message is built where each of its elements is
-abbrev pub built_message : ℕ → List Inbound → Option (List Command)
-built_message session message = if list_all is_built_element message then Some (sends session message ∷ []) else None
-
--- the commands of a line, where it is built
+-- the commands of a line; one that asks for a commit or a crash is not built
 abbrev pub built_line : Option Line → Option (List Command)
 built_line None = None
 built_line (Some nothing) = Some []
 built_line (Some (open_line time)) = Some (opens time ∷ [])
-built_line (Some (text_line session message)) = built_message session (packets_of message)
+built_line (Some (text_line session message)) = Some (sends session (packets_of message) ∷ [])
 built_line (Some (take_line session)) = Some (takes session ∷ [])
 built_line (Some (lost_line session)) = Some (loses session ∷ [])
 built_line (Some commit_line) = None

@@ -1,16 +1,15 @@
-ghost use Rattle.std.specs.Prelude.{◌≡◌, ◌++◌, ◌∷◌, [], OnOk, IfOk, None, map};
-ghost use Rattle.std.specs.List.{list_all};
+ghost use Rattle.std.specs.Prelude.{◌≡◌, ◌∷◌, [], OnOk, IfOk, None, Some, map};
 ghost use Rattle.mw_packets_in.specs.PacketsOf.{packets_of as packets_of_lem};
-ghost use Rattle.mw_packets_in.specs.View.{packet_view, inbound_view};
-ghost use Rattle.mw_offline.specs.Commands.{command_view};
+ghost use Rattle.mw_packets_in.specs.View.{inbound_view};
+ghost use Rattle.mw_offline.specs.Commands.{command_view, sends};
 ghost use Rattle.mw_offline.specs.Gives.{GivesBuilt, IsAdded};
 ghost use Rattle.mw_offline.specs.Lines.{line_of as line_of_lem};
-ghost use Rattle.mw_offline.specs.Script.{is_built as is_built_lem, is_built_element, built_message, built_line};
+ghost use Rattle.mw_offline.specs.Script.{built_line};
 
 use crate::command::Command;
 use crate::line::{Line, line_of};
 use mw_base::{List, Memory, Text};
-use mw_packets_in::{Inbound, Packet, packets_of};
+use mw_packets_in::{Inbound, packets_of};
 use std::alloc::Global;
 
 /// Why a line gives no command.
@@ -33,38 +32,6 @@ impl From<Memory> for Unbuilt {
     }
 }
 
-/// Whether a packet is built.
-fn is_built(packet: &Packet) -> bool
-    ensures { result ≡ is_built_lem (packet_view packet.now) }
-{
-    !matches!(
-        packet,
-        Packet::Bounce(_) | Packet::Get(_) | Packet::Change(_) | Packet::SetNotify { .. }
-    )
-}
-
-/// Whether an element of a message is built.
-fn is_element(element: &Inbound) -> bool
-    ensures { result ≡ is_built_element (inbound_view element.now) }
-{
-    match element {
-        Inbound::Good(packet) => is_built(packet),
-        Inbound::Wrong(_) => true,
-    }
-}
-
-/// Whether each element of a message is built.
-fn are_built(message: &[Inbound]) -> bool
-    ensures { result ≡ list_all is_built_element (map inbound_view message.now) }
-{
-    for element in message {
-        if !is_element(element) {
-            return false;
-        }
-    }
-    true
-}
-
 /// The elements of a message.
 fn elements_of(alloc: Global, message: &str) -> Result<List<Inbound>, Memory>
     ensures { IfOk result (λ found. map inbound_view found ≡ packets_of_lem message.now) }
@@ -75,14 +42,10 @@ fn elements_of(alloc: Global, message: &str) -> Result<List<Inbound>, Memory>
 
 /// The command of a session's message.
 fn command_by(alloc: Global, session: u64, message: &str) -> Result<Option<Command>, Unbuilt>
-    ensures { GivesBuilt result (built_message session (packets_of_lem message.now)) }
+    ensures { GivesBuilt result (Some (sends session (packets_of_lem message.now) ∷ [])) }
 {
     let message = elements_of(alloc, message)?;
-    if are_built(message.as_slice()) {
-        Ok(Some(Command::Send { session, message }))
-    } else {
-        Err(Unbuilt::NotBuilt)
-    }
+    Ok(Some(Command::Send { session, message }))
 }
 
 /// The command of a line; None where it asks for nothing.
