@@ -1,6 +1,7 @@
 #!/usr/bin/env bash
 # Prints the time (passed, and of the processor) and memory of `drive` on a seed file of about 17 MB with a script of 2,000 checks over two slots, and on one of about 60 MB;
-# then on one of 64 slots with 3,125 locations each, with 20,000 checks over all slots and with 200,000, and a take after each twentieth. A run is stopped after 120 s.
+# then on one of 64 slots with 3,125 locations each, with 20,000 checks over all slots and with 200,000, and a take after each twentieth. The sessions are silent,
+# but in one run more of 20,000 checks, in which each of the 64 sessions hears of each item that is sent. A run is stopped after 120 s.
 # Run after `rt run` in crates/mw_cli, which leaves the program.
 set -eu
 cd "$(dirname "$0")/.."
@@ -29,13 +30,13 @@ def write_seed(name, slots, per):
 write_seed("seed.json", 100, 10000)
 write_seed("large_seed.json", 340, 10000)
 write_seed("many_slots_seed.json", 64, 3125)
-connect = '[{"cmd":"Connect","game":"G","items_handling":7,"name":"P%d","tags":["NoText"],"version":{"build":0,"class":"Version","major":0,"minor":5}}]'
+connect = '[{"cmd":"Connect","game":"G","items_handling":7,"name":"P%d","tags":%s,"version":{"build":0,"class":"Version","major":0,"minor":5}}]'
 
-def write_script(name, slots, checks, pace):
-    """A script in which each slot connects, and the slots check their locations in turn; after each so many checks a session takes, one after the other, and all do at the end."""
+def write_script(name, slots, checks, pace, tags='["NoText"]'):
+    """A script in which each slot connects with these tags, and the slots check their locations in turn; after each so many checks a session takes, one after the other, and all do at the end."""
     lines = []
     for s in range(1, slots + 1):
-        lines += ["open", "text %d %s" % (s, connect % s)]
+        lines += ["open", "text %d %s" % (s, connect % (s, tags))]
     for k in range(checks):
         lines.append('text %d [{"cmd":"LocationChecks","locations":[%d]}]' % (k % slots + 1, k // slots + 1))
         if k % pace == pace - 1:
@@ -46,6 +47,7 @@ def write_script(name, slots, checks, pace):
 
 write_script("few.txt", 2, 2000, 2001)
 write_script("many.txt", 64, 20000, 20)
+write_script("heard.txt", 64, 20000, 20, "[]")
 write_script("most.txt", 64, 200000, 20)
 open(folder + "/empty.txt", "w").close()
 PY
@@ -60,6 +62,7 @@ runs = [
     ("seed.json", "2,000 checks over 2 slots", "few.txt"),
     ("large_seed.json", "empty script", "empty.txt"),
     ("many_slots_seed.json", "20,000 checks over 64 slots", "many.txt"),
+    ("many_slots_seed.json", "20,000 checks over 64 slots that hear text", "heard.txt"),
     ("many_slots_seed.json", "200,000 checks over 64 slots", "most.txt"),
 ]
 for seed, name, script in runs:

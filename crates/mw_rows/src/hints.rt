@@ -77,26 +77,38 @@ fn book_of_one(alloc: Global) -> Result<HintBook, Fail> {
     Ok(book)
 }
 
-/// Whether Ann is answered this who wants an item.
-fn answers(
+/// What Ann is answered who wants an item.
+fn item_asked(
     alloc: Global,
     book: &HintBook,
     log: &CheckLog,
     name: &str,
-    answer: HintAnswer,
-) -> Result<bool, Fail> {
+) -> Result<HintAnswer, Fail> {
     let wanted = Wanted::Item(Text::of(alloc, name)?);
-    Ok(book.buy(team(), ann(), &wanted, log)? == answer)
+    Ok(book.buy(team(), ann(), &wanted, log)?)
+}
+
+#[test]
+fn a_hint_is_bought(rt: HostRuntime) -> Result<(), Fail> {
+    let log = log_of_two(rt.alloc())?;
+    let book = HintBook::new(rt.alloc());
+    let wanted = HintAnswer::Bought(made(ann(), true, priority()));
+    let answer = item_asked(rt.alloc(), &book, &log, "Map")?;
+    assert!(rt; answer == wanted);
+    Ok(())
 }
 
 #[test]
 fn a_hint_is_bought_once(rt: HostRuntime) -> Result<(), Fail> {
     let log = log_of_two(rt.alloc())?;
-    let none = HintBook::new(rt.alloc());
-    let bought = HintAnswer::Bought(made(ann(), true, priority()));
-    assert!(rt; answers(rt.alloc(), &none, &log, "Map", bought)?);
-    let one = book_of_one(rt.alloc())?;
-    assert!(rt; answers(rt.alloc(), &one, &log, "Map", HintAnswer::Nothing)?);
+    let book = book_of_one(rt.alloc())?;
+    for (name, wanted) in [
+        ("Map", HintAnswer::Nothing),
+        ("Hat", HintAnswer::NoSuchName),
+    ] {
+        let answer = item_asked(rt.alloc(), &book, &log, name)?;
+        assert!(rt; answer == wanted, "at {name}");
+    }
     Ok(())
 }
 
@@ -105,16 +117,14 @@ fn what_is_not_hinted(rt: HostRuntime) -> Result<(), Fail> {
     let log = log_of_two(rt.alloc())?;
     let book = HintBook::new(rt.alloc());
     // no such item, an item of the start, another's item, and one that is found
-    for (name, answer) in [
+    for (name, wanted) in [
         ("Hat", HintAnswer::NoSuchName),
         ("Boots", HintAnswer::Nothing),
         ("Sword", HintAnswer::Nothing),
         ("Coin", HintAnswer::Nothing),
     ] {
-        assert!(rt;
-            answers(rt.alloc(), &book, &log, name, answer)?,
-            "at {name}"
-        );
+        let answer = item_asked(rt.alloc(), &book, &log, name)?;
+        assert!(rt; answer == wanted, "at {name}");
     }
     Ok(())
 }
@@ -149,8 +159,13 @@ fn locations_are_hinted_in_their_own_world(rt: HostRuntime) -> Result<(), Fail> 
 fn hints_cost_points(rt: HostRuntime) -> Result<(), Fail> {
     let log = fresh_log(rt.alloc())?;
     let book = HintBook::new(rt.alloc());
-    let answer = HintAnswer::TooDear { cost: 1, points: 0 };
-    assert!(rt; answers(rt.alloc(), &book, &log, "Map", answer)?);
+    for (name, wanted) in [
+        ("Map", HintAnswer::TooDear { cost: 1, points: 0 }),
+        ("Boots", HintAnswer::Nothing),
+    ] {
+        let answer = item_asked(rt.alloc(), &book, &log, name)?;
+        assert!(rt; answer == wanted, "at {name}");
+    }
     assert_eq!(rt; cost(ann(), &log), 1);
     Ok(())
 }
