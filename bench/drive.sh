@@ -1,7 +1,8 @@
 #!/usr/bin/env bash
 # Prints the time (passed, and of the processor) and memory of `drive` on a seed file of about 17 MB with a script of 2,000 checks over two slots, and on one of about 60 MB;
 # then on one of 64 slots with 3,125 locations each, with 20,000 checks over all slots and with 200,000, and a take after each twentieth. The sessions are silent,
-# but in one run more of 20,000 checks, in which each of the 64 sessions hears of each item that is sent. A run is stopped after 120 s.
+# but in one run more of 20,000 checks, in which each of the 64 sessions hears of each item that is sent. Last come 2,000 and 20,000 Sets on 100 keys, each of which ten of
+# 64 sessions watch, with a take after each twentieth. A run is stopped after 120 s.
 # Run after `rt run` in crates/mw_cli, which leaves the program.
 set -eu
 cd "$(dirname "$0")/.."
@@ -30,6 +31,7 @@ def write_seed(name, slots, per):
 write_seed("seed.json", 100, 10000)
 write_seed("large_seed.json", 340, 10000)
 write_seed("many_slots_seed.json", 64, 3125)
+write_seed("small_seed.json", 64, 3)
 connect = '[{"cmd":"Connect","game":"G","items_handling":7,"name":"P%d","tags":%s,"version":{"build":0,"class":"Version","major":0,"minor":5}}]'
 
 def write_script(name, slots, checks, pace, tags='["NoText"]'):
@@ -45,6 +47,22 @@ def write_script(name, slots, checks, pace, tags='["NoText"]'):
     with open(folder + "/" + name, "w") as f:
         f.write("\n".join(lines) + "\n")
 
+def write_sets(name, slots, keys, watchers, sets, pace):
+    """A script in which each slot connects, so many sessions watch each key, and the slots add to the keys in turn; with takes as above."""
+    lines = []
+    for s in range(1, slots + 1):
+        watched = ['"k%d"' % k for k in range(keys) if (s - 1 - k * watchers) % slots < watchers]
+        lines += ["open", "text %d %s" % (s, connect % (s, '["NoText"]')), 'text %d [{"cmd":"SetNotify","keys":[%s]}]' % (s, ",".join(watched))]
+    for n in range(sets):
+        lines.append('text %d [{"cmd":"Set","key":"k%d","operations":[{"operation":"add","value":1}]}]' % (n % slots + 1, n % keys))
+        if n % pace == pace - 1:
+            lines.append("take %d" % (n // pace % slots + 1))
+    lines += ["take %d" % s for s in range(1, slots + 1)]
+    with open(folder + "/" + name, "w") as f:
+        f.write("\n".join(lines) + "\n")
+
+write_sets("sets.txt", 64, 100, 10, 2000, 20)
+write_sets("most_sets.txt", 64, 100, 10, 20000, 20)
 write_script("few.txt", 2, 2000, 2001)
 write_script("many.txt", 64, 20000, 20)
 write_script("heard.txt", 64, 20000, 20, "[]")
@@ -64,6 +82,8 @@ runs = [
     ("many_slots_seed.json", "20,000 checks over 64 slots", "many.txt"),
     ("many_slots_seed.json", "20,000 checks over 64 slots that hear text", "heard.txt"),
     ("many_slots_seed.json", "200,000 checks over 64 slots", "most.txt"),
+    ("small_seed.json", "2,000 Sets on 100 watched keys", "sets.txt"),
+    ("small_seed.json", "20,000 Sets on 100 watched keys", "most_sets.txt"),
 ]
 for seed, name, script in runs:
     begin = time.time()
