@@ -66,6 +66,8 @@ mod large_tests;
 #[cfg(test)]
 mod overrun_tests;
 #[cfg(test)]
+mod permission_tests;
+#[cfg(test)]
 mod reach_tests;
 #[cfg(test)]
 mod session_harness;

@@ -165,26 +165,223 @@ fn keys_keep_their_values(rt: HostRuntime) -> Result<(), Fail> {
     Ok(())
 }
 
-#[test]
-fn a_full_store_says_what_would_stand(rt: HostRuntime) -> Result<(), Fail> {
-    let alloc = rt.alloc();
+/// A store of four keys, each of 1,000,003 bytes with its value.
+fn store_of_four(alloc: Global) -> Result<Store, Fail> {
     let mut store = Store::new(alloc);
-    let mut long = String::new(alloc);
-    for _ in 0..1_000_000u32 {
-        long.push('a')?;
-    }
+    let long = "a".repeat(alloc, 1_000_000)?;
     for key in ["a", "b", "c", "d"] {
         let value = mw_json::words_tree(alloc, long.as_str())?;
         store.put(&Text::of(alloc, key)?, value)?;
     }
+    Ok(store)
+}
+
+/// The Set of a fifth key with a text of so many characters.
+fn fifth(alloc: Global, count: usize) -> Result<Option<SetPacket>, Fail> {
+    let long = "a".repeat(alloc, count)?;
     let message = format!(in alloc;
         r#"[{{"cmd":"Set","key":"e","default":"{long}","operations":[]}}]"#
     )?;
-    let set = change_in(alloc, message.as_str())?;
+    change_in(alloc, message.as_str())
+}
+
+#[test]
+fn a_full_store_says_what_would_stand(rt: HostRuntime) -> Result<(), Fail> {
+    let store = store_of_four(rt.alloc())?;
+    let set = fifth(rt.alloc(), 1_000_000)?;
     let wanted = StoreRefusal::StoreFull {
         bytes: 5_000_015,
         keys: 5,
     };
     assert!(rt; set.is_some_and(|s| refusal(&store, &s) == Some(wanted)));
+    Ok(())
+}
+
+#[test]
+fn a_store_is_filled_to_its_last_byte(rt: HostRuntime) -> Result<(), Fail> {
+    let store = store_of_four(rt.alloc())?;
+    let last = fifth(rt.alloc(), 194_289)?;
+    assert!(rt; last.is_some_and(|s| refusal(&store, &s).is_none()));
+    let over = fifth(rt.alloc(), 194_290)?;
+    let wanted = StoreRefusal::StoreFull {
+        bytes: 4_194_305,
+        keys: 5,
+    };
+    assert!(rt; over.is_some_and(|s| refusal(&store, &s) == Some(wanted)));
+    Ok(())
+}
+
+/// A store of so many keys, which are the numbers from 0 on.
+fn numbered_store(alloc: Global, keys: u64) -> Result<Store, Fail> {
+    let mut store = Store::new(alloc);
+    for n in 0..keys {
+        let key = Text::from_string(format!(in alloc; "{n}")?);
+        store.put(&key, mw_json::number_tree(0))?;
+    }
+    Ok(store)
+}
+
+#[test]
+fn a_store_is_filled_to_its_last_key(rt: HostRuntime) -> Result<(), Fail> {
+    let store = numbered_store(rt.alloc(), 65_536)?;
+    let known = set_of(rt.alloc(), "65535", "0", "[]")?;
+    assert!(rt; known.is_some_and(|s| refusal(&store, &s).is_none()));
+    let over = set_of(rt.alloc(), "65536", "0", "[]")?;
+    let wanted = StoreRefusal::StoreFull {
+        bytes: 382_112,
+        keys: 65_537,
+    };
+    assert!(rt; over.is_some_and(|s| refusal(&store, &s) == Some(wanted)));
+    Ok(())
+}
+
+#[test]
+fn a_store_takes_its_last_key(rt: HostRuntime) -> Result<(), Fail> {
+    let store = numbered_store(rt.alloc(), 65_535)?;
+    let last = set_of(rt.alloc(), "65535", "0", "[]")?;
+    assert!(rt; last.is_some_and(|s| refusal(&store, &s).is_none()));
+    Ok(())
+}
+
+/// A value of each kind.
+const KINDS: [&str; 6] = ["null", "true", "6", "\"a\"", "[6]", "{\"a\":6}"];
+
+/// What an operation makes of 6 and 6; empty where it is none of numbers.
+fn of_numbers(name: &str) -> &'static str {
+    match name {
+        "add" => "12",
+        "mul" => "36",
+        "max" | "min" | "and" | "or" => "6",
+        "mod" | "xor" | "right_shift" => "0",
+        "left_shift" => "384",
+        _ => "",
+    }
+}
+
+/// What an operation makes of a list or an object; empty where it takes no such operand.
+fn of_parts(name: &str, value: &'static str, operand: &str) -> &'static str {
+    let is_list = value == "[6]";
+    match name {
+        "remove" if is_list && operand == "6" => "[]",
+        "remove" if is_list => value,
+        "pop" if is_list && operand == "6" => value,
+        "pop" if !is_list && operand == "\"a\"" => "{}",
+        "add" if is_list && operand == value => "[6,6]",
+        "update" if operand == value => value,
+        _ => "",
+    }
+}
+
+/// What an operation makes of a value with an operand; empty where it is refused.
+fn made(name: &str, value: &'static str, operand: &'static str) -> &'static str {
+    match name {
+        "replace" => operand,
+        "default" => value,
+        "floor" | "ceil" => { if value == "6" { value } else { "" } }
+        _ => {
+            if value == "6" && operand == "6" {
+                of_numbers(name)
+            } else if value == "[6]" || value == "{\"a\":6}" {
+                of_parts(name, value, operand)
+            } else {
+                ""
+            }
+        }
+    }
+}
+
+/// Whether an operation makes this of a value, or is refused.
+fn gives(
+    alloc: Global,
+    name: &str,
+    value: &'static str,
+    operand: &'static str,
+) -> Result<bool, Fail> {
+    let operations = format!(in alloc; r#"[{{"operation":"{name}","value":{operand}}}]"#)?;
+    let Some(set) = set_of(alloc, "q", value, operations.as_str())? else {
+        return Ok(false);
+    };
+    let wanted = made(name, value, operand);
+    match Store::new(alloc).apply(&set) {
+        Ok(changed) => is_text(alloc, &changed.new, wanted),
+        Err(refusal) => {
+            Ok(wanted.is_empty() && refusal == StoreRefusal::BadOperation { place: 0 })
+        }
+    }
+}
+
+/// Whether an operation makes of each kind of value with each kind of operand what it has to.
+fn gives_all(alloc: Global, name: &str) -> Result<bool, Fail> {
+    for value in KINDS {
+        for operand in KINDS {
+            if !gives(alloc, name, value, operand)? {
+                return Ok(false);
+            }
+        }
+    }
+    Ok(true)
+}
+
+#[test]
+fn each_operation_takes_its_kinds(rt: HostRuntime) -> Result<(), Fail> {
+    for name in [
+        "replace",
+        "default",
+        "floor",
+        "ceil",
+        "add",
+        "mul",
+        "max",
+        "min",
+        "mod",
+        "and",
+        "or",
+        "xor",
+        "left_shift",
+        "right_shift",
+        "remove",
+        "pop",
+        "update",
+        "pow",
+        "Add",
+        "",
+    ] {
+        assert!(rt; gives_all(rt.alloc(), name)?, "at {name}");
+    }
+    Ok(())
+}
+
+#[test]
+fn numbers_at_their_ends(rt: HostRuntime) -> Result<(), Fail> {
+    let alloc = rt.alloc();
+    for (default, operations, wanted) in [
+        (
+            "-9223372036854775808",
+            r#"[{"operation":"left_shift","value":0},{"operation":"right_shift","value":63}]"#,
+            "-1",
+        ),
+        (
+            "1",
+            r#"[{"operation":"left_shift","value":62},{"operation":"add","value":4611686018427387903}]"#,
+            "9223372036854775807",
+        ),
+        (
+            "-7",
+            r#"[{"operation":"right_shift","value":1},{"operation":"mod","value":-3}]"#,
+            "-1",
+        ),
+        (
+            "[1,2]",
+            r#"[{"operation":"pop","value":-1},{"operation":"pop","value":2},{"operation":"pop","value":1}]"#,
+            "[1]",
+        ),
+    ] {
+        let mut store = Store::new(alloc);
+        let set = set_of(alloc, "q", default, operations)?;
+        assert!(rt; set.is_some(), "{operations}");
+        if let Some(set) = set {
+            assert!(rt; keeps(alloc, &mut store, &set, wanted)?, "{operations}");
+        }
+    }
     Ok(())
 }
