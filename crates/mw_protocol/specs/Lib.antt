@@ -14,9 +14,11 @@ pub mod Heard
 pub mod HintExamples
 pub mod HintList
 pub mod Hints
+pub mod Lives
 pub mod Locating
 pub mod Locations
 pub mod Messages
+pub mod Named
 pub mod Operations
 pub mod Owed
 pub mod Packages

@@ -46,6 +46,10 @@ record_bytes (hint h) = 5 ∷ target_bytes h.team h.finder h.location ++ flag_by
 record_bytes (hint_status team finder location s) = 6 ∷ target_bytes team finder location ++ s ∷ []
 record_bytes (store key value) = 7 ∷ text_bytes key ++ text_bytes (spelling value)
 
+-- one after another
+abbrev pub records_bytes : List Record → List ℕ
+records_bytes rs = flat_map record_bytes rs
+
 -- ---- what has a spelling
 
 abbrev pub IsSlot : ℕ → Type 0
