@@ -46,6 +46,10 @@ pub record IsShut (image digest text : List ℕ) (place gate : ℕ) : Type 0 whe
   pub within : place < 2 ^ 30
   pub joined : text ≡ concat bodies
 
--- the same, with whatever place and byte
+-- the same, with whatever byte
+abbrev pub StandsAt : List ℕ → List ℕ → List ℕ → ℕ → Type 0
+StandsAt image digest text place = (gate : ℕ) × IsShut image digest text place gate
+
+-- the same, with whatever place
 abbrev pub Stands : List ℕ → List ℕ → List ℕ → Type 0
-Stands image digest text = (place : ℕ) × (gate : ℕ) × IsShut image digest text place gate
+Stands image digest text = (place : ℕ) × StandsAt image digest text place

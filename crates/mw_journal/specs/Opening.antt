@@ -43,6 +43,14 @@ IsOutside (NotJournal at) = ⊥
 IsOutside (OtherSeed found) = ⊥
 IsOutside Memory = Unit {0}
 
+-- an error about the bytes
+abbrev pub IsOfBytes : OpenError → Type 0
+IsOfBytes DiskFault = ⊥
+IsOfBytes NotEmpty = Unit {0}
+IsOfBytes (NotJournal at) = Unit {0}
+IsOfBytes (OtherSeed found) = Unit {0}
+IsOfBytes Memory = ⊥
+
 -- an error of a step of `open`: what it says where the bytes are no journal
 abbrev pub RefusesStep : (ℕ → Type 0) → (List ℕ → Type 0) → ℕ → ℕ → OpenError → Type 0
 RefusesStep NoJournal Other before after DiskFault = before < after

@@ -30,6 +30,8 @@ fn write_empty<D: Disk>(alloc: Global, disk: &mut D, digest: &[u8; 32]) -> Resul
     ensures count { D.faults disk.old ≤ D.faults disk.new }
     ensures kept { IsErrOf result OpenError.NotEmpty → OnlyReads D.told D.may_leave D.moment
         D.left_since D.faults disk.old disk.new }
+    ensures untouched { (f : List ℕ) → D.told disk.old ≡ Some f → f ≢ []
+        → OnlyReads D.told D.may_leave D.moment D.left_since D.faults disk.old disk.new }
 {
     let mut first = [0; 1];
     let count = match disk.read(0, &mut first) {
@@ -50,8 +52,8 @@ fn write_empty<D: Disk>(alloc: Global, disk: &mut D, digest: &[u8; 32]) -> Resul
 
 /// Makes an empty journal of a seed file's digest, on a disk without bytes.
 ///
-/// `NotEmpty` comes exactly where a byte stands, and then nothing is written. `DiskFault` comes
-/// only where the disk's count rose.
+/// `NotEmpty` comes exactly where a byte stands. Where one does nothing is written, whatever is
+/// answered. `DiskFault` comes only where the disk's count rose.
 pub fn create<D: Disk>(
     alloc: Global,
     disk: D,
@@ -65,6 +67,8 @@ pub fn create<D: Disk>(
         (λ e. D.faults disk ≤ D.faults e.0) }
     ensures kept { IfErr result (λ e. e.1 ≡ OpenError.NotEmpty → OnlyReads D.told D.may_leave
         D.moment D.left_since D.faults disk e.0) }
+    ensures untouched { (f : List ℕ) → D.told disk ≡ Some f → f ≢ [] → IfErr result (λ e.
+        OnlyReads D.told D.may_leave D.moment D.left_since D.faults disk e.0) }
 {
     let mut disk = disk;
     match write_empty(alloc, &mut disk, digest) {

@@ -1,8 +1,8 @@
 ghost use Rattle.std.specs.Prelude.{◌≡◌, ◌≢◌, ◌<◌, ◌≤◌, ◌^◌, ◌⊎◌, ◌++◌, ℕ, List, IfOk, IfErr, OnOk, MatchResult, Some};
 ghost use Rattle.mw_disk.specs.Crash.{LeavesOnly, OnlyTold};
-ghost use Rattle.mw_journal.specs.Image.{IsShut, Stands};
-ghost use Rattle.mw_journal.specs.Opening.{RefusesOpen, IsOutside};
-ghost use Rattle.mw_journal.specs.Journal.{StandsFor, disk_after};
+ghost use Rattle.mw_journal.specs.Image.{IsShut, StandsAt};
+ghost use Rattle.mw_journal.specs.Opening.{RefusesOpen, IsOfBytes, IsOutside};
+ghost use Rattle.mw_journal.specs.Journal.{StandsFor, disk_after, gate_of};
 ghost use Rattle.mw_journal.specs.Reads.{OnlyReads};
 ghost use Rattle.mw_journal.specs.Settled.{IsSettled, AllShut, AllSettled};
 
@@ -41,9 +41,11 @@ fn open_bytes<D: Disk>(alloc: Global, disk: &mut D, digest: &[u8; 32]) -> Result
         AllShut (D.may_leave disk.new) digest.now found.text.items found.place) }
     ensures within { IfOk result (λ found. found.place < 2 ^ 30) }
     ensures stands { IfOk result (λ found. (f : List ℕ) → D.told disk.old ≡ Some f
-        → Stands f digest.now found.text.items) }
+        → StandsAt f digest.now found.text.items found.place) }
     ensures refused { IfErr result (RefusesOpen (D.told disk.old) digest.now
         (D.faults disk.old) (D.faults disk.new)) }
+    ensures read { IfErr result (λ e. IsOfBytes e → OnlyReads D.told D.may_leave D.moment
+        D.left_since D.faults disk.old disk.new) }
     ensures count { D.faults disk.old ≤ D.faults disk.new }
 {
     let found = match look(alloc, disk, digest) {
@@ -67,8 +69,8 @@ fn open_bytes<D: Disk>(alloc: Global, disk: &mut D, digest: &[u8; 32]) -> Result
 /// text, or the text and the batch whose append was cut short, and each image of the disk stands
 /// for just that.
 ///
-/// `NotJournal` and `OtherSeed` come exactly where the bytes are no journal or another seed's.
-/// `DiskFault` comes only where the disk's count rose.
+/// `NotJournal` and `OtherSeed` come exactly where the bytes are no journal or another seed's, and
+/// then nothing is written. `DiskFault` comes only where the disk's count rose.
 pub fn open<D: Disk>(
     alloc: Global,
     disk: D,
@@ -80,13 +82,15 @@ pub fn open<D: Disk>(
         (λ c. IsSettled c digest.now text body) }
     ensures ok { IfOk result (λ r. StandsFor D.may_leave digest.now r.1 r.0) }
     ensures stands { IfOk result (λ r. (f : List ℕ) → D.told disk ≡ Some f
-        → Stands f digest.now r.1) }
+        → StandsAt f digest.now r.1 (gate_of r.0)) }
     ensures one { IfOk result (λ r. (f text body : List ℕ) → D.told disk ≡ Some f
         → AllSettled (D.may_leave disk) digest.now text body
         → (r.1 ≡ text) ⊎ (r.1 ≡ text ++ body)) }
 
     ensures refused { IfErr result (λ e. RefusesOpen (D.told disk) digest.now
         (D.faults disk) (D.faults e.0) e.1) }
+    ensures read { IfErr result (λ e. IsOfBytes e.1 → OnlyReads D.told D.may_leave D.moment
+        D.left_since D.faults disk e.0) }
     ensures count { D.faults disk ≤ D.faults (disk_after result) }
     ensures settled { IfErr result (λ e. (f text body : List ℕ) → D.told disk ≡ Some f
         → AllSettled (D.may_leave disk) digest.now text body → IsOutside e.1) }

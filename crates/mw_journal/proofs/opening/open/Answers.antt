@@ -8,7 +8,7 @@ returns-in-Ok-clause-one g c f text body told settled =
     let stands = c.in-Ok.ensures.stands f told in
     let now = g.met.D.Disk.told_may_stay c.args.disk f told in
     subst (λ l. (l ≡ text) ⊎ (l ≡ text ++ body)) (sym c.from_vec.ensures)
-    (settled_text f c.args.digest.now text body c.in-Ok.found.text.items stands.0 stands.1 (settled f now) stands.2)
+    (settled_text f c.args.digest.now text body c.in-Ok.found.text.items c.in-Ok.found.place stands.0 (settled f now) stands.1)
 
 pub returns-in-Err-clause-settled : goal.returns-in-Err-clause-settled
 returns-in-Err-clause-settled g c f text body told settled =

@@ -9,10 +9,10 @@ use Rattle.mw_journal.proofs.Unique.{settled_torn}
 use Rattle.mw_journal.proofs.opening.open_bytes.Goals as goal
 
 pub returns-then-found-eq0-clause-stands : goal.returns-then-found-eq0-clause-stands
-returns-then-found-eq0-clause-stands g c f told = (c.in-Ok.found.place, c.in-Ok.found.gate, c.in-Ok.ensures.found f told)
+returns-then-found-eq0-clause-stands g c f told = (c.in-Ok.found.gate, c.in-Ok.ensures.found f told)
 
 pub returns-in-Ok-put_safely-clause-stands : goal.returns-in-Ok-put_safely-clause-stands
-returns-in-Ok-put_safely-clause-stands g c f told = (c.in-Ok.found.place, c.in-Ok.found.gate, c.in-Ok.ensures.found f told)
+returns-in-Ok-put_safely-clause-stands g c f told = (c.in-Ok.found.gate, c.in-Ok.ensures.found f told)
 
 pub returns-in-Ok-put_safely-clause-any_moment : goal.returns-in-Ok-put_safely-clause-any_moment
 returns-in-Ok-put_safely-clause-any_moment g c text body settled =
