@@ -25,3 +25,5 @@ mod Updates
 mod Viewing
 mod Watched
 mod Watching
+mod Keeping
+mod Runs

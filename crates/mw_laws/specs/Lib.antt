@@ -3,6 +3,7 @@ pub mod Clients
 pub mod Hinted
 pub mod Items
 pub mod Journals
+pub mod Kept
 pub mod Silence
 pub mod Stored
 pub mod Strangers

@@ -4,6 +4,7 @@ ghost use Rattle.mw_laws.specs.Clients.{ClientsFollow};
 ghost use Rattle.mw_laws.specs.Hinted.{HintsStand, HintsCostOnce, SlotsNeverOwe};
 ghost use Rattle.mw_laws.specs.Items.{ItemsComeOnce};
 ghost use Rattle.mw_laws.specs.Journals.{JournalsGrow};
+ghost use Rattle.mw_laws.specs.Kept.{LivesKeep};
 ghost use Rattle.mw_laws.specs.Silence.{NoTextIsTold};
 ghost use Rattle.mw_laws.specs.Stored.{GetsAreAnswered, KeysStay, RefusedSetsChangeNothing};
 ghost use Rattle.mw_laws.specs.Stored.{SetsAreGot, SetsAreTold};
@@ -131,4 +132,11 @@ pub fn watchers_stay()
 /// changes nothing.
 pub fn bounces_reach()
     ensures { BouncesReach }
+{}
+
+/// Over the calls and crashes of a room's lives its seed stays and its journal only grows at its
+/// end: a call that is answered as done has its records in the journal at once, any other call
+/// leaves the room as it is, and a crash keeps the journal and may add some records at risk.
+pub fn lives_keep()
+    ensures { LivesKeep }
 {}
