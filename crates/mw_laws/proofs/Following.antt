@@ -165,7 +165,7 @@ abbrev Follow : Seed → Standing → Option Member → List NetItem → Type 0
 Follow seed s None list = list ≡ []
 Follow seed s (Some m) list = (list ≡ view_of seed s m) ⊎ (view_of seed s m ≡ [])
 
-none_told : (seed : Seed) (before later : Standing) (effect : Effect) (sends : Bool) → list_all is_answer effect.answers ≡ true → filter is_received_items (owed seed before later effect sends None) ≡ []
+pub none_told : (seed : Seed) (before later : Standing) (effect : Effect) (sends : Bool) → list_all is_answer effect.answers ≡ true → filter is_received_items (owed seed before later effect sends None) ≡ []
 none_told seed before later effect sends h =
     ap (filter is_received_items) (append-nil (answers_to sends effect ++ []) ∙ append-nil (answers_to sends effect)) ∙ answers_none sends effect h
 
@@ -217,7 +217,7 @@ then_follows room event s has h =
     (told_hears (Follow room.seed (now (next room event)) member) packets (length (next room event).journal) t
     (λ kept. follow_event room event s (client_list s) has (h kept) member refl) fine)
 
-staying_each : (P : Session → Type 0) (room : Room) (event : Event) → Each P room.sessions → Each P (staying room event)
+pub staying_each : (P : Session → Type 0) (room : Room) (event : Event) → Each P room.sessions → Each P (staying room event)
 staying_each P room (opened time) h = h
 staying_each P room (sent sender packet) h = h
 staying_each P room (failed sender bad) h = h

@@ -27,3 +27,5 @@ mod Watched
 mod Watching
 mod Keeping
 mod Runs
+mod Owing
+mod Tails

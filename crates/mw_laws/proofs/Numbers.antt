@@ -69,7 +69,7 @@ after_numbered room (takes number) h = took 0 room.opened number room.sessions h
 
 -- ---- who has a number
 
-above : (low high : ℕ) (ss : List Session) → Ascend low ss high → Each (λ t. low < t.number) ss
+pub above : (low high : ℕ) (ss : List Session) → Ascend low ss high → Each (λ t. low < t.number) ss
 above low high [] h = tt
 above low high (s ∷ ss) h =
     let first : low < s.number = h.0 in

@@ -7,6 +7,7 @@ pub mod Kept
 pub mod Silence
 pub mod Stored
 pub mod Strangers
+pub mod Tails
 pub mod Told
 pub mod Turns
 pub mod Views

@@ -1,5 +1,5 @@
 -- What sessions take over the lives of a room: messages that events of their life owed, and in these the tails of what their slots received.
-use Rattle.std.specs.Prelude.{◌≡◌, ◌⊎◌, ℕ, ◌+◌, ◌++◌, ◌∷◌, [], List, Bool, true, false, Some, IsTrue, All, Contains, map, length, take, drop}
+use Rattle.std.specs.Prelude.{◌≡◌, ◌⊎◌, ℕ, ◌+◌, ◌≤◌, ◌++◌, ◌∷◌, [], List, Bool, true, false, Some, IsTrue, All, Contains, map, length, take, drop}
 use Rattle.std.specs.List.{list_all}
 use Rattle.mw_model.specs.Items.{NetItem}
 use Rattle.mw_model.specs.Seed.{Seed}
@@ -12,9 +12,23 @@ use Rattle.mw_protocol.specs.Rooms.{Message, Session, Room, Event, opened, sent,
 use Rattle.mw_laws.specs.Kept.{Passes, journal_after}
 use Rattle.mw_laws.specs.Turns.{member_then, owed_by}
 
--- ---- what a message owes to
+abbrev pub is_call : Step → Bool
+is_call (acts call luck) = true
+is_call (crashes number kept place) = false
 
--- a session that is just opened is greeted by RoomInfo
+-- an event that passed in the life that a run comes to: before it come any steps, and after it calls alone
+pub record Passed (seed : Seed) (steps : List Step) : Type 0 where
+  pub before : List Step
+  pub event : Event
+  pub luck : Luck
+  pub later : List Step
+  pub run : steps ≡ before ++ acts (happens event) luck ∷ later
+  pub calls : IsTrue (list_all is_call later)
+  pub passes : Passes (life_after_all seed before) (happens event) luck
+
+-- ---- what an event owes to the session of a number
+
+-- RoomInfo, if it opens it
 abbrev pub Greets : Room → Event → ℕ → Message → Type 0
 Greets room (opened time) number message =
     (number ≡ room.opened + 1) × (message ≡ record { packets = room_info (room_info_of room.seed time) ∷ []; carries = length room.journal })
@@ -22,15 +36,49 @@ Greets room (sent sender packet) number message = ⊥
 Greets room (failed sender bad) number message = ⊥
 Greets room (lost sender) number message = ⊥
 
--- a session that is open is told what the event owes it, and how long the journal then is
+-- what it owes a session that is open before it, with the journal's length after it
 pub record Tells (room : Room) (event : Event) (number : ℕ) (message : Message) : Type 0 where
   pub session : Session
-  pub open : session_in room.sessions number ≡ Some session
+  pub found : session_in room.sessions number ≡ Some session
   pub is : message ≡ record { packets = owed_by room event session; carries = length (next room event).journal }
 
--- an event that passed in the life that a run comes to: after it no crash came
-pub record Passed (seed : Seed) (steps : List Step) : Type 0 where
-  pub before : List Step
-  pub event : Event
-  pub luck : Luck
-  pub later : List Step
+abbrev pub Owes : Room → Event → ℕ → Message → Type 0
+Owes room event number message = Greets room event number message ⊎ Tells room event number message
+
+abbrev pub WasOwed : Seed → List Step → ℕ → Message → Type 0
+WasOwed seed steps number message = (point : Passed seed steps) × Owes (life_after_all seed point.before).room point.event number message
+
+-- ---- what a session takes
+
+-- the messages that the session of a number takes, if it does
+abbrev pub untaken_in : Life → ℕ → List Message
+untaken_in life number = untaken_of (session_in life.room.sessions number)
+
+-- in any life of any run, all that a session was owed, and so all that it takes, was owed to it by events that passed in this life; it takes these messages' texts, none of which carries more than the journal's length
+pub record TakenWasOwed : Type 0 where
+  pub owed : (seed : Seed) (steps : List Step) (number : ℕ) (s : Session) → session_in (life_after_all seed steps).room.sessions number ≡ Some s → All (WasOwed seed steps number) s.owed
+  pub taken : (seed : Seed) (steps : List Step) (number : ℕ) → All (WasOwed seed steps number) (untaken_in (life_after_all seed steps) number)
+  pub texts : (life : Life) (number : ℕ) (luck : Luck) (texts : List (List ℕ)) → reply_to life (takes number) luck ≡ messages texts → texts ≡ map text_of (untaken_in life number)
+  pub carries : (seed : Seed) (steps : List Step) (number : ℕ) → All (λ m. m.carries ≤ length (journal_after seed steps)) (untaken_in (life_after_all seed steps) number)
+
+-- ---- tails
+
+-- items from an index on that a message tells the session of a number
+pub record IsTail (seed : Seed) (steps : List Step) (number : ℕ) (message : Message) (index : ℕ) (items : List NetItem) : Type 0 where
+  -- the event that owed the message, and the member that the session then was
+  pub point : Passed seed steps
+  pub told : Tells (life_after_all seed point.before).room point.event number message
+  pub member : Member
+  pub plays : member_then (life_after_all seed point.before).room point.event told.session ≡ Some member
+  -- they are the tail, from the index on, of its view after that event
+  pub own : items ≡ drop index (view seed member.mask member.team member.slot (journal_after seed (point.before ++ acts (happens point.event) point.luck ∷ [])))
+  -- and stand at the index in its view by the journal of each later point of the run, in this life and in later ones
+  pub last : (more : List Step) → items ≡ take (length items) (drop index (view seed member.mask member.team member.slot (journal_after seed (steps ++ more))))
+
+-- so it is for each ReceivedItems of a message
+abbrev pub AreTails : Seed → List Step → ℕ → Message → Type 0
+AreTails seed steps number message = (index : ℕ) (items : List NetItem) → Contains message.packets (received_items index items) → IsTail seed steps number message index items
+
+-- of each that a session takes in any life of any run
+abbrev pub TailsOfTheLastView : Type 0
+TailsOfTheLastView = (seed : Seed) (steps : List Step) (number : ℕ) → All (AreTails seed steps number) (untaken_in (life_after_all seed steps) number)

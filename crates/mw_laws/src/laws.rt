@@ -9,6 +9,7 @@ ghost use Rattle.mw_laws.specs.Silence.{NoTextIsTold};
 ghost use Rattle.mw_laws.specs.Stored.{GetsAreAnswered, KeysStay, RefusedSetsChangeNothing};
 ghost use Rattle.mw_laws.specs.Stored.{SetsAreGot, SetsAreTold};
 ghost use Rattle.mw_laws.specs.Strangers.{StrangersHear, SlotsStay, StrangersAreAnswered, StrangersHearNoOthers};
+ghost use Rattle.mw_laws.specs.Tails.{TailsOfTheLastView, TakenWasOwed};
 ghost use Rattle.mw_laws.specs.Told.{EventsTell};
 ghost use Rattle.mw_laws.specs.Views.{ViewsGrow, WholeViewsAreOwed};
 ghost use Rattle.mw_laws.specs.Watched.{WatchersStay};
@@ -139,4 +140,18 @@ pub fn bounces_reach()
 /// leaves the room as it is, and a crash keeps the journal and may add some records at risk.
 pub fn lives_keep()
     ensures { LivesKeep }
+{}
+
+/// All that a session takes, in any life of any run of calls and crashes, is the texts of messages
+/// that events of this life owed to it, none carrying more than the journal's length.
+pub fn taken_was_owed()
+    ensures { TakenWasOwed }
+{}
+
+/// Each ReceivedItems of a message that a session takes, in any life of any run, has as items the
+/// tail from its index of what the session's mask kept of what its slot received at the event that
+/// owed the message; and these stand at that index in the view by the journal of each later point
+/// of the run, over crashes too.
+pub fn tails_of_the_last_view()
+    ensures { TailsOfTheLastView }
 {}
