@@ -35,7 +35,7 @@ use Rattle.mw_laws.proofs.Viewing.{answers_none, items_at, items_are, asked_whol
 
 -- ---- who asks for nothing sees as before
 
-abbrev SeesAs : Member → Member → Type 0
+abbrev pub SeesAs : Member → Member → Type 0
 SeesAs m k = (k.mask ≡ m.mask) × (k.team ≡ m.team) × (k.slot ≡ m.slot)
 
 same_sees : (k m : Member) → Some k ≡ Some m → SeesAs m k
@@ -90,7 +90,7 @@ plain_sees : (member : Option Member) (m : Member) → member ≡ Some m → IsS
 plain_sees None m e = absurd (none_some m e)
 plain_sees (Some k) m e = same_sees k m e
 
-event_sees : (room : Room) (event : Event) (s : Session) (m : Member) → member_in room.sessions s.number ≡ s.member → asks_by room event s ≡ false → member_then room event s ≡ Some m → IsSomeAnd s.member (SeesAs m)
+pub event_sees : (room : Room) (event : Event) (s : Session) (m : Member) → member_in room.sessions s.number ≡ s.member → asks_by room event s ≡ false → member_then room event s ≡ Some m → IsSomeAnd s.member (SeesAs m)
 event_sees room (opened time) s m has asks is = plain_sees s.member m is
 event_sees room (failed sender bad) s m has asks is =
     elim (s.number == sender) as (λ b. cond b (or_else None s.member) s.member ≡ Some m → IsSomeAnd s.member (SeesAs m)) [ true ↦ plain_sees s.member m | false ↦ plain_sees s.member m ] is

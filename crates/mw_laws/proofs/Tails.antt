@@ -68,7 +68,7 @@ member_tells room event s m is =
     (subst (Each (TellsTail (view_then room event m))) (sym (items_are room event s m is)) (view_tells ((effect_in room event).whole && is_of event s.number) room event m))
 
 -- who plays no slot is told of no items
-stranger_tells : (room : Room) (event : Event) (s : Session) → member_then room event s ≡ None → filter is_received_items (owed_by room event s) ≡ []
+pub stranger_tells : (room : Room) (event : Event) (s : Session) → member_then room event s ≡ None → filter is_received_items (owed_by room event s) ≡ []
 stranger_tells room event s is =
     ap (λ member. filter is_received_items (owed room.seed (now room) (now (next room event)) (effect_in room event) (is_of event s.number) member)) is
     ∙ none_told room.seed (now room) (now (next room event)) (effect_in room event) (is_of event s.number) (event_answers room event)

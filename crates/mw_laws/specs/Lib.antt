@@ -1,3 +1,4 @@
+pub mod Applied
 pub mod Bounced
 pub mod Clients
 pub mod Hinted

@@ -1,4 +1,5 @@
 //! What is true of every room, whatever the seed is and whatever happens.
+ghost use Rattle.mw_laws.specs.Applied.{ClientsApply};
 ghost use Rattle.mw_laws.specs.Bounced.{BouncesReach};
 ghost use Rattle.mw_laws.specs.Clients.{ClientsFollow};
 ghost use Rattle.mw_laws.specs.Hinted.{HintsStand, HintsCostOnce, SlotsNeverOwe};
@@ -154,4 +155,14 @@ pub fn taken_was_owed()
 /// of the run, over crashes too.
 pub fn tails_of_the_last_view()
     ensures { TailsOfTheLastView }
+{}
+
+/// A client of the network protocol, which takes the items of index 0 for its list, appends those
+/// that come at its list's length, and asks for Sync at any other index, never asks for Sync,
+/// whatever front of what its session was owed it heard, in any life of any run: its list is a
+/// front of what the session's mask keeps of what its slot received, by the journal of each later
+/// point. This holds as long as the mask stays as it was connected, and after another mask from the
+/// first ReceivedItems on.
+pub fn clients_apply()
+    ensures { ClientsApply }
 {}
