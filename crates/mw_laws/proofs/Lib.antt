@@ -1,3 +1,4 @@
+mod Among
 mod Answered
 mod Applying
 mod Each
@@ -20,6 +21,9 @@ mod Recording
 mod Runs
 mod Sessions
 mod Setting
+mod Showing
+mod ShownEffects
+mod Shows
 mod Silent
 mod Slots
 mod Steady

@@ -43,7 +43,7 @@ unseen_once seen (c ∷ xs) =
 -- ---- items
 
 -- what stands at a location of a slot names both
-held_place : (hs : List Held) (slot : ℕ) (location : ℤ) (h : Held) → held_among hs slot location ≡ Some h → (h.slot ≡ slot) × (h.location ≡ location)
+pub held_place : (hs : List Held) (slot : ℕ) (location : ℤ) (h : Held) → held_among hs slot location ≡ Some h → (h.slot ≡ slot) × (h.location ≡ location)
 held_place [] slot location h e = absurd (none_some h e)
 held_place (g ∷ gs) slot location h e =
     elim ((g.slot == slot) && int_eq g.location location) as (λ b. ((g.slot == slot) && int_eq g.location location) ≡ b → cond b (Some g) (held_among gs slot location) ≡ Some h → (h.slot ≡ slot) × (h.location ≡ location)) [
@@ -54,7 +54,7 @@ held_place (g ∷ gs) slot location h e =
     ] refl e
 
 -- an item that a check gives in a team
-abbrev IsFrom : ℕ → Check → NetItem → Type 0
+abbrev pub IsFrom : ℕ → Check → NetItem → Type 0
 IsFrom team c i = (c.team ≡ team) × (i.player ≡ c.slot) × (i.location ≡ c.location)
 
 given_from : (team slot : ℕ) (c : Check) (o : Option Held) → ((h : Held) → o ≡ Some h → (h.slot ≡ c.slot) × (h.location ≡ c.location)) → Each (IsFrom team c) (item_for team slot c o)
@@ -69,10 +69,10 @@ given_once : (R : NetItem → NetItem → Type 0) (team slot : ℕ) (c : Check) 
 given_once R team slot c None = tt
 given_once R team slot c (Some h) = elim ((c.team == team) && (h.receiver == slot)) as (λ b. Pairs R (cond b (found_item h ∷ []) [])) [ true ↦ (tt, tt) | false ↦ tt ]
 
-abbrev given : Seed → ℕ → ℕ → Check → List NetItem
+abbrev pub given : Seed → ℕ → ℕ → Check → List NetItem
 given seed team slot c = item_for team slot c (held_at seed c.slot c.location)
 
-from : (seed : Seed) (team slot : ℕ) (c : Check) → Each (IsFrom team c) (given seed team slot c)
+pub from : (seed : Seed) (team slot : ℕ) (c : Check) → Each (IsFrom team c) (given seed team slot c)
 from seed team slot c = given_from team slot c (held_at seed c.slot c.location) (held_place seed.locations c.slot c.location)
 
 -- items of different checks are elsewhere

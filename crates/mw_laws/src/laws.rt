@@ -6,6 +6,7 @@ ghost use Rattle.mw_laws.specs.Hinted.{HintsStand, HintsCostOnce, SlotsNeverOwe}
 ghost use Rattle.mw_laws.specs.Items.{ItemsComeOnce};
 ghost use Rattle.mw_laws.specs.Journals.{JournalsGrow};
 ghost use Rattle.mw_laws.specs.Kept.{LivesKeep};
+ghost use Rattle.mw_laws.specs.Shows.{ShownIsChecked};
 ghost use Rattle.mw_laws.specs.Silence.{NoTextIsTold};
 ghost use Rattle.mw_laws.specs.Stored.{GetsAreAnswered, KeysStay, RefusedSetsChangeNothing};
 ghost use Rattle.mw_laws.specs.Stored.{SetsAreGot, SetsAreTold};
@@ -67,7 +68,8 @@ pub fn clients_follow()
 {}
 
 /// No check stands twice in what a journal comes to, so a slot receives nothing twice from one
-/// location, whatever was checked, released or collected.
+/// location, whatever was checked, released or collected. This holds of every journal, and so of
+/// each that a run of lives comes to.
 pub fn no_item_twice()
     ensures { ItemsComeOnce }
 {}
@@ -165,4 +167,12 @@ pub fn tails_of_the_last_view()
 /// first ReceivedItems on.
 pub fn clients_apply()
     ensures { ClientsApply }
+{}
+
+/// What the messages that a session takes show to be checked, in any life of any run, is checked by
+/// the journal of each later point, over crashes too: the locations of Connected and RoomUpdate,
+/// those of the items of ReceivedItems and of prints that tell of an item sent or of a hint that is
+/// found, and those of found hints that a Get is answered.
+pub fn shown_is_checked()
+    ensures { ShownIsChecked }
 {}

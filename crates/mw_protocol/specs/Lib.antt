@@ -30,6 +30,7 @@ pub mod Reading
 pub mod Records
 pub mod Rooms
 pub mod Sayings
+pub mod Shown
 pub mod Speaking
 pub mod Spelled
 pub mod SpelledExamples
