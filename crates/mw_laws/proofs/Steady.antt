@@ -306,14 +306,26 @@ mask_since seed steps number mask b stays = record {
       (all_front is_call (first ++ s ∷ []) rest (ap (list_all is_call) (append_assoc first (s ∷ []) rest ∙ sym is) ∙ b.calls)).1;
 }
 
-connected_apply : (seed : Seed) (steps : List Step) (number : ℕ) (s : Session) (m : Member) → session_in (life_after_all seed steps).room.sessions number ≡ Some s → s.member ≡ Some m → MaskStays seed steps number m.mask
-    → (count : ℕ) (more : List Step) → IsFrontOf (view seed m.mask m.team m.slot (journal_after seed (steps ++ more))) (applied_messages (having []) (take count s.owed))
-connected_apply seed steps number s m is plays stays count more =
+-- since its life began, where the mask stayed
+stays_since : (seed : Seed) (steps : List Step) (number : ℕ) (s : Session) (mask : ℕ) → session_in (life_after_all seed steps).room.sessions number ≡ Some s → MaskStays seed steps number mask → Since seed mask 0 (journal_after seed steps) s
+stays_since seed steps number s mask is stays =
     let b = run_began seed steps in
     let here : session_in (life_after_all seed (b.front ++ b.back)).room.sessions number ≡ Some s = ap (λ run. session_in (life_after_all seed run).room.sessions number) (sym b.run) ∙ is in
-    let since = since_point seed b.front b.back number s m.mask here (mask_since seed steps number m.mask b stays) in
+    let since = since_point seed b.front b.back number s mask here (mask_since seed steps number mask b stays) in
     let none : owed_before seed b.front number ≡ 0 = ap (λ ss. length (owed_of (session_in ss number))) b.empty in
-    front_later seed steps more s m plays 0 (subst (λ from. Since seed m.mask from (journal_after seed steps) s) none (subst (λ run. Since seed m.mask (owed_before seed b.front number) (journal_after seed run) s) (sym b.run) since)) count
+    subst (λ from. Since seed mask from (journal_after seed steps) s) none (subst (λ run. Since seed mask (owed_before seed b.front number) (journal_after seed run) s) (sym b.run) since)
+
+connected_apply : (seed : Seed) (steps : List Step) (number : ℕ) (s : Session) (m : Member) → session_in (life_after_all seed steps).room.sessions number ≡ Some s → s.member ≡ Some m → MaskStays seed steps number m.mask
+    → (count : ℕ) (more : List Step) → IsFrontOf (view seed m.mask m.team m.slot (journal_after seed (steps ++ more))) (applied_messages (having []) (take count s.owed))
+connected_apply seed steps number s m is plays stays count more = front_later seed steps more s m plays 0 (stays_since seed steps number s m.mask is stays) count
+
+heard_apply : (seed : Seed) (steps : List Step) (number : ℕ) (s : Session) (m : Member) → session_in (life_after_all seed steps).room.sessions number ≡ Some s → s.member ≡ Some m → MaskStays seed steps number m.mask → IsFalse s.overrun
+    → (applied_messages (having []) s.owed).list ≡ view seed m.mask m.team m.slot (journal_after seed steps)
+heard_apply seed steps number s m is plays stays fine =
+    let journal = journal_after seed steps in
+    let list = (applied_messages (having []) s.owed).list in
+    let has : Has seed m.mask journal (Some m) list = subst (λ member. Has seed m.mask journal member list) plays ((stays_since seed steps number s m.mask is stays).1 fine).1 in
+    has.0 refl
 
 changed_apply : (seed : Seed) (front back : List Step) (number : ℕ) (s : Session) (m : Member) → session_in (life_after_all seed (front ++ back)).room.sessions number ≡ Some s → s.member ≡ Some m → MaskSince seed front back number m.mask
     → (list : List NetItem) (count : ℕ) (more : List Step) → IsTrue (has_items (take count (owed_since seed front number s)))
@@ -325,4 +337,4 @@ changed_apply seed front back number s m is plays masked list count more has =
     subst (IsFrontOf whole) (sym (messages_forget list ms has own.asks)) own
 
 pub clients_apply : ClientsApply
-clients_apply = record { connected = connected_apply; changed = changed_apply }
+clients_apply = record { connected = connected_apply; heard = heard_apply; changed = changed_apply }

@@ -1,18 +1,18 @@
 -- The ReceivedItems of each message that is taken hold tails of views, in later lives too.
 use mathlib.Core.List.{IsPrefix}
-use Rattle.std.proofs.Common.{◌≡◌, inl, inr, ℕ, zero, suc, ◌&&◌, List, Bool, true, false, cond, ◌∷◌, [], ◌++◌, Option, Some, None, Contains, length, take, drop, filter, refl, sym, ap, subst, ◌∙◌, true≢false}
+use Rattle.std.proofs.Common.{◌≡◌, inl, inr, ℕ, zero, suc, ◌&&◌, List, Bool, true, false, cond, ◌∷◌, [], ◌++◌, Option, Some, None, All, Contains, length, take, drop, filter, refl, sym, ap, subst, ◌∙◌, append_assoc, true≢false}
 use Rattle.std.proofs.Math.Seq.{take-append_seam}
 use Rattle.std.proofs.lemmas.List.Elements.{All-contains}
 use Rattle.mw_model.specs.Items.{NetItem}
 use Rattle.mw_model.specs.Seed.{Seed}
 use Rattle.mw_protocol.specs.Asked.{view}
 use Rattle.mw_protocol.specs.Connecting.{Member}
-use Rattle.mw_protocol.specs.Lives.{Step, life_after_all}
+use Rattle.mw_protocol.specs.Lives.{happens, Luck, Step, acts, life_after_all}
 use Rattle.mw_protocol.specs.Messages.{ServerPacket, received_items}
 use Rattle.mw_protocol.specs.Owed.{items_from, owed, view_of}
 use Rattle.mw_protocol.specs.Rooms.{Message, Session, Room, Event, opened, sent, failed, lost, effect_in, next}
 use Rattle.mw_protocol.specs.Standing.{standing}
-use Rattle.mw_laws.specs.Kept.{journal_after}
+use Rattle.mw_laws.specs.Kept.{Passes, journal_after}
 use Rattle.mw_laws.specs.Tails.{Passed, Greets, Tells, WasOwed, untaken_in, IsTail, AreTails, TailsOfTheLastView}
 use Rattle.mw_laws.specs.Turns.{now, is_of, member_then, owed_by}
 use Rattle.mw_laws.specs.Views.{is_received_items, view_then, view_before}
@@ -107,6 +107,16 @@ module _ (seed : Seed) (steps : List Step) (p : Passed seed steps) (m : Member) 
       own ∙ tail_stays index before longer.0 ∙ ap (λ list. take (length (drop index before)) (drop index list)) longer.1
       ∙ ap (λ list. take (length list) (drop index (view seed m.mask m.team m.slot (journal_after seed (steps ++ more))))) (sym own)
 
+-- the items of what an event that passed owes are a tail of the view after it
+tail_at : (seed : Seed) (steps : List Step) (p : Passed seed steps) (s : Session) (m : Member) → member_then (life_after_all seed p.before).room p.event s ≡ Some m
+    → (index : ℕ) (items : List NetItem) → Contains (owed_by (life_after_all seed p.before).room p.event s) (received_items index items)
+    → items ≡ drop index (view seed m.mask m.team m.slot (journal_after seed (steps_to seed steps p)))
+tail_at seed steps p s m is index items has =
+    let room = (life_after_all seed p.before).room in
+    let list = view_then room p.event m in
+    All-contains (TellsTail list) (owed_by room p.event s) (received_items index items) (each_at (TellsTail list) (owed_by room p.event s) (member_tells room p.event s m is)) has index items refl
+    ∙ ap (drop index) (event_view seed steps p m)
+
 told_tail : (seed : Seed) (steps : List Step) (number : ℕ) (message : Message) (p : Passed seed steps) (t : Tells (life_after_all seed p.before).room p.event number message)
     → (o : Option Member) → member_then (life_after_all seed p.before).room p.event t.session ≡ o
     → (index : ℕ) (items : List NetItem) → Contains (owed_by (life_after_all seed p.before).room p.event t.session) (received_items index items) → IsTail seed steps number message index items
@@ -114,12 +124,7 @@ told_tail seed steps number message p t None is index items has =
     let room = (life_after_all seed p.before).room in
     absurd (none_among (owed_by room p.event t.session) index items (stranger_tells room p.event t.session is) has)
 told_tail seed steps number message p t (Some m) is index items has =
-    let room = (life_after_all seed p.before).room in
-    let packets = owed_by room p.event t.session in
-    let list = view_then room p.event m in
-    let own : items ≡ drop index (view seed m.mask m.team m.slot (journal_after seed (steps_to seed steps p))) =
-    All-contains (TellsTail list) packets (received_items index items) (each_at (TellsTail list) packets (member_tells room p.event t.session m is)) has index items refl
-    ∙ ap (drop index) (event_view seed steps p m) in
+    let own = tail_at seed steps p t.session m is index items has in
     record { point = p; told = t; member = m; plays = is; own = own; last = λ more. stands_later seed steps p m index items more own }
 
 greeting_none : (room : Room) (event : Event) (number : ℕ) (message : Message) → Greets room event number message → filter is_received_items message.packets ≡ []
@@ -135,7 +140,23 @@ owed_tails seed steps number message (p, inr t) index items has =
     let room = (life_after_all seed p.before).room in
     told_tail seed steps number message p t (member_then room p.event t.session) refl index items (subst (λ m. Contains m.packets (received_items index items)) t.is has)
 
-pub tails_of_the_last_view : TailsOfTheLastView
-tails_of_the_last_view seed steps number =
+taken_tails : (seed : Seed) (steps : List Step) (number : ℕ) → All (AreTails seed steps number) (untaken_in (life_after_all seed steps) number)
+taken_tails seed steps number =
     each_at (AreTails seed steps number) (untaken_in (life_after_all seed steps) number)
     (each_weaker (WasOwed seed steps number) (AreTails seed steps number) (owed_tails seed steps number) (untaken_in (life_after_all seed steps) number) (taken_owed seed steps number))
+
+event_tails : (seed : Seed) (before more : List Step) (event : Event) (luck : Luck) (s : Session) (m : Member) (index : ℕ) (items : List NetItem)
+    → Passes (life_after_all seed before) (happens event) luck → member_then (life_after_all seed before).room event s ≡ Some m
+    → Contains (owed_by (life_after_all seed before).room event s) (received_items index items)
+    → items ≡ take (length items) (drop index (view seed m.mask m.team m.slot (journal_after seed (before ++ acts (happens event) luck ∷ more))))
+event_tails seed before more event luck s m index items passes is has =
+    let run = before ++ acts (happens event) luck ∷ more in
+    let p : Passed seed (before ++ acts (happens event) luck ∷ []) = record { before = before; event = event; luck = luck; later = []; run = refl; calls = refl; passes = passes } in
+    subst (λ run. items ≡ take (length items) (drop index (view seed m.mask m.team m.slot (journal_after seed run)))) (append_assoc before (acts (happens event) luck ∷ []) more)
+    (stands_later seed (before ++ acts (happens event) luck ∷ []) p m index items more (tail_at seed (before ++ acts (happens event) luck ∷ []) p s m is index items has))
+
+pub tails_of_the_last_view : TailsOfTheLastView
+tails_of_the_last_view = record {
+  owed = λ seed before more event luck number s m index items passes found is has. event_tails seed before more event luck s m index items passes is has;
+  taken = taken_tails;
+}

@@ -89,6 +89,10 @@ pub record ClientsApply : Type 0 where
   pub connected : (seed : Seed) (steps : List Step) (number : ℕ) (s : Session) (m : Member) → session_in (life_after_all seed steps).room.sessions number ≡ Some s → s.member ≡ Some m
       → MaskStays seed steps number m.mask
       → (count : ℕ) (more : List Step) → IsFrontOf (view seed m.mask m.team m.slot (journal_after seed (steps ++ more))) (applied_messages (having []) (take count s.owed))
+  -- and by then, unless it was owed too much, once it heard all its list is all that
+  pub heard : (seed : Seed) (steps : List Step) (number : ℕ) (s : Session) (m : Member) → session_in (life_after_all seed steps).room.sessions number ≡ Some s → s.member ≡ Some m
+      → MaskStays seed steps number m.mask → IsFalse s.overrun
+      → (applied_messages (having []) s.owed).list ≡ view seed m.mask m.team m.slot (journal_after seed steps)
   -- once the mask was changed, from the first ReceivedItems since then on, whatever the list was
   pub changed : (seed : Seed) (front back : List Step) (number : ℕ) (s : Session) (m : Member) → session_in (life_after_all seed (front ++ back)).room.sessions number ≡ Some s → s.member ≡ Some m
       → MaskSince seed front back number m.mask

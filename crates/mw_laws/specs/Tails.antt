@@ -79,6 +79,12 @@ pub record IsTail (seed : Seed) (steps : List Step) (number : ℕ) (message : Me
 abbrev pub AreTails : Seed → List Step → ℕ → Message → Type 0
 AreTails seed steps number message = (index : ℕ) (items : List NetItem) → Contains message.packets (received_items index items) → IsTail seed steps number message index items
 
--- of each that a session takes in any life of any run
-abbrev pub TailsOfTheLastView : Type 0
-TailsOfTheLastView = (seed : Seed) (steps : List Step) (number : ℕ) → All (AreTails seed steps number) (untaken_in (life_after_all seed steps) number)
+-- what any event owes of items that passes, and so each message that a session takes, in any life of any run
+pub record TailsOfTheLastView : Type 0 where
+  -- to a session that is open before it, and then this member: by the journal of each later point
+  pub owed : (seed : Seed) (before more : List Step) (event : Event) (luck : Luck) (number : ℕ) (s : Session) (m : Member) (index : ℕ) (items : List NetItem)
+      → Passes (life_after_all seed before) (happens event) luck
+      → session_in (life_after_all seed before).room.sessions number ≡ Some s → member_then (life_after_all seed before).room event s ≡ Some m
+      → Contains (owed_by (life_after_all seed before).room event s) (received_items index items)
+      → items ≡ take (length items) (drop index (view seed m.mask m.team m.slot (journal_after seed (before ++ acts (happens event) luck ∷ more))))
+  pub taken : (seed : Seed) (steps : List Step) (number : ℕ) → All (AreTails seed steps number) (untaken_in (life_after_all seed steps) number)

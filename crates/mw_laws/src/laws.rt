@@ -151,20 +151,21 @@ pub fn taken_was_owed()
     ensures { TakenWasOwed }
 {}
 
-/// Each ReceivedItems of a message that a session takes, in any life of any run, has as items the
-/// tail from its index of what the session's mask kept of what its slot received at the event that
-/// owed the message; and these stand at that index in the view by the journal of each later point
-/// of the run, over crashes too.
+/// Each ReceivedItems that an event owes, and so each of a message that a session takes, in any life
+/// of any run, has as items the tail from its index of what the session's mask kept of what its
+/// slot received at that event; and these stand at that index in the view by the journal of each
+/// later point of the run, over crashes too.
 pub fn tails_of_the_last_view()
     ensures { TailsOfTheLastView }
 {}
 
 /// A client of the network protocol, which takes the items of index 0 for its list, appends those
 /// that come at its list's length, and asks for Sync at any other index, never asks for Sync,
-/// whatever front of what its session was owed it heard, in any life of any run: its list is a
+/// whatever front of what its session was owed it heard, in any life of any run. Its list is a
 /// front of what the session's mask keeps of what its slot received, by the journal of each later
-/// point. This holds as long as the mask stays as it was connected, and after another mask from the
-/// first ReceivedItems on.
+/// point, and all of that once it heard all that its session was owed, unless that is overrun. This
+/// holds as long as the mask stays as it was connected; after another mask, that it never asks and
+/// has a front holds from the first ReceivedItems on.
 pub fn clients_apply()
     ensures { ClientsApply }
 {}

@@ -31,6 +31,7 @@ pub mod Records
 pub mod Rooms
 pub mod Sayings
 pub mod Shown
+pub mod ShownExamples
 pub mod Speaking
 pub mod Spelled
 pub mod SpelledExamples

@@ -1,5 +1,5 @@
 -- Which checks a message shows to a session that plays a slot.
-use Rattle.std.specs.Prelude.{ℕ, ℤ, pos, ◌&&◌, ◌++◌, ◌∷◌, [], List, Bool, false, Option, Some, None, codes, bytes_eq, int_le, length, take, drop, nat_lt, map, filter, if◌then◌else◌}
+use Rattle.std.specs.Prelude.{ℕ, pos, ◌&&◌, ◌++◌, ◌∷◌, [], List, Bool, false, Option, Some, None, codes, bytes_eq, int_le, length, take, drop, nat_lt, map, filter, if◌then◌else◌}
 use Rattle.std.specs.List.{position_or_len, before_first, after_first}
 use Rattle.mw_model.specs.Items.{NetItem}
 use Rattle.mw_model.specs.Json.{Json, null, flag, whole, not_whole, words, many, members, Items, no_items, item, Members, no_members, member, find_member, field_of}
