@@ -1,6 +1,7 @@
 ghost use Rattle.std.specs.Prelude.{◌≡◌, ◌≤◌, ◌<◌, ◌+◌, IfOk, length};
 ghost use Rattle.std.specs.Io.{ReadsAtMost};
 ghost use Rattle.mw_disk.specs.Causes.{HasCause};
+ghost use Rattle.mw_disk.specs.System.{file_faults};
 
 use crate::disk::{Disk, DiskError};
 use crate::tally::Tally;
@@ -54,10 +55,12 @@ fn open_or_make<R: Files>(rt: &R, name: &str) -> io::Result<(R::File, Option<R::
     }
 }
 
-/// Opens the file of a name, or makes it, empty.
+/// Opens the file of a name, or makes it, empty. The disk has not failed yet.
 ///
 /// After an error a file that wasn't there may be there, empty.
-pub fn open_file_disk<R: Files>(rt: &R, name: &str) -> Result<FileDisk<R::File>, DiskError> {
+pub fn open_file_disk<R: Files>(rt: &R, name: &str) -> Result<FileDisk<R::File>, DiskError>
+    ensures { IfOk result (λ d. file_faults d ≡ 0) }
+{
     match open_or_make(rt, name) {
         Ok((file, folder)) => Ok(FileDisk {
             file,
