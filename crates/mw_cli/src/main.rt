@@ -43,7 +43,7 @@ fn multiworld(rt: &HostRuntime) -> u8 {
             return 2;
         }
     };
-    let mut folder = SystemFolder::new(rt);
+    let mut folder = SystemFolder::new(rt, alloc);
     let mut input = ReaderSource::new(rt.stdin());
     let mut out = WriterSink::new(rt.stdout());
     run(alloc, &words, &mut folder, &mut input, &mut out, &mut err)

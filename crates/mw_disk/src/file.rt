@@ -1,4 +1,4 @@
-ghost use Rattle.std.specs.Prelude.{◌≡◌, ◌≤◌, ◌<◌, ◌+◌, IfOk, length};
+ghost use Rattle.std.specs.Prelude.{◌≡◌, ◌≤◌, ◌<◌, ◌+◌, ◌↔◌, IfOk, IsTrue, length};
 ghost use Rattle.std.specs.Io.{ReadsAtMost};
 ghost use Rattle.mw_disk.specs.Causes.{HasCause};
 ghost use Rattle.mw_disk.specs.System.{file_faults};
@@ -141,6 +141,13 @@ fn lost() -> io::Error {
 }
 
 impl<F: Read + Write + Seek + OpenFile + Drop> FileDisk<F> {
+    /// Whether it has failed.
+    pub fn has_failed(&self) -> bool
+        ensures { IsTrue result ↔ (0 < file_faults self.now) }
+    {
+        self.faults.has_risen()
+    }
+
     fn write_whole(&mut self, at: u64, bytes: &[u8]) -> io::Result<()>
         ensures { self.new.faults ≡ self.old.faults }
     {

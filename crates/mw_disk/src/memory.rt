@@ -1,6 +1,6 @@
-ghost use Rattle.std.specs.Prelude.{◌≡◌, ◌≢◌, is_some, ◌+◌, ◌<◌, ◌≤◌, ◌++◌, ◌∷◌, [], Some, IfOk, OnOk, OnErr, length, min, take, drop, ◌-◌, replicate, vec_len, vec_capacity, is_ok, IsErrOf, if◌then◌else◌};
+ghost use Rattle.std.specs.Prelude.{◌≡◌, ◌≢◌, is_some, ◌+◌, ◌<◌, ◌≤◌, ◌++◌, ◌∷◌, [], Some, IfOk, OnOk, OnErr, length, min, take, drop, ◌-◌, replicate, vec_len, vec_capacity, is_ok, IsErrOf, IsTrue, ◌↔◌, if◌then◌else◌};
 ghost use Rattle.mw_disk.specs.Calls.{bytes_of, IsImage};
-ghost use Rattle.mw_disk.specs.Calls.{IsImageSince, fault_count};
+ghost use Rattle.mw_disk.specs.Calls.{IsImageSince, fault_count, is_failed as answered_failed};
 ghost use Rattle.mw_disk.specs.Causes.{HasCause};
 ghost use Rattle.mw_disk.specs.Crash.{Torn, CutShort, Follows, Stays, OnlyTold, Elapses};
 ghost use Rattle.mw_disk.specs.Range.{GivesRange, written};
@@ -169,6 +169,28 @@ fn prepare(alloc: Global, calls: &mut Vec<MadeCall>, put: &[u8]) -> Result<Bytes
     Ok(Bytes::from_vec(Vec::from_slice(alloc, put)?))
 }
 
+/// Whether an answer is that the disk failed.
+fn is_failed(answer: Result<(), DiskError>) -> bool
+    ensures { result ≡ answered_failed answer }
+{
+    match answer {
+        Err(DiskError::Failed) => true,
+        _ => false,
+    }
+}
+
+/// Whether a call was answered so.
+fn any_failed(calls: &[MadeCall]) -> bool
+    ensures { IsTrue result ↔ (0 < fault_count calls.now) }
+{
+    for made in calls {
+        if is_failed(made.answer) {
+            return true;
+        }
+    }
+    false
+}
+
 impl MemDisk {
     /// A disk with these bytes, all of them safe from a crash. The calls of the listed numbers are
     /// to fail with these errors; the first call has the number 0.
@@ -201,6 +223,13 @@ impl MemDisk {
         ensures { result.now ≡ bytes_of self.now.start self.now.calls }
     {
         self.bytes.as_slice()
+    }
+
+    /// Whether it has failed.
+    pub fn has_failed(&self) -> bool
+        ensures { IsTrue result ↔ (0 < fault_count self.now.calls) }
+    {
+        any_failed(self.calls.as_slice())
     }
 
     /// An image that a crash may leave after so many calls; after all of them, where there are

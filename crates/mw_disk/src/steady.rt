@@ -40,6 +40,14 @@ impl SteadyDisk {
     {
         self.inner.bytes()
     }
+
+    /// The same disk, as one whose calls may be planned to fail.
+    pub fn into_inner(self) -> MemDisk
+        ensures { result ≡ self }
+    {
+        let SteadyDisk { inner } = self;
+        inner
+    }
 }
 
 impl Disk for SteadyDisk {

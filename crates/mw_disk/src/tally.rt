@@ -1,4 +1,4 @@
-ghost use Rattle.std.specs.Prelude.{◌≡◌, ◌+◌};
+ghost use Rattle.std.specs.Prelude.{◌≡◌, ◌+◌, ◌<◌, ◌↔◌, IsTrue};
 
 use std::marker::Model;
 use std::snapshot::Snapshot;
@@ -44,5 +44,14 @@ impl Tally {
     {
         let before = Snapshot::of(&self.marks);
         self.marks = Marks::After(before);
+    }
+    /// Whether a fault was counted.
+    pub fn has_risen(&self) -> bool
+        ensures { IsTrue result ↔ (0 < self.now) }
+    {
+        match &self.marks {
+            Marks::Unmarked => false,
+            Marks::After(_) => true,
+        }
     }
 }

@@ -1,4 +1,5 @@
 pub mod Failing
 pub mod Fronts
+pub mod KeptDisks
 pub mod Replaced
 pub mod Told

@@ -28,3 +28,8 @@ after_call failed plan = record {
   count = if failed then plan.count + 1 else plan.count;
   failing = plan.failing;
 }
+
+-- after a fault that no call had, where there was one
+abbrev pub after_fault : Bool → FaultPlan → FaultPlan
+after_fault failed plan =
+    record plan { count = if failed then plan.count + 1 else plan.count }

@@ -1,5 +1,6 @@
 -- What the forms over std show.
-use Rattle.std.specs.Prelude.{ℕ}
+use Rattle.std.specs.Prelude.{ℕ, List, Bool, false, unwrap_or}
+use Rattle.mw_edges.specs.Files.{entry_of}
 use Rattle.mw_edges.specs.declared.reader.ReaderSource.{ReaderSource}
 use Rattle.mw_edges.specs.declared.writer.WriterSink.{WriterSink}
 use Rattle.mw_edges.specs.declared.system.SystemFolder.{SystemFolder}
@@ -27,3 +28,7 @@ system_faults s = s.faults
 -- how often a folder of the system has refused to write a file
 abbrev pub system_refusals : {R F D : Type 0} → SystemFolder R F D → ℕ
 system_refusals s = s.refused
+
+-- whether a disk of a name is open
+abbrev pub is_open_file : {R F D : Type 0} → SystemFolder R F D → List ℕ → Bool
+is_open_file s name = unwrap_or (entry_of s.opened.items name) false

@@ -1,8 +1,8 @@
 ghost use Rattle.std.specs.Prelude.{◌≡◌, ◌≤◌, ◌||◌};
-ghost use Rattle.mw_edges.specs.FaultPlan.{first_plan, fails, after_call};
+ghost use Rattle.mw_edges.specs.FaultPlan.{first_plan, fails, after_call, after_fault};
 
-use crate::tally::Tally;
 use mw_base::List;
+use mw_disk::Tally;
 use std::marker::Model;
 
 /// Counts the calls of an object in memory, and tells which of them are to fail.
@@ -46,5 +46,13 @@ impl Faults {
         }
         self.call = self.call.saturating_add(1);
         failed
+    }
+    /// Counts a fault that no call had, where there was one.
+    pub(crate) fn count_fault(&mut self, failed: bool)
+        ensures { self.new ≡ after_fault failed self.old }
+    {
+        if failed {
+            self.count.raise();
+        }
     }
 }

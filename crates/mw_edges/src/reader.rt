@@ -6,7 +6,7 @@ ghost use Rattle.mw_edges.specs.System.{reader_of, reader_faults};
 
 use crate::source::{Failed, Source};
 use crate::system::is_interrupted;
-use crate::tally::Tally;
+use mw_disk::Tally;
 use std::io::Read;
 
 /// Any reader as a source, which tells what the reader tells.

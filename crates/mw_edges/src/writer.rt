@@ -7,7 +7,7 @@ ghost use Rattle.mw_edges.specs.System.{writer_of, writer_faults};
 use crate::sink::{Sink, SinkError};
 use crate::source::Failed;
 use crate::system::is_interrupted;
-use crate::tally::Tally;
+use mw_disk::Tally;
 use std::io::Write;
 
 /// Any writer as a sink, which tells what the writer tells.

@@ -200,7 +200,7 @@ fn streams_pass_bytes_on(rt: HostRuntime) -> Result<(), Fail> {
 #[test]
 fn system_files_are_read(rt: HostRuntime) -> Result<(), Fail> {
     fs::write(&rt, "five_bytes", "bytes")?;
-    let mut folder = SystemFolder::new(&rt);
+    let mut folder = SystemFolder::new(&rt, rt.alloc());
     for (name, limit, want) in [
         ("five_bytes", 5, Ok(Some(5))),
         ("five_bytes", 6, Ok(Some(5))),
@@ -219,7 +219,7 @@ fn system_files_are_read(rt: HostRuntime) -> Result<(), Fail> {
 
 #[test]
 fn system_files_are_written(rt: HostRuntime) -> Result<(), Fail> {
-    let mut folder = SystemFolder::new(&rt);
+    let mut folder = SystemFolder::new(&rt, rt.alloc());
     let name = Text::of(rt.alloc(), "written_bytes")?;
     for bytes in [b"longer".as_slice(), b"short"] {
         folder.write_file(rt.alloc(), &name, bytes)?;
