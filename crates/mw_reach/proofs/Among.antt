@@ -8,9 +8,9 @@ use Rattle.std.proofs.lemmas.List.Folds.{list_any-append}
 use Rattle.mw_rules.specs.Names.{is_among, names_item, names_place}
 use Rattle.mw_multi.specs.Steps.{Step}
 use Rattle.mw_reach.specs.Reach.{one_if, times_in}
-use Rattle.mw_reach.specs.Bound.{names_place_at, names_item_at}
+use Rattle.mw_reach.specs.Bound.{names_place_at, names_item_at, is_at, waits_for_place}
 use Rattle.mw_multi.specs.Placement.{numbers_at}
-use Rattle.mw_reach.specs.Tables.{no_step, IsWatched, step_at, is_at, waits_for_place}
+use Rattle.mw_reach.specs.Tables.{no_step, IsWatched, step_at}
 use Rattle.mw_reach.specs.Worklist.{numbers_of}
 
 -- what isn't in a list stands there no time

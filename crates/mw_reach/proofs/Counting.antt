@@ -8,10 +8,10 @@ use Rattle.mw_multi.specs.Joint.{Joint}
 use Rattle.mw_multi.specs.Placement.{numbers_at}
 use Rattle.mw_multi.specs.Steps.{Step}
 use Rattle.mw_reach.specs.Reach.{Placed, one_if, times_in}
-use Rattle.mw_reach.specs.Bound.{sum_at, names_place_at, names_item_at, items_named, step_asks, asks_allowed, asks_naming}
+use Rattle.mw_reach.specs.Bound.{sum_at, names_place_at, names_item_at, items_named, step_asks, asks_allowed, asks_naming, is_at, waits_for_place, asks_for, asks_at, new_in}
 use Rattle.mw_reach.specs.Rows.{steps_in}
-use Rattle.mw_reach.specs.Tables.{IsWatched, is_at, step_at}
-use Rattle.mw_reach.specs.Worklist.{paid, numbers_of}
+use Rattle.mw_reach.specs.Tables.{IsWatched, step_at}
+use Rattle.mw_reach.specs.Worklist.{cost_at, paid, numbers_of}
 use Rattle.mw_reach.specs.declared.row.Rows.{Rows}
 use Rattle.mw_reach.proofs.Among.{place_numbers, item_numbers}
 
@@ -73,7 +73,7 @@ sum_by-sum_below n f [] = sym (sum_below-zero n)
 sum_by-sum_below n f (i ∷ is) =
     omega (arith, sum_by-cons (λ j. sum_below n (f j)) i is, sum_by-sum_below n f is, sum_below-add n (f i) (λ k. sum_by (λ j. f j k) is), sum_below-cons n f i is)
 
-sum_by-le : (f g : ℕ → ℕ) (is : List ℕ) → ((i : ℕ) → f i ≤ g i) → sum_by f is ≤ sum_by g is
+sum_by-le : {X : Type 0} (f g : X → ℕ) (is : List X) → ((i : X) → f i ≤ g i) → sum_by f is ≤ sum_by g is
 sum_by-le f g [] h = omega arith
 sum_by-le f g (i ∷ is) h = omega (arith, sum_by-cons f i is, sum_by-cons g i is, h i, sum_by-le f g is h)
 
@@ -129,12 +129,37 @@ either-le false b = omega arith
 
 -- ---- the tables
 
-module _ (steps : List Step) (origins : List ℕ) (by_place by_item : List (List ℕ)) (watched : IsWatched steps origins by_place by_item) (placed : Placed) (done : List Bool) where
-  starting : ℕ → ℕ → ℕ
-  starting p n = one_if (is_at (step_at steps n).from p)
+-- the places of a list are in another one or new in it
+sum_at-new : (f : ℕ → ℕ) (p : ℕ) (old new : List Bool) → sum_at f p new ≤ sum_at f p old + sum_at f p (new_in old new)
+sum_at-new f p old [] = omega arith
+sum_at-new f p [] (true ∷ new) = omega (arith, sum_at-new f (suc p) [] new)
+sum_at-new f p [] (false ∷ new) = omega (arith, sum_at-new f (suc p) [] new)
+sum_at-new f p (true ∷ old) (true ∷ new) = omega (arith, sum_at-new f (suc p) old new)
+sum_at-new f p (true ∷ old) (false ∷ new) = omega (arith, sum_at-new f (suc p) old new)
+sum_at-new f p (false ∷ old) (true ∷ new) = omega (arith, sum_at-new f (suc p) old new)
+sum_at-new f p (false ∷ old) (false ∷ new) = omega (arith, sum_at-new f (suc p) old new)
 
-  naming : ℕ → ℕ → ℕ
-  naming p n = one_if (names_place_at (step_at steps n) p) + items_named (step_at steps n) (get_or placed p [])
+-- ---- the asks of one step
+
+step_at_most : (placed : Placed) (w : List Bool) (step : Step) → sum_at (asks_for placed step) 0 w ≤ step_asks placed w step
+step_at_most placed w step =
+    let starts = λ (p : ℕ). one_if (is_at step.from p) in
+    let naming = λ (p : ℕ). one_if (names_place_at step p) + items_named step (get_or placed p []) in
+    omega (
+      arith,
+      sum_at-le (asks_for placed step) (λ p. starts p + naming p) 0 w (λ p. omega (arith, either-le (is_at step.from p) (names_place_at step p))),
+      sum_at-add starts naming 0 w,
+      one_start step.from w,
+    )
+
+at_most_allowed : (steps : List Step) (placed : Placed) (w : List Bool) → asks_at steps placed w ≤ asks_allowed steps placed w
+at_most_allowed steps placed w = sum_by-le (λ step. sum_at (asks_for placed step) 0 w) (step_asks placed w) steps (step_at_most placed w)
+
+-- ---- the tables
+
+module _ (steps : List Step) (origins : List ℕ) (by_place by_item : List (List ℕ)) (watched : IsWatched steps origins by_place by_item) (placed : Placed) where
+  waiting : ℕ → ℕ → ℕ
+  waiting p n = asks_for placed (step_at steps n) p
 
   of_item : (i : ℕ) → length (numbers_at by_item i) ≤ sum_below (length steps) (λ n. one_if (names_item_at (step_at steps n) i))
   of_item i =
@@ -155,44 +180,47 @@ module _ (steps : List Step) (origins : List ℕ) (by_place by_item : List (List
         sum_by-sum_below (length steps) f is,
       )
 
-  of_place : (p : ℕ) → length (numbers_at by_place p) + length (numbers_of by_item (get_or placed p [])) ≤ sum_below (length steps) (λ n. starting p n + naming p n)
-  unfolding starting naming
+  of_place : (p : ℕ) → length (numbers_at by_place p) + length (numbers_of by_item (get_or placed p [])) ≤ sum_below (length steps) (waiting p)
+  unfolding waiting
   of_place p =
       let k = length steps in
-      let named = λ (n : ℕ). one_if (names_place_at (step_at steps n) p) in
+      let waits = λ (n : ℕ). one_if (waits_for_place (step_at steps n) p) in
       let held = λ (n : ℕ). items_named (step_at steps n) (get_or placed p []) in
-      let starts = λ (n : ℕ). one_if (is_at (step_at steps n).from p) in
       omega (
         arith,
         length-times k (numbers_at by_place p) (place_numbers steps origins by_place by_item watched p),
-        sum_below-le k (λ n. times_in n (numbers_at by_place p)) (λ n. starts n + named n) (λ n. omega (arith, watched.places n p, either-le (is_at (step_at steps n).from p) (names_place_at (step_at steps n) p))),
+        sum_below-le k (λ n. times_in n (numbers_at by_place p)) waits (λ n. omega (arith, watched.places n p)),
         of_items (get_or placed p []),
-        sum_below-add k starts named,
-        sum_below-add k named held,
-        sum_below-add k starts (λ n. named n + held n),
+        sum_below-add k waits held,
       )
 
-  each_step : (n : ℕ) → sum_at (λ p. starting p n + naming p n) 0 done ≤ step_asks placed done (step_at steps n)
-  unfolding starting naming
-  each_step n = omega (arith, one_start (step_at steps n).from done, sum_at-add (λ p. one_if (is_at (step_at steps n).from p)) (λ p. naming p n) 0 done)
-
-  pub asked_at_most : sum_at (λ p. length (numbers_at by_place p) + length (numbers_of by_item (get_or placed p []))) 0 done ≤ asks_allowed steps placed done
-  asked_at_most =
-      let k = length steps in
+  asked_at_most : (w : List Bool) → sum_at (λ p. length (numbers_at by_place p) + length (numbers_of by_item (get_or placed p []))) 0 w ≤ asks_at steps placed w
+  unfolding waiting
+  asked_at_most w =
       omega (
         arith,
-        sum_at-le (λ p. length (numbers_at by_place p) + length (numbers_of by_item (get_or placed p []))) (λ p. sum_below k (λ n. starting p n + naming p n)) 0 done of_place,
-        sum_at-sum_below k (λ p n. starting p n + naming p n) 0 done,
-        sum_below-le k (λ n. sum_at (λ p. starting p n + naming p n) 0 done) (λ n. step_asks placed done (step_at steps n)) each_step,
-        sum_by-below (step_asks placed done) steps,
+        sum_at-le (λ p. length (numbers_at by_place p) + length (numbers_of by_item (get_or placed p []))) (λ p. sum_below (length steps) (waiting p)) 0 w of_place,
+        sum_at-sum_below (length steps) waiting 0 w,
+        sum_by-below (λ step. sum_at (asks_for placed step) 0 w) steps,
       )
 
 -- the steps that stand with these items
 pub named_of_rows : (joint : Joint) (rows : Rows) → IsWatched (steps_in joint rows) rows.origins rows.by_place rows.by_item
     → (more : List ℕ) → length (numbers_of rows.by_item more) ≤ asks_naming (steps_in joint rows) more
 named_of_rows joint rows watched more =
-    omega (arith, of_items (steps_in joint rows) rows.origins rows.by_place rows.by_item watched [] [] more, sum_by-below (λ step. items_named step more) (steps_in joint rows))
+    omega (arith, of_items (steps_in joint rows) rows.origins rows.by_place rows.by_item watched [] more, sum_by-below (λ step. items_named step more) (steps_in joint rows))
 
 pub asked_of_rows : (joint : Joint) (rows : Rows) → IsWatched (steps_in joint rows) rows.origins rows.by_place rows.by_item
     → (placed : Placed) (done : List Bool) → paid rows placed done ≤ asks_allowed (steps_in joint rows) placed done
-asked_of_rows joint rows watched placed done = asked_at_most (steps_in joint rows) rows.origins rows.by_place rows.by_item watched placed done
+asked_of_rows joint rows watched placed done =
+    omega (arith, asked_at_most (steps_in joint rows) rows.origins rows.by_place rows.by_item watched placed done, at_most_allowed (steps_in joint rows) placed done)
+
+-- what is paid for a list that goes on
+pub asked_more : (joint : Joint) (rows : Rows) → IsWatched (steps_in joint rows) rows.origins rows.by_place rows.by_item
+    → (placed : Placed) (old new : List Bool) → paid rows placed new ≤ paid rows placed old + asks_at (steps_in joint rows) placed (new_in old new)
+asked_more joint rows watched placed old new =
+    omega (
+      arith,
+      sum_at-new (cost_at rows placed) 0 old new,
+      asked_at_most (steps_in joint rows) rows.origins rows.by_place rows.by_item watched placed (new_in old new),
+    )

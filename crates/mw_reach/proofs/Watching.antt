@@ -8,9 +8,9 @@ use Rattle.mw_rules.specs.Names.{is_among, names_item, names_place}
 use Rattle.mw_multi.specs.Placement.{numbers_at}
 use Rattle.mw_multi.specs.Steps.{Step}
 use Rattle.mw_reach.specs.Reach.{one_if, times_in}
-use Rattle.mw_reach.specs.Bound.{names_place_at, names_item_at}
+use Rattle.mw_reach.specs.Bound.{names_place_at, names_item_at, waits_for_place}
 use Rattle.mw_reach.specs.Building.{StartsThere, StartsNowhere, AddsStep}
-use Rattle.mw_reach.specs.Tables.{no_step, step_at, waits_for_place, IsNoted, shifted, but_at}
+use Rattle.mw_reach.specs.Tables.{no_step, step_at, IsNoted, shifted, but_at}
 use Rattle.mw_reach.specs.declared.row.Rows.{Rows}
 use Rattle.mw_reach.proofs.Noting.{nothing_noted, once_shifted}
 

@@ -9,10 +9,10 @@ use Rattle.mw_rules.specs.Names.{is_among}
 use Rattle.mw_rules.proofs.Naming.{hangs_on_names}
 use Rattle.mw_multi.specs.Steps.{Step}
 use Rattle.mw_reach.specs.Reach.{Placed, times_in, bag_with, starts_in, is_open, Closed, IsLeast}
-use Rattle.mw_reach.specs.Bound.{sum_at}
+use Rattle.mw_reach.specs.Bound.{sum_at, is_at}
 use Rattle.mw_reach.specs.Counts.{IsTally, HasRoom, missing}
 use Rattle.mw_multi.specs.Placement.{numbers_at}
-use Rattle.mw_reach.specs.Tables.{no_step, IsWatched, is_at, step_at}
+use Rattle.mw_reach.specs.Tables.{no_step, IsWatched, step_at}
 use Rattle.mw_reach.specs.Worklist.{numbers_of, IsQueued, Wakes, IsGoing, IsWorking, steps_at}
 use Rattle.mw_reach.proofs.Among.{not_among_times, among_numbers_of, away_from_place, away_from_item, names_item_shifted, names_place_shifted}
 use Rattle.mw_reach.proofs.Found.{Adds, Adds-set, Adds-outside, IsPartOf-Adds, found-Adds}

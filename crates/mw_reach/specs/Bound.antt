@@ -1,5 +1,5 @@
 -- How often rules are asked.
-use Rattle.std.specs.Prelude.{ℕ, suc, ◌+◌, ◌-◌, List, [], ◌∷◌, Bool, ◌&&◌, is_some, nat_le, slice_index_or, sum_by, if◌then◌else◌}
+use Rattle.std.specs.Prelude.{ℕ, suc, ◌+◌, ◌-◌, List, [], ◌∷◌, Option, Some, None, Bool, false, not, ◌&&◌, ◌||◌, is_some, nat_eq, nat_le, slice_index_or, sum_by, if◌then◌else◌}
 use Rattle.mw_rules.specs.Names.{names_item, names_place}
 use Rattle.mw_multi.specs.Steps.{Step}
 use Rattle.mw_reach.specs.Reach.{Placed, one_if}
@@ -36,3 +36,27 @@ asks_allowed steps placed w = sum_by (step_asks placed w) steps
 -- once for each of these items that each rule names
 abbrev pub asks_naming : List Step → List ℕ → ℕ
 asks_naming steps items = sum_by (λ step. items_named step items) steps
+
+-- ---- a list that goes on
+
+abbrev pub is_at : Option ℕ → ℕ → Bool
+is_at None p = false
+is_at (Some q) p = nat_eq q p
+
+-- the step starts at the place, or its rule names it
+abbrev pub waits_for_place : Step → ℕ → Bool
+waits_for_place step p = is_at step.from p || names_place_at step p
+
+-- how often the step's rule may be asked for a place: once where it waits for it, and once for each item there that it names
+abbrev pub asks_for : Placed → Step → ℕ → ℕ
+asks_for placed step p = one_if (waits_for_place step p) + items_named step (slice_index_or placed p [])
+
+-- each rule so often for each place of the list
+abbrev pub asks_at : List Step → Placed → List Bool → ℕ
+asks_at steps placed w = sum_by (λ step. sum_at (asks_for placed step) 0 w) steps
+
+-- the places that are in the second list and not in the first
+abbrev pub new_in : List Bool → List Bool → List Bool
+new_in old [] = []
+new_in [] (d ∷ ds) = d ∷ new_in [] ds
+new_in (o ∷ os) (d ∷ ds) = (not o && d) ∷ new_in os ds

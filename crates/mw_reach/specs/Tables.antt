@@ -1,11 +1,11 @@
 -- Which steps a place or an item may open.
-use Rattle.std.specs.Prelude.{ℕ, ◌≡◌, ◌<◌, ◌+◌, ◌||◌, List, Option, Some, None, Bool, true, false, length, map, nat_eq, slice_index_or, if◌then◌else◌}
+use Rattle.std.specs.Prelude.{ℕ, ◌≡◌, ◌<◌, ◌+◌, List, None, true, length, map, nat_eq, slice_index_or, if◌then◌else◌}
 use Rattle.mw_rules.specs.Rule.{never}
 use Rattle.mw_rules.specs.Names.{is_among}
 use Rattle.mw_multi.specs.Placement.{numbers_at}
 use Rattle.mw_multi.specs.Steps.{Step}
 use Rattle.mw_reach.specs.Reach.{one_if, times_in}
-use Rattle.mw_reach.specs.Bound.{names_place_at, names_item_at}
+use Rattle.mw_reach.specs.Bound.{names_item_at, waits_for_place}
 
 -- past the end stands a step that is never open
 abbrev pub no_step : Step
@@ -13,14 +13,6 @@ no_step = record { from = None; to = 0; rule = never; first_place = 0; first_ite
 
 abbrev pub step_at : List Step → ℕ → Step
 step_at steps n = slice_index_or steps n no_step
-
-abbrev pub is_at : Option ℕ → ℕ → Bool
-is_at None p = false
-is_at (Some q) p = nat_eq q p
-
--- the step starts at the place, or its rule names it
-abbrev pub waits_for_place : Step → ℕ → Bool
-waits_for_place step p = is_at step.from p || names_place_at step p
 
 -- each step from nowhere stands among the origins, and each step stands once at each place and at each item that may
 -- open it, and nowhere else

@@ -5,7 +5,7 @@ ghost use Rattle.mw_multi.specs.Joint.{item_total};
 ghost use Rattle.mw_multi.specs.Steps.{steps_of, rule_list};
 ghost use Rattle.mw_reach.specs.Reach as plain;
 ghost use Rattle.mw_reach.specs.Reach.{bag_with, IsLeast};
-ghost use Rattle.mw_reach.specs.Bound.{asks_allowed, asks_naming};
+ghost use Rattle.mw_reach.specs.Bound.{asks_allowed, asks_naming, asks_at, new_in};
 ghost use Rattle.mw_reach.specs.GoingOn.{IsSettled, HasMore, HasRoomFor};
 ghost use Rattle.mw_reach.specs.Reached.{IsBagFor, IsPlacedFor, IsWorkFor, IsMadeFor, HasLeast, KeepsRules, counts_in, flags_in, places_in};
 
@@ -162,7 +162,8 @@ fn make_more<R: Ruling, L: Ledger>(
         → IsSettled (steps_of joint.now) later placed.now into.new.done.items
         into.new.counts.items }
     ensures steps { steps.new ≤ steps.old + asks_naming (steps_of joint.now) more.now
-        + asks_allowed (steps_of joint.now) placed.now into.new.done.items }
+        + asks_at (steps_of joint.now) placed.now
+        (new_in into.old.done.items into.new.done.items) }
 {
     go_on_rows(
         joint,
@@ -179,8 +180,8 @@ fn make_more<R: Ruling, L: Ledger>(
 }
 
 /// Goes on from the least list with these items more, each as often as it stands there: in the base, or at places of the
-/// list in the table, which is the new one. Of these rules only those that name the items, or that what is new may open, are
-/// asked. The asks are counted in `steps`. It takes no memory.
+/// list in the table, which is the new one. Of these rules only those are asked that name the items, or that wait for a place
+/// that is new in the list or name an item there. The asks are counted in `steps`. It takes no memory.
 pub fn go_on_by<R: Ruling, L: Ledger>(
     joint: &Joint,
     rules: &R,
@@ -201,7 +202,7 @@ pub fn go_on_by<R: Ruling, L: Ledger>(
         → HasMore base later before placed.now (places_in into.old) more.now
         → HasLeast joint.now later placed.now into.new }
     ensures steps { steps.new ≤ steps.old + asks_naming (steps_of joint.now) more.now
-        + asks_allowed (steps_of joint.now) placed.now (flags_in into.new) }
+        + asks_at (steps_of joint.now) placed.now (new_in (flags_in into.old) (flags_in into.new)) }
 {
     make_more(joint, rules, more, placed, &mut into.work, steps);
 }
