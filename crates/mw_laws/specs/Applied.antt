@@ -83,13 +83,13 @@ abbrev pub has_items : List Message → Bool
 has_items [] = false
 has_items (m ∷ ms) = list_any is_received_items m.packets || has_items ms
 
--- what a client makes of all that a session is owed that plays a slot, or of any front of it, in any life of any run: it never asks for Sync, and its list is a front of what the session's mask keeps of what its slot received by the journal of each later point
+-- a client that hears what a session is owed that plays a slot, all of it or any front, in any life of any run: it never asks for Sync, and its list is a front of the view, which is what the session's mask keeps of what its slot received, by the journal of each later point
 pub record ClientsApply : Type 0 where
   -- as long as the mask stays as it was connected, from no list on
   pub connected : (seed : Seed) (steps : List Step) (number : ℕ) (s : Session) (m : Member) → session_in (life_after_all seed steps).room.sessions number ≡ Some s → s.member ≡ Some m
       → MaskStays seed steps number m.mask
       → (count : ℕ) (more : List Step) → IsFrontOf (view seed m.mask m.team m.slot (journal_after seed (steps ++ more))) (applied_messages (having []) (take count s.owed))
-  -- and by then, unless it was owed too much, once it heard all its list is all that
+  -- where the session isn't overrun either, who heard all that it was owed has just its view
   pub heard : (seed : Seed) (steps : List Step) (number : ℕ) (s : Session) (m : Member) → session_in (life_after_all seed steps).room.sessions number ≡ Some s → s.member ≡ Some m
       → MaskStays seed steps number m.mask → IsFalse s.overrun
       → (applied_messages (having []) s.owed).list ≡ view seed m.mask m.team m.slot (journal_after seed steps)

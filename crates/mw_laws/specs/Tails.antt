@@ -79,7 +79,7 @@ pub record IsTail (seed : Seed) (steps : List Step) (number : ℕ) (message : Me
 abbrev pub AreTails : Seed → List Step → ℕ → Message → Type 0
 AreTails seed steps number message = (index : ℕ) (items : List NetItem) → Contains message.packets (received_items index items) → IsTail seed steps number message index items
 
--- what any event owes of items that passes, and so each message that a session takes, in any life of any run
+-- the items that an event owes which passes are such tails, and so are those of each message that a session takes, in any life of any run
 pub record TailsOfTheLastView : Type 0 where
   -- to a session that is open before it, and then this member: by the journal of each later point
   pub owed : (seed : Seed) (before more : List Step) (event : Event) (luck : Luck) (number : ℕ) (s : Session) (m : Member) (index : ℕ) (items : List NetItem)
