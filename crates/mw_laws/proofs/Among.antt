@@ -54,7 +54,7 @@ among_contains (d ∷ cs) c h =
 
 -- ---- what is unseen
 
-unseen_each : (P : Check → Type 0) (seen xs : List Check) → Each P xs → Each P (unseen seen xs)
+pub unseen_each : (P : Check → Type 0) (seen xs : List Check) → Each P xs → Each P (unseen seen xs)
 unseen_each P seen [] h = tt
 unseen_each P seen (c ∷ xs) h =
     elim (has_check seen c) as (λ b. Each P (cond b (unseen seen xs) (c ∷ unseen (seen ++ c ∷ []) xs))) [

@@ -69,12 +69,12 @@ module _ (life : Life) (call : Call) (luck : Luck) where
   other_room fails = room_after_call life call luck (λ room. room ≡ life.room) refl (λ h. absurd (fails h))
 
 -- a call records what it makes
-call_journal : (room : Room) (call : Call) → (room_then room call).journal ≡ room.journal ++ records_of room call
+pub call_journal : (room : Room) (call : Call) → (room_then room call).journal ≡ room.journal ++ records_of room call
 call_journal room (happens event) = next_journal room event
 call_journal room commits = sym (append-nil room.journal)
 call_journal room (takes number) = sym (append-nil room.journal)
 
-call_seed : (room : Room) (call : Call) → (room_then room call).seed ≡ room.seed
+pub call_seed : (room : Room) (call : Call) → (room_then room call).seed ≡ room.seed
 call_seed room (happens event) = next_seed room event
 call_seed room commits = refl
 call_seed room (takes number) = refl

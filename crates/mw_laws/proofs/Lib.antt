@@ -11,10 +11,12 @@ mod Journals
 mod Keeping
 mod Lists
 mod Masks
+mod Naming
 mod Numbers
 mod Once
 mod Owing
 mod Pairs
+mod Players
 mod Points
 mod Quiet
 mod Recording

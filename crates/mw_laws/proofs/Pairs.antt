@@ -13,6 +13,10 @@ module _ {X : Type 0} where
   each_at P (x ∷ xs) h zero d lt = h.0
   each_at P (x ∷ xs) h (suc k) d lt = each_at P xs h.1 k d (omega arith)
 
+  pub each_of : (P : X → Type 0) (xs : List X) → All P xs → Each P xs
+  each_of P [] h = tt
+  each_of P (x ∷ xs) h = (h zero x (omega arith), each_of P xs (λ k d lt. h (suc k) d (omega arith)))
+
   pub pairs_at : (R : X → X → Type 0) (xs : List X) → Pairs R xs → AllPairs R xs
   pairs_at R [] h i j d lt short = absurd (omega arith)
   pairs_at R (x ∷ xs) h zero zero d lt short = absurd (omega arith)

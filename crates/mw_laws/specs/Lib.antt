@@ -5,6 +5,7 @@ pub mod Hinted
 pub mod Items
 pub mod Journals
 pub mod Kept
+pub mod Naming
 pub mod Shows
 pub mod Silence
 pub mod Stored

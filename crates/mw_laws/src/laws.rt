@@ -6,6 +6,7 @@ ghost use Rattle.mw_laws.specs.Hinted.{HintsStand, HintsCostOnce, SlotsNeverOwe}
 ghost use Rattle.mw_laws.specs.Items.{ItemsComeOnce};
 ghost use Rattle.mw_laws.specs.Journals.{JournalsGrow};
 ghost use Rattle.mw_laws.specs.Kept.{LivesKeep};
+ghost use Rattle.mw_laws.specs.Naming.{JournalsAreNamed};
 ghost use Rattle.mw_laws.specs.Shows.{ShownIsChecked};
 ghost use Rattle.mw_laws.specs.Silence.{NoTextIsTold};
 ghost use Rattle.mw_laws.specs.Stored.{GetsAreAnswered, KeysStay, RefusedSetsChangeNothing};
@@ -176,4 +177,12 @@ pub fn clients_apply()
 /// found, and those of found hints that a Get is answered.
 pub fn shown_is_checked()
     ensures { ShownIsChecked }
+{}
+
+/// Whatever calls and crashes come, the records of the journal, those at risk and those that a crash
+/// leaves name only teams, slots and locations that the seed has, where no slot has more names than
+/// there are teams, and each location is one of a slot that is there. So a room that takes only such
+/// records can be made anew from what a crash left of any life.
+pub fn journals_are_named()
+    ensures { JournalsAreNamed }
 {}
