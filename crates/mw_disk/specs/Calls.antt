@@ -1,7 +1,7 @@
 -- What a record of calls says of a disk in memory.
-use Rattle.std.specs.Prelude.{◌≡◌, ℕ, ◌≤◌, List, [], ◌∷◌, length, take, count_by, Bool, true, false, Result, Err, is_ok, if◌then◌else◌}
+use Rattle.std.specs.Prelude.{◌≡◌, ◌⊎◌, ℕ, ◌≤◌, List, [], ◌∷◌, ◌++◌, length, take, count_by, Bool, true, false, Result, Ok, Err, is_ok, IsErrOf, ◌==◌, if◌then◌else◌}
 use Rattle.mw_disk.specs.declared.disk.DiskError.{DiskError}
-use Rattle.mw_disk.specs.declared.disk.DiskError.TheVariants.{Failed}
+use Rattle.mw_disk.specs.declared.disk.DiskError.TheVariants.{Failed, Memory as OutOfMemory}
 use Rattle.mw_disk.specs.declared.calls.DiskCall.{DiskCall}
 use Rattle.mw_disk.specs.declared.calls.DiskCall.TheVariants.{Read, Write, Cut, Sync}
 use Rattle.mw_disk.specs.declared.calls.MadeCall.{MadeCall}
@@ -67,3 +67,26 @@ is_fault made = is_failed made.answer
 -- how many calls were
 abbrev pub fault_count : List MadeCall → ℕ
 fault_count calls = count_by is_fault calls
+
+-- the answer that is planned for the call of a number: the first one listed, or Ok
+abbrev pub planned_answer : List (ℕ × DiskError) → ℕ → Result Unit DiskError
+planned_answer [] number = Ok tt
+planned_answer (plan ∷ failing) number =
+    if plan.0 == number then Err plan.1 else planned_answer failing number
+
+-- a call answers as planned: the planned error, or else not that the disk failed
+abbrev pub AnswersPlan : {T : Type 0} → Result Unit DiskError → Result T DiskError → Type 0
+AnswersPlan (Err error) answer = IsErrOf answer error
+AnswersPlan (Ok done) answer = IsErrOf answer Failed → ⊥
+
+-- a call was noted as the last of a record, with its answer; or memory to note it was wanting, and
+-- the record is as before
+abbrev pub IsNoted : List MadeCall → List MadeCall → DiskCall → Result Unit DiskError → Type 0
+IsNoted before after call answer =
+    (after ≡ before ++ record { call = call; answer = answer } ∷ [])
+    ⊎ ((after ≡ before) × IsErrOf answer OutOfMemory)
+
+-- the answer of a read, but for how many bytes it gave
+abbrev pub read_answer : Result ℕ DiskError → Result Unit DiskError
+read_answer (Ok count) = Ok tt
+read_answer (Err error) = Err error

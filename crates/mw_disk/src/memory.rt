@@ -1,6 +1,6 @@
-ghost use Rattle.std.specs.Prelude.{◌≡◌, ◌≢◌, is_some, ◌+◌, ◌<◌, ◌≤◌, ◌++◌, ◌∷◌, [], Some, IfOk, OnOk, OnErr, length, min, take, drop, ◌-◌, replicate, vec_len, vec_capacity, is_ok, IsErrOf, IsTrue, ◌↔◌, if◌then◌else◌};
+ghost use Rattle.std.specs.Prelude.{◌≡◌, ◌≢◌, ◌⊎◌, is_some, ◌+◌, ◌<◌, ◌≤◌, ◌++◌, ◌∷◌, [], Some, IfOk, OnOk, OnErr, length, min, take, drop, ◌-◌, replicate, vec_len, vec_capacity, is_ok, IsErrOf, IsTrue, ◌↔◌, if◌then◌else◌};
 ghost use Rattle.mw_disk.specs.Calls.{bytes_of, IsImage};
-ghost use Rattle.mw_disk.specs.Calls.{IsImageSince, fault_count, is_failed as answered_failed};
+ghost use Rattle.mw_disk.specs.Calls.{IsImageSince, fault_count, is_failed as answered_failed, planned_answer, AnswersPlan, IsNoted, read_answer};
 ghost use Rattle.mw_disk.specs.Causes.{HasCause};
 ghost use Rattle.mw_disk.specs.Crash.{Torn, CutShort, Follows, Stays, OnlyTold, Elapses};
 ghost use Rattle.mw_disk.specs.Range.{GivesRange, written};
@@ -101,9 +101,9 @@ fn note(calls: &mut Vec<MadeCall>, call: DiskCall, answer: Result<(), DiskError>
     calls.push(MadeCall { call, answer }).unwrap();
 }
 
-/// The answer that is planned for the next call, or Ok.
+/// The answer that is planned for the call of a number, or Ok.
 fn planned(failing: &[(u64, DiskError)], number: usize) -> Result<(), DiskError>
-    ensures { failing.now ≡ [] → result ≢ Err DiskError.Failed }
+    ensures { result ≡ planned_answer failing.now number }
 {
     for plan in failing {
         if plan.0 == number as u64 {
@@ -123,6 +123,7 @@ fn write_planned(
     ensures bytes { bytes.new.items
         ≡ (if is_ok result then written at put.now bytes.old.items else bytes.old.items) }
     ensures failed { result ≡ Err DiskError.Failed → plan ≡ Err DiskError.Failed }
+    ensures planned { AnswersPlan plan result }
 {
     match plan {
         Ok(()) => match put_range(bytes, at as usize, put) {
@@ -152,6 +153,8 @@ fn read_planned(
     ensures bound { IfOk result (λ count. count ≤ length into.old) }
     ensures bytes { IfOk result (λ count. GivesRange (Some bytes.now) at count into.new) }
     ensures failed { IsErrOf result DiskError.Failed → plan ≡ Err DiskError.Failed }
+    ensures planned { AnswersPlan plan result }
+    ensures answer { plan ≡ read_answer result }
 {
     match plan {
         Ok(()) => Ok(get_range(bytes, at, into)),
@@ -280,6 +283,10 @@ impl Disk for MemDisk {
         ensures cause { HasCause (fault_count self.old.calls) (fault_count self.new.calls) result }
         ensures plan { self.new.failing ≡ self.old.failing }
         ensures steady { self.old.failing ≡ [] → result ≢ Err DiskError.Failed }
+        ensures planned { IsErrOf result DiskError.Memory
+            ⊎ AnswersPlan (planned_answer self.old.failing (length self.old.calls)) result }
+        ensures noted { IsNoted self.old.calls self.new.calls (DiskCall.Read at (length into.old))
+            (read_answer result) }
     {
         if self.calls.reserve(1).is_err() {
             return Err(DiskError::Memory);
@@ -305,6 +312,9 @@ impl Disk for MemDisk {
         ensures cause { HasCause (fault_count self.old.calls) (fault_count self.new.calls) result }
         ensures plan { self.new.failing ≡ self.old.failing }
         ensures steady { self.old.failing ≡ [] → result ≢ Err DiskError.Failed }
+        ensures planned { IsErrOf result DiskError.Memory
+            ⊎ AnswersPlan (planned_answer self.old.failing (length self.old.calls)) result }
+        ensures noted { IsNoted self.old.calls self.new.calls (DiskCall.Write at bytes.now) result }
     {
         let Ok(copy) = prepare(self.alloc, &mut self.calls, bytes) else {
             return Err(DiskError::Memory);
@@ -329,6 +339,9 @@ impl Disk for MemDisk {
         ensures cause { HasCause (fault_count self.old.calls) (fault_count self.new.calls) result }
         ensures plan { self.new.failing ≡ self.old.failing }
         ensures steady { self.old.failing ≡ [] → result ≢ Err DiskError.Failed }
+        ensures planned { IsErrOf result DiskError.Memory
+            ⊎ AnswersPlan (planned_answer self.old.failing (length self.old.calls)) result }
+        ensures noted { IsNoted self.old.calls self.new.calls (DiskCall.Cut len) result }
     {
         if self.calls.reserve(1).is_err() {
             return Err(DiskError::Memory);
@@ -353,6 +366,9 @@ impl Disk for MemDisk {
         ensures cause { HasCause (fault_count self.old.calls) (fault_count self.new.calls) result }
         ensures plan { self.new.failing ≡ self.old.failing }
         ensures steady { self.old.failing ≡ [] → result ≢ Err DiskError.Failed }
+        ensures planned { IsErrOf result DiskError.Memory
+            ⊎ AnswersPlan (planned_answer self.old.failing (length self.old.calls)) result }
+        ensures noted { IsNoted self.old.calls self.new.calls DiskCall.Sync result }
     {
         if self.calls.reserve(1).is_err() {
             return Err(DiskError::Memory);
