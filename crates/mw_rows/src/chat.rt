@@ -1,4 +1,3 @@
-use crate::room_a::ROOM_A;
 use mw_base::{ItemId, LocId, Memory, NetItem, SlotId, TeamId, Text};
 use mw_chat::{
     Said, changed_tags, chatted, checked_text, collected, command_result, help_text, hint_print,
@@ -10,6 +9,7 @@ use mw_checks::CheckLog;
 use mw_json::{Tree, can_write, compact};
 use mw_multidata::{RoomTables, read};
 use mw_packets_out::{ServerPacket, packet_text};
+use mw_room_a::ROOM_A;
 use std::alloc::Global;
 use std::test::Fail;
 

@@ -1,7 +1,7 @@
-use crate::room_a::ROOM_A;
 use mw_base::{LocId, NetItem, SlotId, TeamId};
 use mw_checks::CheckLog;
 use mw_multidata::{RoomTables, read};
+use mw_room_a::ROOM_A;
 use std::test::Fail;
 
 #[test]

@@ -1,8 +1,8 @@
-use crate::room_a::ROOM_A;
 use mw_base::{HintRecord, HintStatus, ItemId, LocId, SlotId, TeamId, Text};
 use mw_checks::CheckLog;
 use mw_hints::{Hint, HintAnswer, HintBook, Wanted, cost};
 use mw_multidata::{RoomTables, read};
+use mw_room_a::ROOM_A;
 use std::alloc::Global;
 use std::test::Fail;
 

@@ -1,4 +1,5 @@
-//! Tests alone: the worked rows of the crates below the program, and what no clause says of them.
+//! Tests alone: the worked rows of the crates below the program, and what no clause says of
+//! them; those of the room stand in mw_room_rows.
 #![tactic(auto)]
 
 #[cfg(test)]
@@ -35,10 +36,6 @@ mod native;
 mod reaching;
 #[cfg(test)]
 mod records;
-#[cfg(test)]
-mod room_a;
-#[cfg(test)]
-mod rooms;
 #[cfg(test)]
 mod rules;
 #[cfg(test)]

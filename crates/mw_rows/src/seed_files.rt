@@ -1,6 +1,6 @@
-use crate::room_a::ROOM_A;
 use mw_json::{kind_word, path_words};
 use mw_multidata::{DataRefusal, RoomTables, read, write};
+use mw_room_a::ROOM_A;
 use std::alloc::Global;
 use std::test::Fail;
 

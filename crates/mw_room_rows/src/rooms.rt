@@ -1,9 +1,9 @@
-use crate::client_packets::packets_in;
-use crate::room_a::ROOM_A;
+use crate::messages::last_of;
 use mw_base::SessionId;
 use mw_multidata::{RoomTables, read};
 use mw_packets_in::Inbound;
 use mw_room::{Event, Room, SessionState};
+use mw_room_a::ROOM_A;
 use std::alloc::Global;
 use std::test::Fail;
 
@@ -29,8 +29,7 @@ fn open(room: &mut Room) -> Result<usize, Fail> {
 
 /// The event of a message's last element.
 fn event_of(alloc: Global, session: SessionId, message: &str) -> Result<Event, Fail> {
-    let mut found = packets_in(alloc, message)?.into_vec();
-    match found.pop().ok_or("no element")? {
+    match last_of(alloc, message)? {
         Inbound::Good(packet) => Ok(Event::Packet { session, packet }),
         Inbound::Wrong(bad) => Ok(Event::Bad { session, bad }),
     }
