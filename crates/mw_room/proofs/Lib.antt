@@ -12,6 +12,8 @@ mod Messages
 mod Numbers
 mod Places
 mod Planning
+mod ReadOnce
+mod Replayed
 mod Sets
 mod Slots
 mod Sparse

@@ -9,6 +9,8 @@ pub mod Known
 pub mod News
 pub mod Parts
 pub mod Playable
+pub mod Reading
+pub mod Replayed
 pub mod Stands
 pub mod States
 pub mod Storing

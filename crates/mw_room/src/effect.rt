@@ -57,10 +57,10 @@ pub struct NewValue {
 
 impl Model for NewValue {
     ghost use Rattle.std.specs.Coded.{codes};
-    ghost use Rattle.mw_model.specs.Passed.{IsPassed};
     ghost use Rattle.mw_protocol.specs.Storage as plain;
     ghost use Rattle.mw_json.specs.TreeCode.{coded_json};
     ghost use Rattle.mw_json.specs.View.{view as tree_view};
+    ghost use Rattle.mw_storage.specs.Stored.{IsKeepable};
 
     ghost Value = { plain.Kept };
 
@@ -68,7 +68,7 @@ impl Model for NewValue {
 
     ghost view = { λ n. record { key = n.key; value = tree_view n.value } };
 
-    ghost invariant = { λ n. IsPassed (tree_view n.value) };
+    ghost invariant = { λ n. IsKeepable (tree_view n.value) };
 }
 
 /// What an event does: what it records; what this comes to, all in one team: checks, a status,

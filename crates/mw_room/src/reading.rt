@@ -1,11 +1,13 @@
 ghost use Rattle.std.specs.Prelude.{◌≡◌, IfOk, Some, bytes_eq, decimal, map};
 ghost use Rattle.mw_model.specs.Json.{IsWritable, many, members, no_members, null};
 ghost use Rattle.mw_model.specs.Trees.{items_of};
+ghost use Rattle.mw_protocol.specs.Operations.{set_member as set_member_lem};
 ghost use Rattle.mw_protocol.specs.Reading.{hint_json, hints_of as hints_of_lem, numbered as numbered_lem, or_null, player_at as player_at_lem, player_with, private_value as private_value_lem, read_value as read_value_lem, reading as reading_lem, status_of as status_of_lem, with_values};
 ghost use Rattle.mw_protocol.specs.Storage.{value_of};
 ghost use Rattle.mw_json.specs.View.{view, members_view};
 ghost use Rattle.mw_packets_out.specs.Kept.{IsSound};
 ghost use Rattle.mw_room.specs.Parts.{IsQuiet, standing_of};
+ghost use Rattle.mw_room.specs.Reading.{AreRead};
 ghost use Rattle.mw_room.specs.Views.{effect_view};
 
 use crate::connect::{Player, slot_at};
@@ -14,7 +16,7 @@ use crate::standing::Standing;
 use mw_base::{List, Memory, SlotId, TeamId, Text};
 use mw_hints::Hint;
 use mw_json::{
-    Member as Field, Tree, copy, id_tree, number_tree, push_tree, put, put_number, put_words,
+    Member as Field, Tree, copy, find, id_tree, number_tree, push_tree, put, put_number, put_words,
 };
 use mw_multidata::Multidata;
 use mw_packets_in::Get;
@@ -190,6 +192,32 @@ fn read_value(alloc: Global, standing: &Standing, key: &Text) -> Result<Tree, Me
     kept_value(alloc, &standing.store, key)
 }
 
+/// Values with that of a key more, which isn't read anew where it is among them.
+fn with_value(
+    alloc: Global,
+    standing: &Standing,
+    values: List<Field>,
+    key: &Text,
+) -> Result<List<Field>, Memory>
+    requires read { AreRead (read_value_lem standing.now.log.seed (standing_of standing.now))
+        (members_view values) }
+    requires sound { IsSound (members (members_view values)) }
+    ensures value { IfOk result (λ ms. members_view ms ≡ set_member_lem key.now
+        (read_value_lem standing.now.log.seed (standing_of standing.now) key.now)
+        (members_view values)) }
+    ensures read { IfOk result (λ ms. AreRead
+        (read_value_lem standing.now.log.seed (standing_of standing.now)) (members_view ms)) }
+    ensures sound { IfOk result (λ ms. IsSound (members (members_view ms))) }
+{
+    if find(values.as_slice(), key.as_str()).is_some() {
+        return Ok(values);
+    }
+    let value = read_value(alloc, standing, key)?;
+    let name = Text::of(alloc, key.as_str())?;
+    let values = set_member(values, name, value)?;
+    Ok(values)
+}
+
 /// Each key with its value, in byte order.
 fn values_of(alloc: Global, standing: &Standing, keys: &[Text]) -> Result<List<Field>, Memory>
     ensures value { IfOk result (λ ms. members_view ms ≡ with_values standing.now.log.seed
@@ -198,9 +226,7 @@ fn values_of(alloc: Global, standing: &Standing, keys: &[Text]) -> Result<List<F
 {
     let mut values = List::new(alloc);
     for key in keys {
-        let value = read_value(alloc, standing, key)?;
-        let name = Text::of(alloc, key.as_str())?;
-        values = set_member(values, name, value)?;
+        values = with_value(alloc, standing, values, key)?;
     }
     Ok(values)
 }

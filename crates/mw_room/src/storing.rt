@@ -1,5 +1,4 @@
 ghost use Rattle.std.specs.Prelude.{◌≡◌, IfOk, Ok, map};
-ghost use Rattle.mw_model.specs.Passed.{IsPassed};
 ghost use Rattle.mw_model.specs.Texts.{has_text};
 ghost use Rattle.mw_protocol.specs.Effect.{answering as answering_lem, recording as recording_lem};
 ghost use Rattle.mw_protocol.specs.Further.{others};
@@ -9,7 +8,7 @@ ghost use Rattle.mw_protocol.specs.Storing.{changing as changing_lem, is_kept as
 ghost use Rattle.mw_json.specs.View.{view, member_view, members_view};
 ghost use Rattle.mw_records.specs.Records.{record_view};
 ghost use Rattle.mw_storage.specs.Refusals.{changed_view};
-ghost use Rattle.mw_storage.specs.Stored.{HasRoom};
+ghost use Rattle.mw_storage.specs.Stored.{HasRoom, IsKeepable};
 ghost use Rattle.mw_room.specs.Parts.{IsQuiet, kept_by, keys_in as keys_in_lem, standing_of};
 ghost use Rattle.mw_room.specs.Storing.{told_of, stored_where, records_where, set_bad, IsKeeping, IsRefusal};
 ghost use Rattle.mw_room.specs.Views.{announced_view, effect_view, IsEffect};
@@ -99,7 +98,7 @@ fn records_of(
     key: &Text,
     value: &Tree,
 ) -> Result<List<Record>, Memory>
-    requires { IsPassed (view value.now) }
+    requires { IsKeepable (view value.now) }
     ensures { IfOk result (λ rs. map record_view rs
         ≡ records_where is_kept key.now (view value.now)) }
 {
@@ -120,7 +119,7 @@ fn stored_of(
     key: &Text,
     value: &Tree,
 ) -> Result<Option<NewValue>, Memory>
-    requires { IsPassed (view value.now) }
+    requires { IsKeepable (view value.now) }
     ensures { IfOk result (λ o. o ≡ stored_where is_kept key.now (view value.now)) }
 {
     if is_kept {
@@ -171,7 +170,7 @@ fn reply_to(
     set: &SetPacket,
     changed: Changed,
 ) -> Result<SetReply, Memory>
-    requires { IsPassed (view changed.old) × IsPassed (view changed.new) }
+    requires { IsKeepable (view changed.old) × IsKeepable (view changed.new) }
     ensures { IfOk result (λ r. r ≡ reply_to_lem member.now set.now (changed_view changed)) }
 {
     let Changed { old, new } = changed;
@@ -192,7 +191,7 @@ fn told(
     set: &SetPacket,
     changed: Changed,
 ) -> Result<List<Announced>, Memory>
-    requires { IsPassed (view changed.old) × IsPassed (view changed.new) }
+    requires { IsKeepable (view changed.old) × IsKeepable (view changed.new) }
     ensures { IfOk result (λ ps. map announced_view ps
         ≡ told_of member.now set.now (changed_view changed)) }
 {
@@ -242,7 +241,7 @@ fn changed(
     changed: Changed,
 ) -> Result<Effect, Memory>
     requires case { set_case standing.now.store.kept set.now ≡ Ok (changed_view changed) }
-    requires passed { IsPassed (view changed.old) × IsPassed (view changed.new) }
+    requires passed { IsKeepable (view changed.old) × IsKeepable (view changed.new) }
     ensures { IfOk result (λ e. IsEffect e standing.now
         (changing_lem (standing_of standing.now) member.now set.now)) }
 {

@@ -5,10 +5,9 @@ use denote.Ref.{Bor}
 use Rattle.mw_json.specs.View.{view}
 use Rattle.mw_json.specs.declared.tree.Tree.{Tree}
 use Rattle.mw_model.specs.Json.{Json}
-use Rattle.mw_model.specs.Passed.{IsPassed}
 use Rattle.mw_model.specs.Spelling.{spelling}
 use Rattle.mw_protocol.specs.Storage.{Kept, put, value_of, bytes_kept}
-use Rattle.mw_storage.specs.Stored.{AreKept}
+use Rattle.mw_storage.specs.Stored.{AreKept, IsKeepable}
 
 -- where the key stands, its value gives way
 pub counted_there : (key : List ℕ) (old new : Json) (kept : List Kept) → value_of key kept ≡ Some old
@@ -56,15 +55,15 @@ keys_new key new (k ∷ ks) h = by (bytes_eq key k.key) (keys_new key new ks) h
     by false rest h = omega (arith, rest h)
 
 -- what holds of each value that is kept holds of a key's, and of all with a new one
-pub value_kept : (key : List ℕ) (kept : List Kept) → AreKept kept → IfSome (value_of key kept) IsPassed
+pub value_kept : (key : List ℕ) (kept : List Kept) → AreKept kept → IfSome (value_of key kept) IsKeepable
 value_kept key [] h = tt
 value_kept key (k ∷ ks) h = by (bytes_eq key k.key) (value_kept key ks h.1)
   where
-    by : (b : Bool) → IfSome (value_of key ks) IsPassed → IfSome (if b then Some k.value else value_of key ks) IsPassed
+    by : (b : Bool) → IfSome (value_of key ks) IsKeepable → IfSome (if b then Some k.value else value_of key ks) IsKeepable
     by true rest = h.0
     by false rest = rest
 
-pub put_kept : (key : List ℕ) (new : Json) (kept : List Kept) → IsPassed new → AreKept kept → AreKept (put key new kept)
+pub put_kept : (key : List ℕ) (new : Json) (kept : List Kept) → IsKeepable new → AreKept kept → AreKept (put key new kept)
 put_kept key new [] n h = (n, tt)
 put_kept key new (k ∷ ks) n h = by (bytes_eq key k.key) (put_kept key new ks n h.1)
   where
@@ -72,6 +71,6 @@ put_kept key new (k ∷ ks) n h = by (bytes_eq key k.key) (put_kept key new ks n
     by true rest = (n, h.1)
     by false rest = (h.0, rest)
 
-pub found_kept : (found : Option (Bor Tree)) (value : Option Json) → option_map (λ t. view t.now) found ≡ value → IfSome value IsPassed → IfSome found (λ t. IsPassed (view t.now))
+pub found_kept : (found : Option (Bor Tree)) (value : Option Json) → option_map (λ t. view t.now) found ≡ value → IfSome value IsKeepable → IfSome found (λ t. IsKeepable (view t.now))
 found_kept None value e h = tt
-found_kept (Some t) value e h = subst (λ v. IfSome v IsPassed) (sym e) h
+found_kept (Some t) value e h = subst (λ v. IfSome v IsKeepable) (sym e) h

@@ -10,10 +10,12 @@ use Rattle.std.proofs.lemmas.Grind.{common_steps}
 use Rattle.mw_model.specs.Json.{Json, whole, words, many, members, Items, no_items, item, Members, no_members, member, ComeAfter, IsInRange, IsWritable, IsOrdered, ItemsAreWritable, ItemsAreOrdered, MembersAreWritable, MembersAreOrdered}
 use Rattle.mw_model.specs.Passed.{IsPassed}
 use Rattle.mw_model.specs.Sets.{Operation, SetPacket}
+use Rattle.mw_json.specs.Reading.{max_depth}
 use Rattle.mw_json.specs.Sets.{IsOperation}
 use Rattle.std.proofs.lemmas.List.Elements.{All-head, All-tail}
 use Rattle.mw_protocol.specs.Operations.{Fault, is_number, number_in, in_range, shifted_left, shifted_right, floor_quotient, modulo, remainder, of_bits, of_numbers, of_both, itself, append_items, place_from, without_at, without_place, lacking, without_index, without_member, set_member, set_members, joined, added, removed, popped_index, popped_name, popped, updated_list, updated_object, updated, operated}
 use Rattle.mw_protocol.specs.Storage.{Kept, private_key, refused_at, run_from, ◌then◌, put, value_or, before, is_private, within_limits, kept_after, set_case}
+use Rattle.mw_storage.specs.Stored.{IsKeepable}
 use Rattle.mw_storage.proofs.Shallow.{new_shallow}
 
 -- it can be written, and its objects are in order
@@ -235,15 +237,19 @@ operands (o ∷ os) h =
     let passed : IsPassed o.value = All-head IsOperation o os h in
     (record { writable = passed.writable; ordered = passed.ordered }, operands os (All-tail IsOperation o os h))
 
-pub new_kept : (os : List Operation) (start new : Json) → All IsOperation os → IsPassed start → run_from 0 os start ≡ Ok new → IsPassed new
+pub new_kept : (os : List Operation) (start new : Json) → All IsOperation os → IsKeepable start → run_from 0 os start ≡ Ok new → IsKeepable new
 new_kept os start new h s e =
     let begun : IsKept start = record { writable = s.writable; ordered = s.ordered } in
     let kept : IsKept new = subst (λ made. IfOk made IsKept) e (run_kept 0 os start (operands os h) begun) in
-    record { writable = kept.writable; ordered = kept.ordered; shallow = new_shallow 62 os start new (omega arith) h s.shallow e }
+    record { writable = kept.writable; ordered = kept.ordered; shallow = new_shallow max_depth os start new (omega arith) h s.shallow e }
 
-pub first_kept : (fallback : Json) (found : Option Json) → IsPassed fallback → IfSome found IsPassed → IsPassed (value_or fallback found)
+-- what passes through a room can be kept
+passed_kept : (j : Json) → IsPassed j → IsKeepable j
+passed_kept j h = record { writable = h.writable; ordered = h.ordered; shallow = omega (arith, h.shallow) }
+
+pub first_kept : (fallback : Json) (found : Option Json) → IsPassed fallback → IfSome found IsKeepable → IsKeepable (value_or fallback found)
 first_kept fallback (Some j) p h = h
-first_kept fallback None p h = p
+first_kept fallback None p h = passed_kept fallback p
 
 pub case_of : (kept : List Kept) (set : SetPacket) (old new : Json) → is_private set.key ≡ false → before kept set ≡ old → run_from 0 set.operations old ≡ Ok new
     → set_case kept set ≡ within_limits (put set.key new kept) record { old = old; new = new }

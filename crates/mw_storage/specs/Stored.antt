@@ -2,7 +2,8 @@
 use Rattle.std.specs.Prelude.{◌≡◌, ◌≤◌, ◌+◌, ℕ, List, [], ◌∷◌, Option, String, string_bytes, IfSome, MatchOption, length}
 use Rattle.std.specs.declared.alloc.Global.{Global}
 use Rattle.indexmap.specs.IndexMap.{IsEmpty, spare}
-use Rattle.mw_model.specs.Passed.{IsPassed}
+use Rattle.mw_model.specs.Json.{Json, depth, IsWritable, IsOrdered}
+use Rattle.mw_json.specs.Reading.{max_depth}
 use Rattle.mw_json.specs.View.{view}
 use Rattle.mw_json.specs.declared.tree.Tree.{Tree}
 use Rattle.mw_protocol.specs.Storage.{Kept, bytes_kept}
@@ -16,10 +17,16 @@ pub record Stored : Type 0 where
 abbrev pub entry_view : String Global × Tree → Kept
 entry_view e = record { key = string_bytes e.0; value = view e.1 }
 
--- each value can be written, with objects in order, and nests at most 62 deep
+-- it can be written, with objects in order, and nests no deeper than what is read
+pub record IsKeepable (j : Json) : Type 0 where
+  pub writable : IsWritable j
+  pub ordered : IsOrdered j
+  pub shallow : depth j ≤ max_depth
+
+-- each value can be kept
 abbrev pub AreKept : List Kept → Type 0
 AreKept [] = Unit {0}
-AreKept (k ∷ ks) = IsPassed k.value × AreKept ks
+AreKept (k ∷ ks) = IsKeepable k.value × AreKept ks
 
 -- the count, where a u64 has it, is of what is kept
 pub record IsStore (kept : List Kept) (bytes : Option ℕ) : Type 0 where

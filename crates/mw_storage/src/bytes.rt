@@ -1,8 +1,8 @@
 ghost use Rattle.std.specs.Prelude.{◌≡◌, ◌<◌, ◌^◌, ℕ, List, length, IfSome, option_map};
 ghost use Rattle.mw_model.specs.Json.{Json, IsWritable};
-ghost use Rattle.mw_model.specs.Passed.{IsPassed};
 ghost use Rattle.mw_json.specs.View.{view};
 ghost use Rattle.mw_protocol.specs.Storage.{Kept, put, value_of, bytes_kept};
+ghost use Rattle.mw_storage.specs.Stored.{IsKeepable};
 
 use crate::size::text_size;
 use mw_json::Tree;
@@ -16,7 +16,7 @@ pub(crate) fn bytes_after(
     key: &str,
     value: &Tree,
 ) -> Option<u64>
-    requires old { IfSome old (λ t. IsPassed (view t.now)) }
+    requires old { IfSome old (λ t. IsKeepable (view t.now)) }
     requires value { IsWritable (view value.now) }
     ensures { (kept : List Kept) → IfSome bytes (λ n. n ≡ bytes_kept kept)
         → option_map (λ t. view t.now) old.entry ≡ value_of key.now kept

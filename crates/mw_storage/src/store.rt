@@ -1,10 +1,10 @@
 ghost use Rattle.std.specs.Prelude.{◌≡◌, ◌≤◌, [], IfOk, IfSome, OnOk, OnErr, option_map};
 ghost use Rattle.mw_model.specs.Json.{depth, IsWritable, IsOrdered};
-ghost use Rattle.mw_model.specs.Passed.{IsPassed};
+ghost use Rattle.mw_json.specs.Reading.{max_depth};
 ghost use Rattle.mw_json.specs.View.{view};
 ghost use Rattle.mw_protocol.specs.Storage.{put, value_of, set_case};
 ghost use Rattle.mw_storage.specs.Refusals.{GivesBy, changed_view};
-ghost use Rattle.mw_storage.specs.Stored.{HasRoom};
+ghost use Rattle.mw_storage.specs.Stored.{HasRoom, IsKeepable};
 
 use crate::apply::{Changed, first_value, is_private, within_limits};
 use crate::bytes::{bytes_after, keys_after};
@@ -57,7 +57,7 @@ impl Store {
     /// The value of a key; None exactly where the key isn't kept. It takes no memory.
     pub fn get(&self, key: &Text) -> Option<&Tree>
         ensures value { option_map (λ t. view t.now) result ≡ value_of key.now self.now.kept }
-        ensures kept { IfSome result (λ t. IsPassed (view t.now)) }
+        ensures kept { IfSome result (λ t. IsKeepable (view t.now)) }
     {
         find(&self.kept, key.as_str())
     }
@@ -74,7 +74,7 @@ impl Store {
         requires room { HasRoom self.old growth 1 }
         requires writable { IsWritable (view value) }
         requires ordered { IsOrdered (view value) }
-        requires shallow { depth (view value) ≤ 62 }
+        requires shallow { depth (view value) ≤ max_depth }
         ensures { self.new.kept ≡ put key (view value) self.old.kept }
     {
         let name = key.as_str();
@@ -88,7 +88,7 @@ impl Store {
     pub fn put(&mut self, key: &Text, value: Tree) -> Result<(), Memory>
         requires writable { IsWritable (view value) }
         requires ordered { IsOrdered (view value) }
-        requires shallow { depth (view value) ≤ 62 }
+        requires shallow { depth (view value) ≤ max_depth }
         ensures ok { OnOk result (self.new.kept ≡ put key.now (view value) self.old.kept) }
         ensures err { OnErr result (self.new ≡ self.old) }
     {
@@ -104,7 +104,7 @@ impl Store {
     /// The operations are those of Archipelago's network protocol for data storage, but `pow`.
     pub fn apply(&self, set: &SetPacket) -> Result<Changed, StoreRefusal>
         ensures answer { GivesBy changed_view result (set_case self.now.kept set.now) }
-        ensures kept { IfOk result (λ c. IsPassed (view c.old) × IsPassed (view c.new)) }
+        ensures kept { IfOk result (λ c. IsKeepable (view c.old) × IsKeepable (view c.new)) }
     {
         let key = set.key.as_str();
         if is_private(key) {

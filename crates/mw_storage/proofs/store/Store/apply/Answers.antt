@@ -5,10 +5,9 @@ use Rattle.mw_json.specs.View.{view, members_view}
 use Rattle.mw_model.specs.Sets.{SetPacket}
 use Rattle.std.proofs.lemmas.Result.{IfOk-weaker}
 use Rattle.mw_model.specs.Json.{Json}
-use Rattle.mw_model.specs.Passed.{IsPassed}
 use Rattle.mw_protocol.specs.Storage.{Kept, put, value_of, value_or, before, is_private, run_from, within_limits, set_case}
 use Rattle.mw_storage.specs.Refusals.{GivesBy, changed_view}
-use Rattle.mw_storage.specs.Stored.{entry_view}
+use Rattle.mw_storage.specs.Stored.{entry_view, IsKeepable}
 use Rattle.mw_storage.specs.declared.apply.Changed.{Changed}
 use Rattle.mw_storage.proofs.Counting.{value_kept, found_kept}
 use Rattle.mw_storage.proofs.Keeping.{new_kept, first_kept, case_of}
@@ -29,7 +28,7 @@ bytes_after-bytes-requires-clause-value c =
     let start : Json = view c.in_ok-start.start in
     let is : start ≡ value_or fallback (value_of key kept) = c.in_ok-start.ensures ∙ c.in_ok-old.ensures ∙ ap (value_or fallback) c.find-found.ensures in
     let ran : run_from 0 set.operations start ≡ Ok (view c.in_ok-new.new) = ap (λ os. run_from 0 os start) (sym c.as_slice.ensures) ∙ c.in_ok-new.ensures in
-    let first : IsPassed start = subst IsPassed (sym is) (first_kept fallback (value_of key kept) c.set.invariant.fallback (value_kept key kept c.self.invariant.valid)) in
+    let first : IsKeepable start = subst IsKeepable (sym is) (first_kept fallback (value_of key kept) c.set.invariant.fallback (value_kept key kept c.self.invariant.valid)) in
     (new_kept set.operations start (view c.in_ok-new.new) c.set.invariant.operations first ran).writable
 
 abbrev kept_in : goal.After-within_limits → List Kept
@@ -84,7 +83,7 @@ returns-clause-kept c =
     let kept = kept_in c in
     let key = c.as_str-key.result.now in
     let old : Json = view c.in_ok-old.old in
-    let first : IsPassed old =
-    subst IsPassed (sym (found c)) (first_kept (set_in c).fallback (value_of key kept) c.set.invariant.fallback (value_kept key kept c.self.invariant.valid)) in
-    let last : IsPassed (view c.in_ok-new.new) = new_kept (set_in c).operations old (view c.in_ok-new.new) c.set.invariant.operations first (ran c) in
-    answered c (λ d. IsPassed (view d.old) × IsPassed (view d.new)) (first, last)
+    let first : IsKeepable old =
+    subst IsKeepable (sym (found c)) (first_kept (set_in c).fallback (value_of key kept) c.set.invariant.fallback (value_kept key kept c.self.invariant.valid)) in
+    let last : IsKeepable (view c.in_ok-new.new) = new_kept (set_in c).operations old (view c.in_ok-new.new) c.set.invariant.operations first (ran c) in
+    answered c (λ d. IsKeepable (view d.old) × IsKeepable (view d.new)) (first, last)

@@ -1,8 +1,7 @@
 use Rattle.std.proofs.Common.{◌≡◌, List, map, ap, sym, subst, ◌∙◌}
 use Rattle.mw_json.specs.View.{view}
 use Rattle.mw_protocol.specs.Storage.{Kept, put, value_of}
-use Rattle.mw_model.specs.Passed.{IsPassed}
-use Rattle.mw_storage.specs.Stored.{entry_view, IsStore}
+use Rattle.mw_storage.specs.Stored.{entry_view, IsKeepable, IsStore}
 use Rattle.mw_storage.proofs.Counting.{value_kept, put_kept, found_kept}
 use Rattle.mw_storage.proofs.store.Store.put_grown.Goals as goal
 
@@ -21,7 +20,7 @@ invariant_of-self c =
     c.insert.ensures
     ∙ ap (λ es. put c.args.key value (map entry_view es)) c.widen.ensures.entries
     ∙ ap (λ k. put k value kept) (sym c.as_str-name.ensures) in
-    let new : IsPassed value = record { writable = c.requires.writable; ordered = c.requires.ordered; shallow = c.requires.shallow } in
+    let new : IsKeepable value = record { writable = c.requires.writable; ordered = c.requires.ordered; shallow = c.requires.shallow } in
     let store : IsStore (put key value kept) c.bytes_after-bytes.result = record {
       counted = c.bytes_after-bytes.ensures kept c.self.invariant.counted c.find.ensures;
       valid = put_kept key value kept new c.self.invariant.valid;
