@@ -1,7 +1,8 @@
 use crate::messages::last_of;
-use mw_base::SessionId;
+use mw_base::{SessionId, SlotId, TeamId};
 use mw_multidata::{RoomTables, read};
 use mw_packets_in::Inbound;
+use mw_records::Record;
 use mw_room::{Event, Room, SessionState};
 use mw_room_a::ROOM_A;
 use std::alloc::Global;
@@ -126,5 +127,26 @@ fn a_lost_session_is_shut(rt: HostRuntime) -> Result<(), Fail> {
     assert_eq!(rt; act(&mut room, &Event::Lost { session })?, 0);
     assert_eq!(rt; room.state(session), SessionState::Shut);
     assert_eq!(rt; room.next_session().get(), 2);
+    Ok(())
+}
+
+/// A record that a slot released what its world holds.
+fn release(team: u8, slot: u16) -> Option<Record> {
+    Some(Record::Release {
+        team: TeamId::new(team)?,
+        slot: SlotId::new(slot)?,
+    })
+}
+
+#[test]
+fn records_that_the_seed_names_are_entered(rt: HostRuntime) -> Result<(), Fail> {
+    let mut room = new_room(rt.alloc())?;
+    for (team, slot, wanted) in [(0, 1, true), (0, 3, false), (1, 1, false), (0, 2, true)] {
+        let entry = release(team, slot).ok_or("no record")?;
+        let named = room.enter(&entry)?;
+        assert!(rt; named == wanted, "slot {slot} of team {team}");
+    }
+    assert_eq!(rt; room.length(), 2);
+    assert_eq!(rt; room.next_session().get(), 1);
     Ok(())
 }
