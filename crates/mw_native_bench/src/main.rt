@@ -46,7 +46,7 @@ fn task_in(rt: &HostRuntime) -> io::Result<Option<Task>> {
 
 /// The tables of a world file and of one player.
 fn tables_in(rt: &HostRuntime, name: &Text) -> Option<Tables> {
-    let mut folder = SystemFolder::new(rt);
+    let mut folder = SystemFolder::new(rt, rt.alloc());
     match folder.read_file(rt.alloc(), name, MAX_WORLD) {
         Ok(FileRead::Whole(bytes)) => tables_of(rt.alloc(), bytes.as_slice()),
         _ => None,

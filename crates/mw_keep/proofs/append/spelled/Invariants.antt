@@ -1,0 +1,12 @@
+use Rattle.std.proofs.Common.{◌≡◌, map, take}
+use Rattle.mw_protocol.specs.Spelled.{records_bytes}
+use Rattle.mw_records.specs.Records.{record_view}
+use Rattle.mw_keep.specs.Holds.{AreRecords}
+use Rattle.mw_keep.proofs.append.spelled.Given as goal
+
+-- those of the records so far
+abbrev pub invariant-loop-record : goal.invariant-loop-record
+invariant-loop-record l = record {
+  bytes : l.bytes ≡ records_bytes (map record_view (take l.record-index l.records));
+  each : AreRecords (map record_view (take l.record-index l.records));
+}
