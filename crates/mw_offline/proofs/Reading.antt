@@ -1,5 +1,5 @@
 -- Files that are read one after another.
-use Rattle.std.proofs.Common.{◌≡◌, ◌⊎◌, inl, inr, ℕ, suc, ◌-◌, List, [], ◌∷◌, length, Ok, Bool, sym, subst, ap, ◌∙◌}
+use Rattle.std.proofs.Common.{◌≡◌, ◌⊎◌, inl, inr, ℕ, suc, ◌-◌, List, [], ◌∷◌, length, Ok, Bool, Option, sym, subst, ap, ◌∙◌}
 use Rattle.std.specs.Prelude.{IsTrue}
 use Rattle.mw_edges.specs.Folders.{GivesFile}
 use Rattle.mw_edges.specs.declared.folder.FileRead.TheVariants.{Whole}
@@ -8,12 +8,12 @@ use Rattle.mw_multi.specs.Players.{Players}
 use Rattle.mw_multi.specs.Files.{world_files}
 use Rattle.mw_multi.specs.declared.refusal.JointRefusal.{JointRefusal}
 use Rattle.mw_tables.specs.PlayersOf.{PlayersOf}
-use Rattle.mw_offline.specs.Tables.{Files, max_table_file, max_world_files, WorldsOf, AreWorldsStopped, AreTablesStopped, HasTableCause}
+use Rattle.mw_offline.specs.Tables.{Files, max_table_file, max_world_files, world_limit, WorldsOf, IsWorldStopped, AreWorldsStopped, AreTablesStopped, HasTableCause}
 use Rattle.mw_offline.specs.declared.stop.Stop.{Stop}
 use Rattle.mw_offline.specs.declared.stop.Stop.TheVariants.{Fault, Memory, Refused}
 use Rattle.mw_offline.specs.declared.table_cause.TableCause.{TableCause}
 use Rattle.mw_offline.specs.declared.table_cause.TableCause.TheVariants.{TooLong, File, Joined}
-use Rattle.mw_offline.proofs.Unread.{worlds_before}
+use Rattle.mw_offline.proofs.Unread.{world_before, worlds_before}
 
 -- ---- causes
 
@@ -50,6 +50,14 @@ worlds_cause files later may_fail may_later name bytes players names stop same s
     let there : later ≡ files = λ i n. same n i in
     let of_names : AreWorldsStopped later may_fail max_world_files (world_files players) stop = subst (λ ns. AreWorldsStopped later may_fail max_world_files ns stop) named before in
     unread_cause files may_fail name stop (inr (inr (bytes, players, file, is, subst (λ (fs : Files). AreWorldsStopped fs may_fail max_world_files (world_files players) stop) there of_names)))
+
+-- a world file gives no world, behind others that gave theirs
+pub worlds_stopped : (files : Files) (told : Option (Option (List ℕ))) (may_fail may_later : Bool) (left : ℕ) (all rest names : List (List ℕ)) (name : List ℕ) (stop : Stop TableCause) → told ≡ files name → (IsTrue may_later → IsTrue may_fail)
+    → rest ≡ name ∷ names → (AreWorldsStopped files may_fail left rest stop → AreWorldsStopped files may_fail max_world_files all stop) → IsWorldStopped told may_later (world_limit left) name stop
+    → (stop ≡ Memory) ⊎ AreWorldsStopped files may_fail max_world_files all stop
+worlds_stopped files told may_fail may_later left all rest names name stop same sound next before h =
+    let here : IsWorldStopped (files name) may_fail (world_limit left) name stop = subst (λ t. IsWorldStopped t may_fail (world_limit left) name stop) same (world_before may_later may_fail sound told (world_limit left) name stop h) in
+    inr (before (subst (λ ns. AreWorldsStopped files may_fail left ns stop) (sym next) (inl here)))
 
 -- ---- as many worlds as files
 

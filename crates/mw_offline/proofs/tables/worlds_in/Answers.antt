@@ -1,10 +1,13 @@
-use Rattle.std.proofs.Common.{◌≡◌, ◌+◌, ◌-◌, List, [], ◌∷◌, ◌++◌, drop, refl, sym, ap, ◌∙◌, subst, inr, arith, append_assoc, append-nil}
+use Rattle.std.proofs.Common.{◌≡◌, ◌⊎◌, ◌+◌, ◌-◌, List, [], ◌∷◌, ◌++◌, drop, refl, sym, ap, ◌∙◌, subst, inr, arith, append_assoc, append-nil}
 use Rattle.std.proofs.lemmas.List.{drop_all}
 use Rattle.mw_edges.specs.Folders.{GivesFile}
 use Rattle.mw_edges.specs.declared.folder.FileRead.TheVariants.{Whole}
 use Rattle.mw_multi.specs.World.{World}
 use Rattle.mw_offline.specs.Tables.{max_world_files, world_limit, WorldsOf, AreWorldsStopped}
+use Rattle.mw_offline.specs.declared.stop.Stop.TheVariants.{Memory}
 use Rattle.mw_seeds.proofs.Pushed.{drop_next}
+use Rattle.mw_offline.proofs.Endings.{passed_exit}
+use Rattle.mw_offline.proofs.Reading.{worlds_stopped}
 use Rattle.mw_offline.proofs.tables.worlds_in.Goals as goal
 
 pub loop-file-preserved : goal.loop-file-preserved
@@ -38,3 +41,14 @@ returns-clause-ok g c =
     let none : drop l.file-index c.args.files.now ≡ [] = drop_all l.file-index c.args.files.now c.loop-file-test.false in
     subst (λ (worlds : List World). WorldsOf files max_world_files c.args.files.now worlds) (append-nil l.worlds)
     (l.invariant.worlds [] (subst (λ names. WorldsOf files l.left names []) (sym none) refl))
+
+pub returns-in_err-read-clause-err : goal.returns-in_err-read-clause-err
+returns-in_err-read-clause-err g c =
+    let l = c.loop-file in
+    let files = g.F.Folder.holds c.args.folder.now in
+    let may_fail = g.F.Folder.may_fail c.args.folder.now in
+    let name = c.file-item.result in
+    passed_exit (λ stop. (stop ≡ Memory) ⊎ AreWorldsStopped files may_fail max_world_files c.args.files.now stop) c.from_residual.result _
+    (worlds_stopped files (g.F.Folder.holds l.folder name) may_fail (g.F.Folder.may_fail l.folder) l.left c.args.files.now (drop l.file-index c.args.files.now) (drop (l.file-index + 1) c.args.files.now) name _
+    (l.invariant.same name) l.invariant.sound (drop_next c.args.files.now l.file-index name c.loop-file-test.true c.file-item.is) (l.invariant.stopped _) c.in_err-read.ensures.err)
+    c.from_residual.ensures.1
