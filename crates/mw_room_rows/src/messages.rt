@@ -3,8 +3,7 @@ use mw_packets_in::{Inbound, packets_of};
 use std::alloc::Global;
 use std::test::Fail;
 
-/// The last element of a message.
-pub(crate) fn last_of(alloc: Global, message: &str) -> Result<Inbound, Fail> {
-    let found: List<Inbound> = packets_of(alloc, &Text::of(alloc, message)?)?;
-    Ok(found.into_vec().pop().ok_or("no element")?)
+/// The packets of a message.
+pub(crate) fn packets_in(alloc: Global, message: &str) -> Result<List<Inbound>, Fail> {
+    Ok(packets_of(alloc, &Text::of(alloc, message)?)?)
 }

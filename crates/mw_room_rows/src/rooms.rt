@@ -1,8 +1,7 @@
-use crate::messages::last_of;
-use mw_base::{SessionId, SlotId, TeamId};
+use crate::messages::packets_in;
+use mw_base::SessionId;
 use mw_multidata::{RoomTables, read};
 use mw_packets_in::Inbound;
-use mw_records::Record;
 use mw_room::{Event, Room, SessionState};
 use mw_room_a::ROOM_A;
 use std::alloc::Global;
@@ -30,7 +29,8 @@ fn open(room: &mut Room) -> Result<usize, Fail> {
 
 /// The event of a message's last element.
 fn event_of(alloc: Global, session: SessionId, message: &str) -> Result<Event, Fail> {
-    match last_of(alloc, message)? {
+    let mut found = packets_in(alloc, message)?.into_vec();
+    match found.pop().ok_or("no element")? {
         Inbound::Good(packet) => Ok(Event::Packet { session, packet }),
         Inbound::Wrong(bad) => Ok(Event::Bad { session, bad }),
     }
@@ -127,26 +127,5 @@ fn a_lost_session_is_shut(rt: HostRuntime) -> Result<(), Fail> {
     assert_eq!(rt; act(&mut room, &Event::Lost { session })?, 0);
     assert_eq!(rt; room.state(session), SessionState::Shut);
     assert_eq!(rt; room.next_session().get(), 2);
-    Ok(())
-}
-
-/// A record that a slot released what its world holds.
-fn release(team: u8, slot: u16) -> Option<Record> {
-    Some(Record::Release {
-        team: TeamId::new(team)?,
-        slot: SlotId::new(slot)?,
-    })
-}
-
-#[test]
-fn records_that_the_seed_names_are_entered(rt: HostRuntime) -> Result<(), Fail> {
-    let mut room = new_room(rt.alloc())?;
-    for (team, slot, wanted) in [(0, 1, true), (0, 3, false), (1, 1, false), (0, 2, true)] {
-        let entry = release(team, slot).ok_or("no record")?;
-        let named = room.enter(&entry)?;
-        assert!(rt; named == wanted, "slot {slot} of team {team}");
-    }
-    assert_eq!(rt; room.length(), 2);
-    assert_eq!(rt; room.next_session().get(), 1);
     Ok(())
 }
