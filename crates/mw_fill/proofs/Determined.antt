@@ -16,7 +16,8 @@ use Rattle.mw_fill.specs.Laws.{HasOneOutcome}
 use Rattle.mw_fill.proofs.Fitting.{find_same}
 use Rattle.mw_fill.proofs.Keeping.{least_alike}
 
-same_places : (v w : Places) → IsPartOf v w → IsPartOf w v → (p : ℕ) → v p ≡ w p
+-- lists that are part of one another
+pub same_places : (v w : Places) → IsPartOf v w → IsPartOf w v → (p : ℕ) → v p ≡ w p
 same_places v w h k p = elim (cases_Bool (v p)) [
   | inl in_v ↦ in_v ∙ sym (h p in_v)
   | inr not_v ↦ elim (cases_Bool (w p)) [ inl in_w ↦ k p in_w ∙ sym in_w | inr not_w ↦ not_v ∙ sym not_w ]

@@ -15,3 +15,5 @@ pub mod Making
 pub mod Everything
 pub mod Beaten
 pub mod Determined
+pub mod Existing
+pub mod Asked

@@ -1,10 +1,10 @@
 -- The run over the copies that rules ask for, copy by copy.
-use Rattle.std.proofs.Common.{◌≡◌, ℕ, ◌+◌, ◌-◌, ◌<◌, ◌≤◌, ◌&&◌, Bool, List, [], ◌∷◌, ◌++◌, Option, Some, None, All, length, get_or, set, take, drop, refl, sym, ap, subst, ◌∙◌, arith, append_assoc, append-nil, take-append-drop}
+use Rattle.std.proofs.Common.{◌≡◌, ℕ, ◌+◌, ◌-◌, ◌<◌, ◌≤◌, ◌&&◌, Bool, List, [], ◌∷◌, ◌++◌, Option, Some, None, All, length, get_or, map, set, take, drop, refl, sym, ap, ap₂, subst, ◌∙◌, arith, append_assoc, append-nil, take-append-drop}
 use Rattle.std.specs.Prelude.{sum_by}
-use Rattle.std.proofs.lemmas.List.{drop_all, length-append, length-drop, map-append, map_push, take_all}
+use Rattle.std.proofs.lemmas.List.{drop_all, length-append, length-drop, map-append, map_push, take-map, take_all, take_more}
 use Rattle.std.proofs.lemmas.List.Elements.{All-push, All-nil}
 use Rattle.std.proofs.lemmas.List.Sums.{count_by-le-length}
-use Rattle.mw_rules.specs.Holds.{Places, bag_of, places_of}
+use Rattle.mw_rules.specs.Holds.{Bag, Places, bag_of, places_of}
 use Rattle.mw_multi.specs.Joint.{Joint, IsJoint}
 use Rattle.mw_multi.specs.Bags.{start_count, IsBagOf}
 use Rattle.mw_multi.specs.Steps.{steps_of}
@@ -17,11 +17,12 @@ use Rattle.mw_reach.specs.GoingOn.{IsSettled}
 use Rattle.mw_reach.specs.Reached.{IsPlacedFor}
 use Rattle.mw_reach.proofs.Found.{found-le}
 use Rattle.mw_reach.proofs.Placing.{placed_for, placed-le}
+use Rattle.mw_reach.proofs.Settling.{settled_alike, settled_moved}
 use Rattle.mw_fill.specs.Copies.{ItemCopy, has_number}
 use Rattle.mw_fill.specs.Openings.{Opening, accepts}
 use Rattle.mw_fill.specs.Fill.{filled, stuck_with, put_of, first_fit, in_hand, is_reached, FillRun}
 use Rattle.mw_fill.specs.Kept.{CopyKept, IsCounted, OpeningKept, IsHeldFor}
-use Rattle.mw_fill.specs.Laying.{laid_put, puts_of, IsLaid, AreLaid}
+use Rattle.mw_fill.specs.Laying.{copy_number, laid_put, laid_number, puts_of, IsLaid, AreLaid}
 use Rattle.mw_fill.specs.declared.laid.Laid.{Laid}
 use Rattle.mw_fill.proofs.Fitting.{find_all}
 use Rattle.mw_fill.proofs.Stepping.{next_copy, held_next}
@@ -29,8 +30,14 @@ use Rattle.mw_fill.proofs.Stepping.{next_copy, held_next}
 -- ---- the list of places
 
 -- with no copy in hand
-pub none_in_hand : (joint : Joint) (copies : List ItemCopy) (bag : List ℕ) (to : ℕ) → length copies ≤ to → IsBagOf joint.slots (start_count joint.slots) bag → (i : ℕ) → bag_of bag i ≡ in_hand joint (drop to copies) i
+none_in_hand : (joint : Joint) (copies : List ItemCopy) (bag : List ℕ) (to : ℕ) → length copies ≤ to → IsBagOf joint.slots (start_count joint.slots) bag → (i : ℕ) → bag_of bag i ≡ in_hand joint (drop to copies) i
 none_in_hand joint copies bag to h start i = let none : drop to copies ≡ [] = drop_all to copies h in rw none (omega (arith, start.counts i))
+
+-- the list that a fill begins with
+pub first_list : (joint : Joint) (copies : List ItemCopy) (bag : List ℕ) (table : Placed) (done : List Bool) (counts : List ℕ) → IsBagOf joint.slots (start_count joint.slots) bag
+    → IsSettled (steps_of joint) (bag_of bag) table done counts → IsSettled (steps_of joint) (in_hand joint (drop (length copies) copies)) table done counts
+first_list joint copies bag table done counts start settled =
+    settled_alike (steps_of joint) (bag_of bag) (in_hand joint (drop (length copies) copies)) table table done counts (λ v i. omega (arith, none_in_hand joint copies bag (length copies) (omega arith) start i)) settled
 
 module _ (joint : Joint) (kept : IsJoint joint) (puts : List Put) (table : Placed) (placed : IsPlaced joint.slots (events_of joint ++ puts) table) where
   pub table_few : sum_by length table ≤ 200000 + length puts
@@ -60,6 +67,7 @@ begin joint openings copies laid held table none nothing events =
       held_is = nothing;
       table_is = subst (λ ps. IsPlaced joint.slots ps table) (sym (append-nil (events_of joint))) events;
       each = All-nil (IsLaid joint.slots);
+      numbers = refl;
       runs = λ out r. r;
     }
 
@@ -74,6 +82,11 @@ module _ (joint : Joint) (kept : IsJoint joint) (openings : List Opening) (copie
       (least : IsLeast (steps_of joint) (in_hand joint (drop (length laid + 1) copies)) table w) where
     rest_is : drop (length laid) copies ≡ copy ∷ drop (length laid + 1) copies
     rest_is = next_copy copies (length laid) copy within is
+
+    numbers_more : take (length laid + 1) (map copy_number copies) ≡ take (length laid) (map copy_number copies) ++ copy.number ∷ []
+    numbers_more =
+        take-map copy_number (length laid + 1) copies ∙ ap (map copy_number) (take_more copies (length laid) copy within) ∙ map_push copy_number (take (length laid) copies) (get_or copies (length laid) copy)
+        ∙ ap₂ (λ ns n. ns ++ n ∷ []) (sym (take-map copy_number (length laid) copies)) (ap copy_number (sym is))
 
     pub stuck_here : first_fit (λ s. accepts copy s && w s.place) (puts_of laid) openings ≡ None → FillRun is_reached joint openings copies [] (stuck_with copy)
     stuck_here e = so_far.runs (stuck_with copy) (rw rest_is (table, w, so_far.table_is, least, rw e refl))
@@ -90,6 +103,7 @@ module _ (joint : Joint) (kept : IsJoint joint) (openings : List Opening) (copie
         record {
           held_is = rw puts (held_next joint copy (λ s. accepts copy s && w s.place) (puts_of laid) openings opening held copy_kept there so_far.held_is e);
           table_is = rw puts (subst (λ ps. IsPlaced joint.slots ps next) (append_assoc (events_of joint) (puts_of laid) (put_of copy opening ∷ [])) placed);
+          numbers = map_push laid_number laid l ∙ ap (λ ns. ns ++ copy.number ∷ []) so_far.numbers ∙ sym numbers_more ∙ ap (λ k. take k (map copy_number copies)) (sym long);
           each = All-push (IsLaid joint.slots) laid l so_far.each record { place = site.place; within = copy_kept.number; numbers = counted.numbers };
           runs = λ out r. so_far.runs out (rw rest_is (table, w, so_far.table_is, least, rw e (rw (puts, long) at r)));
         }
@@ -106,3 +120,14 @@ since joint laid later table same placed =
 
 pub rest_of : (later slice : List Laid) (k from : ℕ) → slice ≡ later → from ≡ k → take (length slice - from) (drop from slice) ≡ drop k later
 rest_of later slice k from same at = rw (same, at) (take_all (length later - k) (drop k later) (omega (arith, length-drop k later)))
+
+-- the list of the second half: where it is one for the copies after it once more is put, it is one after what was put since
+pub half_least : (joint : Joint) (base : Bag) (laid later slice : List Laid) (placed after : Placed) (old back new : List Bool) (old_counts back_counts new_counts : List ℕ)
+    → take (length laid) later ≡ laid → slice ≡ drop (length laid) later → old ≡ back → old_counts ≡ back_counts
+    → IsPlaced joint.slots (events_of joint ++ puts_of laid) placed → IsPlaced joint.slots (events_of joint ++ puts_of later) after → IsSettled (steps_of joint) base placed old old_counts
+    → ((base : Bag) (puts : List Put) (before : Placed) → IsPlaced joint.slots puts before → IsPlaced joint.slots (puts ++ puts_of slice) after → IsSettled (steps_of joint) base before back back_counts → IsSettled (steps_of joint) base after new new_counts)
+    → IsSettled (steps_of joint) base after new new_counts
+half_least joint base laid later slice placed after old back new old_counts back_counts new_counts front rest flags counts first then settled go_on =
+    go_on base (events_of joint ++ puts_of laid) placed first
+    (subst (λ ls. IsPlaced joint.slots ((events_of joint ++ puts_of laid) ++ puts_of ls) after) (sym rest) (since joint laid later after front then))
+    (settled_moved (steps_of joint) base placed old back old_counts back_counts flags counts settled)

@@ -1,6 +1,7 @@
 -- What a try comes to.
-use Rattle.std.proofs.Common.{◌≡◌, ℕ, ◌<◌, List, [], Option, All, length, sym, ap, subst, refl, ◌∙◌, arith}
-use Rattle.std.specs.Prelude.{Result, Ok, Err, MatchResult}
+use Rattle.std.proofs.Common.{◌≡◌, ℕ, ◌<◌, List, [], Option, All, length, sym, subst, refl, arith}
+use Rattle.std.specs.Prelude.{Result, Ok, Err, MatchResult, IsErrAnd}
+use Rattle.std.proofs.lemmas.Result.{err_from_is_err_and}
 use Rattle.std.proofs.lemmas.List.Elements.{All-append, All-filter}
 use Rattle.mw_multi.specs.Joint.{Joint}
 use Rattle.mw_multi.specs.Placement.{Put}
@@ -9,8 +10,8 @@ use Rattle.mw_fill.specs.declared.error.FillError.{FillError}
 use Rattle.mw_fill.specs.declared.error.FillError.TheVariants.{Stuck, Memory}
 use Rattle.mw_fill.specs.Copies.{ItemCopy}
 use Rattle.mw_fill.specs.Openings.{Opening, has_kind, of_kind, regular, all_kinds}
-use Rattle.mw_fill.specs.Fill.{Outcome, filled, stuck, is_reached, FillRun, placed_anywhere}
-use Rattle.mw_fill.specs.Try.{Lists, and_then, IsOutcome}
+use Rattle.mw_fill.specs.Fill.{Outcome, filled, stuck, is_reached, FillRun}
+use Rattle.mw_fill.specs.Try.{Lists, the_rest, IsOutcome}
 use Rattle.mw_fill.specs.Kept.{OpeningKept, IsHeldFor}
 use Rattle.mw_fill.specs.Answer.{OnStuck}
 
@@ -40,16 +41,20 @@ run_same joint openings other copies more out s c r =
 pub stuck_first : (joint : Joint) (lists : Lists) (slot item : ℕ) → FillRun is_reached joint (regular lists.openings) lists.asked [] (stuck slot item) → IsOutcome joint lists (stuck slot item)
 stuck_first joint lists slot item run = (stuck slot item, run, refl)
 
--- stuck at a useful copy
-pub stuck_helping : (joint : Joint) (lists : Lists) (puts : List Put) (slot item : ℕ) → FillRun is_reached joint (regular lists.openings) lists.asked [] (filled puts)
-    → placed_anywhere (regular lists.openings) lists.helping puts ≡ stuck slot item → IsOutcome joint lists (stuck slot item)
-stuck_helping joint lists puts slot item run e = (filled puts, run, sym (ap (λ o. and_then o (placed_anywhere (all_kinds lists.openings) lists.filling)) e))
+-- stuck at another one
+pub stuck_rest : (joint : Joint) (lists : Lists) (puts : List Put) (slot item : ℕ) → FillRun is_reached joint (regular lists.openings) lists.asked [] (filled puts)
+    → the_rest lists puts ≡ stuck slot item → IsOutcome joint lists (stuck slot item)
+stuck_rest joint lists puts slot item run e = (filled puts, run, sym e)
 
 -- what the last copies come to
-pub last_outcome : (joint : Joint) (lists : Lists) (puts more : List Put) (out : Outcome) → FillRun is_reached joint (regular lists.openings) lists.asked [] (filled puts)
-    → placed_anywhere (regular lists.openings) lists.helping puts ≡ filled more → placed_anywhere (all_kinds lists.openings) lists.filling more ≡ out → IsOutcome joint lists out
-last_outcome joint lists puts more out run e f = (filled puts, run, sym (ap (λ o. and_then o (placed_anywhere (all_kinds lists.openings) lists.filling)) e ∙ f))
+pub rest_filled : (joint : Joint) (lists : Lists) (puts more : List Put) → FillRun is_reached joint (regular lists.openings) lists.asked [] (filled puts)
+    → the_rest lists puts ≡ filled more → IsOutcome joint lists (filled more)
+rest_filled joint lists puts more run e = (filled puts, run, sym e)
 
 pub matched : {A E : Type 0} (r : Result A E) (P P' : A → Type 0) (Q Q' : E → Type 0) → ((a : A) → P a → P' a) → ((e : E) → Q e → Q' e) → MatchResult r P Q → MatchResult r P' Q'
 matched (Ok a) P P' Q Q' f g m = f a m
 matched (Err e) P P' Q Q' f g m = g e m
+
+-- what is known of an error is known of the answer that passes it on
+pub passed_on : {A E : Type 0} (r : Result A E) (P : A → Type 0) (Q : E → Type 0) (e : E) → Q e → IsErrAnd r (λ x. x ≡ e) → MatchResult r P Q
+passed_on r P Q e q h = let p = err_from_is_err_and r h in subst (λ a. MatchResult a P Q) (sym p.1) (subst Q (sym p.2) q)

@@ -1,15 +1,19 @@
 -- For proofs alone: the copies that were put, in the order of the run.
-use Rattle.std.specs.Prelude.{ℕ, ◌≡◌, ◌<◌, ◌++◌, List, [], ◌∷◌, Option, Bool, All, drop, filter, length, map}
+use Rattle.std.specs.Prelude.{ℕ, ◌≡◌, ◌<◌, ◌≤◌, ◌+◌, ◌-◌, ◌*◌, ◌^◌, ◌++◌, List, [], ◌∷◌, Option, Bool, All, drop, filter, length, map, take}
 use Rattle.mw_rules.specs.Holds.{Places}
 use Rattle.mw_multi.specs.Joint.{Slot, Joint, place_total, item_total}
+use Rattle.mw_multi.specs.Steps.{steps_of}
 use Rattle.mw_multi.specs.Placement.{Put, put_numbers, IsPlaced}
 use Rattle.mw_multi.specs.Events.{events_of}
 use Rattle.mw_reach.specs.Reach.{Placed}
+use Rattle.mw_reach.specs.Bound.{asks_naming, asks_at, new_in}
 use Rattle.mw_fill.specs.Copies.{ItemCopy}
 use Rattle.mw_fill.specs.Openings.{Opening}
 use Rattle.mw_fill.specs.Fill.{Outcome, is_reached, FillRun}
-use Rattle.mw_fill.specs.Kept.{IsHeldFor}
+use Rattle.mw_fill.specs.Asks.{AreLists, asks_of_levels}
+use Rattle.mw_fill.specs.Kept.{CopyKept, IsCounted, OpeningKept, IsHeldFor}
 use Rattle.mw_fill.specs.declared.laid.Laid.{Laid}
+use Rattle.mw_fill.specs.declared.laying.Laying.{Laying}
 
 abbrev pub copy_number : ItemCopy → ℕ
 copy_number copy = copy.number
@@ -37,9 +41,47 @@ pub record IsLaid (slots : List Slot) (l : Laid) : Type 0 where
   pub within : l.number < item_total slots
   pub numbers : put_numbers slots l.put ≡ l.number ∷ []
 
+-- copies, with their numbers over all slots, and locations of the joint
+pub record AreOrdered (slots : List Slot) (copies : List ItemCopy) (numbers : List ℕ) (openings : List Opening) : Type 0 where
+  pub copies_kept : All (CopyKept slots) copies
+  pub counted : All (IsCounted slots) copies
+  pub few : length copies ≤ 10240000
+  pub numbers_are : numbers ≡ map copy_number copies
+  pub openings_kept : All (OpeningKept slots) openings
+
 -- the first copies were put where the run puts them: what it gives from there on, the whole run gives
+abbrev pub RunsOn : Joint → List Opening → List ItemCopy → List Laid → Type 0
+RunsOn joint openings copies laid = (out : Outcome) → FillRun is_reached joint openings (drop (length laid) copies) (puts_of laid) out → FillRun is_reached joint openings copies [] out
+
+-- the first copies were put, each with its number, where the run puts them
 pub record AreLaid (joint : Joint) (openings : List Opening) (copies : List ItemCopy) (laid : List Laid) (held : List (Option Put)) (table : Placed) : Type 0 where
   pub held_is : IsHeldFor joint (puts_of laid) held
   pub table_is : IsPlaced joint.slots (events_of joint ++ puts_of laid) table
   pub each : All (IsLaid joint.slots) laid
-  pub runs : (out : Outcome) → FillRun is_reached joint openings (drop (length laid) copies) (puts_of laid) out → FillRun is_reached joint openings copies [] out
+  pub numbers : map laid_number laid ≡ take (length laid) (map copy_number copies)
+  pub runs : RunsOn joint openings copies laid
+
+-- the same of what was put so far
+abbrev pub IsLaying : Joint → List Opening → List ItemCopy → Laying → Type 0
+IsLaying joint openings copies laying = AreLaid joint openings copies laying.laid laying.held.items laying.placed
+
+-- ---- asks
+
+-- the numbers over all slots of the copies from one to another
+abbrev pub numbers_between : List ItemCopy → ℕ → ℕ → List ℕ
+numbers_between copies from to = take (to - from) (drop from (map copy_number copies))
+
+-- what it costs to go on from one list to another with these items more
+abbrev pub asks_more : Joint → Placed → List ℕ → List Bool → List Bool → ℕ
+asks_more joint table more before later = asks_naming (steps_of joint) more + asks_at (steps_of joint) table (new_in before later)
+
+-- the asks within a range of the copies, by so many levels of halves
+abbrev pub asks_of_range : Joint → List ItemCopy → (ℕ → Placed) → (ℕ → ℕ → List Bool) → ℕ → ℕ → ℕ → ℕ
+asks_of_range joint copies tables lists levels from to =
+    levels * asks_naming (steps_of joint) (numbers_between copies from to) + asks_of_levels joint tables lists levels from to
+
+-- between two counts lie no more asks than those within a range, whatever is put after those that were put
+abbrev pub RangeWithin : Joint → List ItemCopy → List Laid → ℕ → ℕ → ℕ → ℕ → Type 0
+RangeWithin joint copies laid from to before after =
+    (levels : ℕ) (puts : List Put) (tables : ℕ → Placed) (lists : ℕ → ℕ → List Bool) → to ≤ from + 2 ^ levels → take (length laid) puts ≡ puts_of laid
+    → AreLists joint copies puts tables lists → after ≤ before + asks_of_range joint copies tables lists levels from to

@@ -8,4 +8,5 @@ pub mod ListsKept
 pub mod Answer
 pub mod Generated
 pub mod Try
+pub mod Asks
 pub mod Laws

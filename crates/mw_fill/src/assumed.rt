@@ -1,146 +1,76 @@
-ghost use Rattle.std.specs.Prelude.{◌≡◌, ◌<◌, ◌≤◌, ◌+◌, ◌&&◌, [], None, List, All, IfOk, OnOk, MatchResult, drop, find, length, map, take};
+ghost use Rattle.std.specs.Prelude.{◌≡◌, ◌≤◌, [], List, All, IfOk, OnOk, MatchResult, drop, length, map, take};
 ghost use Rattle.mw_multi.specs.Placement as plain;
-ghost use Rattle.mw_multi.specs.Placement.{IsPlaced};
 ghost use Rattle.mw_multi.specs.Steps.{rule_list};
-ghost use Rattle.mw_multi.specs.Events.{events_of};
-ghost use Rattle.mw_reach.specs.Reached.{IsMadeFor, HasLeast, places_in};
-ghost use Rattle.mw_fill.specs.Openings.{accepts};
+ghost use Rattle.mw_reach.specs.Reached.{IsMadeFor, HasLeast};
 ghost use Rattle.mw_fill.specs.Fill.{filled, stuck, in_hand, is_reached, FillRun};
-ghost use Rattle.mw_fill.specs.Kept.{CopyKept, IsCounted, OpeningKept, IsHeldFor, is_open_in};
-ghost use Rattle.mw_fill.specs.Laying.{copy_number, AreLaid};
+ghost use Rattle.mw_fill.specs.Asks.{AsksWithin};
+ghost use Rattle.mw_fill.specs.Kept.{CopyKept, IsCounted, OpeningKept, IsHeldFor};
+ghost use Rattle.mw_fill.specs.Laying.{copy_number, IsLaid, RunsOn, AreOrdered, IsLaying, RangeWithin};
 ghost use Rattle.mw_fill.specs.Answer.{OnStuck};
 
-use crate::asking::reach_asking;
 use crate::error::FillError;
-use crate::going_on::{find_laid, hold_more};
 use crate::item_copy::ItemCopy;
-use crate::laid::Laid;
+use crate::laying::{Laying, Order};
 use crate::opening::Opening;
 use mw_base::{List, Memory};
-use mw_multi::{Bag, Joint, Placed, Put};
-use mw_reach::Reached;
-use mw_rules::Ruling;
+use mw_multi::{Bag, Joint, Put};
+use mw_reach::{Reached, reach_by};
+use mw_rules::{Ruling, Steps};
 use std::alloc::Global;
-
-/// The first of the locations that is free, accepts the copy and is reached.
-fn first_reached(
-    copy: &ItemCopy,
-    openings: &[Opening],
-    held: &[Option<Put>],
-    reached: &Reached,
-) -> Option<Opening>
-    requires within { All (λ s. s.place < length held.now) openings.now }
-    ensures { result ≡ find (is_open_in
-        (λ s. accepts copy.now s && places_in reached.now s.place) held.now) openings.now }
-{
-    for opening in openings {
-        let free = held[opening.place as usize].is_none();
-        if free && (opening.accepts(copy) && reached.has(opening.place)) {
-            return Some(*opening);
-        }
-    }
-    None
-}
-
-/// Puts the next copy at the first of the locations that is free, accepts it and is reached.
-fn place_one(
-    joint: &Joint,
-    copies: &[ItemCopy],
-    openings: &[Opening],
-    held: &mut [Option<Put>],
-    placed: &mut Placed,
-    laid: &mut List<Laid>,
-    reached: &Reached,
-) -> Result<(), FillError>
-    requires copies { All (CopyKept joint.now.slots) copies.now }
-    requires counted { All (IsCounted joint.now.slots) copies.now }
-    requires few { length copies.now ≤ 10240000 }
-    requires openings { All (OpeningKept joint.now.slots) openings.now }
-    requires next { length laid.old < length copies.now }
-    requires laid { AreLaid joint.now openings.now copies.now laid.old held.old placed.old }
-    requires least { HasLeast joint.now (in_hand joint.now (drop (length laid.old + 1) copies.now))
-        placed.old reached.now }
-    ensures more { OnOk result ((length laid.new ≡ length laid.old + 1)
-        × (take (length laid.old) laid.new ≡ laid.old)) }
-    ensures answer { MatchResult result
-        (λ _. AreLaid joint.now openings.now copies.now laid.new held.new placed.new)
-        (λ e. OnStuck e (λ slot item. FillRun is_reached joint.now openings.now copies.now []
-        (stuck slot item))) }
-{
-    // Reading the joint makes known what its type keeps.
-    let _ = &joint.slots;
-    let copy = &copies[laid.len()];
-    match first_reached(copy, openings, held, reached) {
-        None => Err(copy.stuck()),
-        Some(opening) => {
-            let put = copy.put_at(&opening);
-            placed.put(joint, put)?;
-            let number = copy.number;
-            laid.push(Laid { put, number })?;
-            held[opening.place as usize] = Some(put);
-            Ok(())
-        }
-    }
-}
+use std::sync::ledger::Ledger;
 
 /// Puts the copies up to this one, which isn't put, each by the least list with the copies after it in hand. `reached` has
 /// the list with the copies from there on in hand and with those that were put.
 ///
 /// The first half begins with the second half in hand as well, and the second half with the first half where it was put. So
 /// each list goes on from a smaller one, and a rule is asked but a few times for each halving.
-fn place_range<R: Ruling>(
+fn place_range<R: Ruling, L: Ledger>(
     alloc: Global,
     joint: &Joint,
     rules: &R,
-    copies: &[ItemCopy],
-    numbers: &[u32],
-    openings: &[Opening],
+    order: &Order,
     to: usize,
-    held: &mut [Option<Put>],
-    placed: &mut Placed,
-    laid: &mut List<Laid>,
+    laying: &mut Laying,
     reached: &mut Reached,
+    steps: &mut Steps<L>,
 ) -> Result<(), FillError>
     requires rules { R.stands_for rules.now (rule_list joint.now) }
-    requires copies { All (CopyKept joint.now.slots) copies.now }
-    requires counted { All (IsCounted joint.now.slots) copies.now }
-    requires few { length copies.now ≤ 10240000 }
-    requires numbers { numbers.now ≡ map copy_number copies.now }
-    requires openings { All (OpeningKept joint.now.slots) openings.now }
-    requires range { (length laid.old ≤ to) × (to ≤ length copies.now) }
-    requires laid { AreLaid joint.now openings.now copies.now laid.old held.old placed.old }
+    requires order { AreOrdered joint.now.slots order.now.copies.now order.now.numbers.now
+        order.now.openings.now }
+    requires range { (length laying.old.laid ≤ to) × (to ≤ length order.now.copies.now) }
+    requires laid { IsLaying joint.now order.now.openings.now order.now.copies.now laying.old }
     requires made { IsMadeFor joint.now reached.old }
-    requires least { HasLeast joint.now (in_hand joint.now (drop to copies.now)) placed.old
-        reached.old }
+    requires least { HasLeast joint.now (in_hand joint.now (drop to order.now.copies.now))
+        laying.old.placed reached.old }
     ensures made { IsMadeFor joint.now reached.new }
-    ensures more { OnOk result ((length laid.new ≡ to)
-        × (take (length laid.old) laid.new ≡ laid.old)) }
+    ensures front { take (length laying.old.laid) laying.new.laid ≡ laying.old.laid }
+    ensures each { All (IsLaid joint.now.slots) laying.new.laid }
+    ensures runs { RunsOn joint.now order.now.openings.now order.now.copies.now
+        laying.new.laid }
+    ensures more { OnOk result (length laying.new.laid ≡ to) }
     ensures answer { MatchResult result
-        (λ _. AreLaid joint.now openings.now copies.now laid.new held.new placed.new)
-        (λ e. OnStuck e (λ slot item. FillRun is_reached joint.now openings.now copies.now []
-        (stuck slot item))) }
+        (λ _. IsLaying joint.now order.now.openings.now order.now.copies.now laying.new)
+        (λ e. OnStuck e (λ slot item. FillRun is_reached joint.now order.now.openings.now
+        order.now.copies.now [] (stuck slot item))) }
+    ensures steps { RangeWithin joint.now order.now.copies.now laying.new.laid
+        (length laying.old.laid) to steps.old steps.new }
 {
     // Reading the joint makes known what its type keeps.
     let _ = &joint.slots;
-    let from = laid.len();
+    let from = laying.laid.len();
     if to == from {
         return Ok(());
     }
     if to - from == 1 {
-        return place_one(joint, copies, openings, held, placed, laid, reached);
+        return laying.put_next(joint, order, reached);
     }
     let middle = from + (to - from) / 2;
     let mark = reached.mark(alloc)?;
-    hold_more(joint, rules, copies, numbers, middle, to, placed, reached);
-    place_range(
-        alloc, joint, rules, copies, numbers, openings, middle, held, placed, laid, reached,
-    )?;
+    laying.hold_more(joint, rules, order, middle, to, reached, steps);
+    place_range(alloc, joint, rules, order, middle, laying, reached, steps)?;
     reached.go_back(&mark);
-    let first_half = &laid.as_slice()[from..];
-    find_laid(alloc, joint, rules, first_half, placed, reached)?;
-    place_range(
-        alloc, joint, rules, copies, numbers, openings, to, held, placed, laid, reached,
-    )
+    laying.find_from(alloc, joint, rules, from, reached, steps)?;
+    place_range(alloc, joint, rules, order, to, laying, reached, steps)
 }
 
 /// The copies' numbers over all slots.
@@ -155,41 +85,43 @@ fn numbers_of(alloc: Global, copies: &[ItemCopy]) -> Result<List<u32>, Memory>
 }
 
 /// Puts each copy in order at the first of the locations that is free, accepts it and can be reached with the starting items
-/// and the later copies. `held` holds nothing, and `placed` the events.
-pub(crate) fn place_asked<R: Ruling>(
+/// and the later copies, and gives for each place what stands there.
+pub(crate) fn place_asked<R: Ruling, L: Ledger>(
     alloc: Global,
     joint: &Joint,
     rules: &R,
     copies: &[ItemCopy],
     openings: &[Opening],
-    held: &mut [Option<Put>],
-    placed: &mut Placed,
     reached: &mut Reached,
-) -> Result<(), FillError>
+    steps: &mut Steps<L>,
+) -> Result<Vec<Option<Put>>, FillError>
     requires rules { R.stands_for rules.now (rule_list joint.now) }
     requires copies { All (CopyKept joint.now.slots) copies.now }
     requires counted { All (IsCounted joint.now.slots) copies.now }
     requires few { length copies.now ≤ 10240000 }
     requires openings { All (OpeningKept joint.now.slots) openings.now }
-    requires held { IsHeldFor joint.now [] held.old }
-    requires placed { IsPlaced joint.now.slots (events_of joint.now) placed.old }
     requires reached { IsMadeFor joint.now reached.old }
     ensures kept { IsMadeFor joint.now reached.new }
     ensures answer { MatchResult result
-        (λ _. (puts : List plain.Put) × IsHeldFor joint.now puts held.new
+        (λ held. (puts : List plain.Put) × IsHeldFor joint.now puts held.items
         × FillRun is_reached joint.now openings.now copies.now [] (filled puts))
         (λ e. OnStuck e (λ slot item. FillRun is_reached joint.now openings.now copies.now []
         (stuck slot item))) }
+    ensures steps { AsksWithin joint.now openings.now copies.now steps.old steps.new }
 {
     // Reading the joint makes known what its type keeps.
     let _ = &joint.slots;
     let start = Bag::starting(alloc, joint)?;
-    reach_asking(joint, rules, &start, placed, reached);
+    let mut laying = Laying::new(alloc, joint)?;
     let numbers = numbers_of(alloc, copies)?;
     let numbers = numbers.as_slice();
-    let mut laid = List::new(alloc);
+    let order = Order {
+        copies,
+        numbers,
+        openings,
+    };
+    reach_by(joint, rules, &start, &laying.placed, reached, steps);
     let to = copies.len();
-    place_range(
-        alloc, joint, rules, copies, numbers, openings, to, held, placed, &mut laid, reached,
-    )
+    place_range(alloc, joint, rules, &order, to, &mut laying, reached, steps)?;
+    Ok(laying.held)
 }

@@ -7,23 +7,25 @@ ghost use Rattle.mw_reach.specs.Reached.{IsMadeFor};
 ghost use Rattle.mw_multi.specs.WorldKept.{copies};
 ghost use Rattle.mw_fill.specs.Generated.{IsUnmet, slot_pool_size, pool_size, CanBeTried, GeneratedSeed};
 
-use crate::asking::{reach_asking, unmet_goal_asking};
 use crate::error::FillError;
 use crate::lists::stock_of;
 use crate::one_try::try_from_stock;
 use crate::seed::{GenerateError, Seed};
 use mw_base::Memory;
 use mw_multi::{Bag, Joint, Placed, TreeRules, World};
-use mw_reach::Reached;
-use mw_rules::Ruling;
+use mw_reach::{Reached, reach_by, unmet_goal_by};
+use mw_rules::{Ruling, Steps};
 use std::alloc::Global;
+use std::marker::Brand;
+use std::sync::ledger::{Blank, Ledger};
 
 /// The first slot whose goal doesn't hold with everything in hand, from 1; `Memory` where memory ran out.
-fn first_unmet<R: Ruling>(
+fn first_unmet<R: Ruling, L: Ledger>(
     alloc: Global,
     joint: &Joint,
     rules: &R,
     reached: &mut Reached,
+    steps: &mut Steps<L>,
 ) -> Result<Option<u16>, Memory>
     requires rules { R.stands_for rules.now (rule_list joint.now) }
     requires reached { IsMadeFor joint.now reached.old }
@@ -34,8 +36,8 @@ fn first_unmet<R: Ruling>(
     let _ = &joint.slots;
     let everything = Bag::everything(alloc, joint)?;
     let placed = Placed::events(alloc, joint)?;
-    reach_asking(joint, rules, &everything, &placed, reached);
-    Ok(unmet_goal_asking(joint, rules, reached))
+    reach_by(joint, rules, &everything, &placed, reached, steps);
+    Ok(unmet_goal_by(joint, rules, reached, steps))
 }
 
 /// How many copies the pool of a world has.
@@ -62,6 +64,80 @@ fn pool_copies(joint: &Joint) -> u64
     total
 }
 
+/// `generate_by`, with the asks counted in `steps`.
+fn generate_counted<R: Ruling, L: Ledger>(
+    alloc: Global,
+    joint: &Joint,
+    rules: &R,
+    seed: u64,
+    tries: u32,
+    steps: &mut Steps<L>,
+) -> Result<Seed, GenerateError>
+    requires rules { R.stands_for rules.now (rule_list joint.now) }
+    requires tries { (1 ≤ tries) × (tries ≤ 1000) }
+    ensures seed { GeneratedSeed joint.now seed tries result }
+    ensures tried { OnOk result (CanBeTried joint.now) }
+    ensures placement { IfOk result (λ found. IsPlacement joint.now found.placement) }
+    ensures beatable { IfOk result (λ found. (table : List (List ℕ))
+        → IsPlaced joint.now.slots (with_events joint.now found.placement) table
+        → IsBeatable joint.now table) }
+{
+    // Reading the joint makes known what its type keeps.
+    let _ = &joint.slots;
+    let mut reached = Reached::new_by(alloc, joint, rules)?;
+    match first_unmet(alloc, joint, rules, &mut reached, steps)? {
+        Some(slot) => return Err(GenerateError::NotBeatable { slot }),
+        None => {}
+    }
+    let stock = stock_of(alloc, joint)?;
+    let have = pool_copies(joint);
+    let room = stock.openings.len() as u64;
+    if room < have {
+        return Err(GenerateError::TooManyItems { have, room });
+    }
+    for stream in 0..u64::from(tries) {
+        match try_from_stock(
+            alloc,
+            joint,
+            rules,
+            &stock,
+            &mut reached,
+            seed,
+            stream,
+            steps,
+        ) {
+            Ok(placement) => return Ok(Seed { placement, stream }),
+            Err(FillError::Memory) => return Err(GenerateError::Memory),
+            Err(FillError::Stuck { .. }) => {}
+        }
+    }
+    Err(GenerateError::Exhausted)
+}
+
+/// `generate_by` with a counter of its own.
+fn count_and_generate<R: Ruling, L: Ledger>(
+    blank: Blank,
+    alloc: Global,
+    joint: &Joint,
+    rules: &R,
+    seed: u64,
+    tries: u32,
+) -> Result<Seed, GenerateError>
+    requires name { blank.name ≡ L.name }
+    requires parts { (blank.parts ≡ L.parts) × (blank.parts ≡ 1) }
+    requires rules { R.stands_for rules.now (rule_list joint.now) }
+    requires tries { (1 ≤ tries) × (tries ≤ 1000) }
+    ensures seed { GeneratedSeed joint.now seed tries result }
+    ensures tried { OnOk result (CanBeTried joint.now) }
+    ensures placement { IfOk result (λ found. IsPlacement joint.now found.placement) }
+    ensures beatable { IfOk result (λ found. (table : List (List ℕ))
+        → IsPlaced joint.now.slots (with_events joint.now found.placement) table
+        → IsBeatable joint.now table) }
+{
+    let mut steps = Steps::<L>::new(blank);
+    generate_counted(alloc, joint, rules, seed, tries, &mut steps)
+}
+
 /// The placement of the first of 1 to 1,000 tries that gives one, the first try having number 0.
 ///
 /// It is refused at the first slot whose goal doesn't hold with all items in hand and the events alone placed; then where
@@ -83,27 +159,7 @@ pub fn generate_by<R: Ruling>(
         → IsPlaced joint.now.slots (with_events joint.now found.placement) table
         → IsBeatable joint.now table) }
 {
-    // Reading the joint makes known what its type keeps.
-    let _ = &joint.slots;
-    let mut reached = Reached::new_by(alloc, joint, rules)?;
-    match first_unmet(alloc, joint, rules, &mut reached)? {
-        Some(slot) => return Err(GenerateError::NotBeatable { slot }),
-        None => {}
-    }
-    let stock = stock_of(alloc, joint)?;
-    let have = pool_copies(joint);
-    let room = stock.openings.len() as u64;
-    if room < have {
-        return Err(GenerateError::TooManyItems { have, room });
-    }
-    for stream in 0..u64::from(tries) {
-        match try_from_stock(alloc, joint, rules, &stock, &mut reached, seed, stream) {
-            Ok(placement) => return Ok(Seed { placement, stream }),
-            Err(FillError::Memory) => return Err(GenerateError::Memory),
-            Err(FillError::Stuck { .. }) => {}
-        }
-    }
-    Err(GenerateError::Exhausted)
+    count_and_generate::<R, Brand>(Blank::new(1), alloc, joint, rules, seed, tries)
 }
 
 /// The placement of the first of 1 to 1,000 tries that gives one, the first try having number 0.

@@ -2,7 +2,6 @@
 #![tactic(auto)]
 
 mod anywhere;
-mod asking;
 mod assumed;
 mod copies;
 mod draws;
@@ -13,6 +12,7 @@ mod group;
 mod item_copy;
 mod laid;
 mod laws;
+mod laying;
 mod lists;
 mod locality;
 mod one_try;
@@ -25,5 +25,5 @@ pub use draws::{Words, draw, shuffle};
 pub use error::FillError;
 pub use generating::{generate, generate_by};
 pub use laws::has_one_outcome;
-pub use one_try::{fill_try, fill_try_by};
+pub use one_try::{fill_try, fill_try_by, fill_try_counted};
 pub use seed::{GenerateError, Seed};

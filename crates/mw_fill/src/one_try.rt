@@ -2,126 +2,94 @@ ghost use Rattle.std.specs.Prelude.{◌≡◌, ◌<◌, ◌≤◌, [], List, All
 ghost use Rattle.mw_multi.specs.Placement as plain;
 ghost use Rattle.mw_multi.specs.Placement.{IsPlacement};
 ghost use Rattle.mw_multi.specs.Steps.{rule_list};
-ghost use Rattle.mw_fill.specs.Fill.{filled, stuck, is_reached, FillRun};
-ghost use Rattle.mw_fill.specs.Kept.{CopyKept, IsCounted, OpeningKept, IsHeldFor};
+ghost use Rattle.mw_fill.specs.Fill.{filled, stuck};
+ghost use Rattle.mw_fill.specs.Kept.{IsHeldFor};
 ghost use Rattle.mw_reach.specs.Reached.{IsMadeFor};
-ghost use Rattle.mw_fill.specs.Openings.{openings_of};
+ghost use Rattle.mw_fill.specs.Openings.{openings_of, regular as regular_of};
 ghost use Rattle.mw_fill.specs.ListsKept.{AreKept, AreShort};
-ghost use Rattle.mw_fill.specs.Try.{stock_of, IsOutcome, IsFilled, IsStuck, placement_of};
+ghost use Rattle.mw_fill.specs.Try.{stock_of, the_rest, IsOutcome, IsFilled, IsStuck, placement_of};
+ghost use Rattle.mw_fill.specs.Asks.{AsksWithin, TryAsksWithin};
 ghost use Rattle.mw_fill.specs.Answer.{OnStuck};
 
 use crate::anywhere::place_anywhere;
 use crate::assumed::place_asked;
 use crate::error::FillError;
-use crate::item_copy::ItemCopy;
 use crate::lists::{self, Lists, lists_of};
 use crate::opening::Opening;
 use crate::openings::{all_kinds, regular};
 use crate::placement::placement_from;
 use mw_base::Memory;
-use mw_multi::{Joint, Placed, Placement, Put, TreeRules};
+use mw_multi::{Joint, Placement, Put, TreeRules};
 use mw_reach::Reached;
-use mw_rules::Ruling;
+use mw_rules::{Ruling, Steps};
 use std::alloc::Global;
+use std::marker::Brand;
+use std::sync::ledger::{Blank, Ledger};
 
-/// Nothing at each place of the joint.
-fn nothing_held(alloc: Global, joint: &Joint) -> Result<Vec<Option<Put>>, Memory>
-    ensures { IfOk result (λ held. IsHeldFor joint.now [] held.items) }
-{
-    let held = vec![in alloc; None; joint.place_count() as usize]?;
-    Ok(held)
-}
-
-/// Puts the copies that rules ask for.
-fn place_first<R: Ruling>(
+/// Puts the copies of the lists that no rule asks for. `places` are the locations that useful ones may stand at.
+fn place_rest(
     alloc: Global,
     joint: &Joint,
-    rules: &R,
-    copies: &[ItemCopy],
-    openings: &[Opening],
-    held: &mut [Option<Put>],
-    reached: &mut Reached,
-) -> Result<(), FillError>
-    requires rules { R.stands_for rules.now (rule_list joint.now) }
-    requires copies { All (CopyKept joint.now.slots) copies.now }
-    requires counted { All (IsCounted joint.now.slots) copies.now }
-    requires few { length copies.now ≤ 10240000 }
-    requires openings { All (OpeningKept joint.now.slots) openings.now }
-    requires held { IsHeldFor joint.now [] held.old }
-    requires reached { IsMadeFor joint.now reached.old }
-    ensures kept { IsMadeFor joint.now reached.new }
-    ensures answer { MatchResult result
-        (λ _. (puts : List plain.Put) × IsHeldFor joint.now puts held.new
-        × FillRun is_reached joint.now openings.now copies.now [] (filled puts))
-        (λ e. OnStuck e (λ slot item. FillRun is_reached joint.now openings.now copies.now []
-        (stuck slot item))) }
-{
-    let mut placed = Placed::events(alloc, joint)?;
-    place_asked(
-        alloc,
-        joint,
-        rules,
-        copies,
-        openings,
-        held,
-        &mut placed,
-        reached,
-    )
-}
-
-/// Puts the copies of the lists, first those that rules ask for.
-fn place_all<R: Ruling>(
-    alloc: Global,
-    joint: &Joint,
-    rules: &R,
     lists: &Lists,
+    places: &[Opening],
     held: &mut [Option<Put>],
-    reached: &mut Reached,
 ) -> Result<(), FillError>
-    requires rules { R.stands_for rules.now (rule_list joint.now) }
     requires lists { AreKept joint.now.slots lists.now }
-    requires held { IsHeldFor joint.now [] held.old }
-    requires reached { IsMadeFor joint.now reached.old }
-    ensures kept { IsMadeFor joint.now reached.new }
-    ensures answer { MatchResult result
-        (λ _. (puts : List plain.Put) × IsHeldFor joint.now puts held.new
-        × IsOutcome joint.now lists.now (filled puts))
-        (λ e. OnStuck e (λ slot item. IsOutcome joint.now lists.now (stuck slot item))) }
+    requires places { places.now ≡ regular_of lists.now.openings }
+    requires held { (puts : List plain.Put) × IsHeldFor joint.now puts held.old }
+    ensures { (puts : List plain.Put) → IsHeldFor joint.now puts held.old → MatchResult result
+        (λ _. (more : List plain.Put) × IsHeldFor joint.now more held.new
+        × (the_rest lists.now puts ≡ filled more))
+        (λ e. OnStuck e (λ slot item. the_rest lists.now puts ≡ stuck slot item)) }
 {
-    let places = regular(alloc, lists.openings.as_slice())?;
-    if let Err(error) = place_first(
-        alloc,
-        joint,
-        rules,
-        lists.asked.as_slice(),
-        places.as_slice(),
-        held,
-        reached,
-    ) {
-        return Err(error);
-    }
-    if let Err(error) = place_anywhere(lists.helping.as_slice(), places.as_slice(), held) {
+    if let Err(error) = place_anywhere(lists.helping.as_slice(), places, held) {
         return Err(error);
     }
     let places = all_kinds(alloc, lists.openings.as_slice())?;
     place_anywhere(lists.filling.as_slice(), places.as_slice(), held)
 }
 
-/// The placement that the lists give, with something at each of the joint's locations with an id. `held` holds nothing, and
-/// is room to work in.
-fn place_lists<R: Ruling>(
+/// Puts the copies of the lists, first those that rules ask for, and gives what is held then.
+fn place_all<R: Ruling, L: Ledger>(
+    alloc: Global,
+    joint: &Joint,
+    rules: &R,
+    lists: &Lists,
+    reached: &mut Reached,
+    steps: &mut Steps<L>,
+) -> Result<Vec<Option<Put>>, FillError>
+    requires rules { R.stands_for rules.now (rule_list joint.now) }
+    requires lists { AreKept joint.now.slots lists.now }
+    requires reached { IsMadeFor joint.now reached.old }
+    ensures kept { IsMadeFor joint.now reached.new }
+    ensures answer { MatchResult result
+        (λ held. (puts : List plain.Put) × IsHeldFor joint.now puts held.items
+        × IsOutcome joint.now lists.now (filled puts))
+        (λ e. OnStuck e (λ slot item. IsOutcome joint.now lists.now (stuck slot item))) }
+    ensures steps { AsksWithin joint.now (regular_of lists.now.openings) lists.now.asked steps.old
+        steps.new }
+{
+    let places = regular(alloc, lists.openings.as_slice())?;
+    let places = places.as_slice();
+    let asked = lists.asked.as_slice();
+    let mut held = place_asked(alloc, joint, rules, asked, places, reached, steps)?;
+    place_rest(alloc, joint, lists, places, held.as_mut_slice())?;
+    Ok(held)
+}
+
+/// The placement that the lists give, with something at each of the joint's locations with an id.
+fn place_lists<R: Ruling, L: Ledger>(
     alloc: Global,
     joint: &Joint,
     rules: &R,
     openings: &[Opening],
     lists: &Lists,
-    held: &mut [Option<Put>],
     reached: &mut Reached,
+    steps: &mut Steps<L>,
 ) -> Result<Placement, FillError>
     requires openings { openings.now ≡ openings_of joint.now }
     requires rules { R.stands_for rules.now (rule_list joint.now) }
     requires lists { AreKept joint.now.slots lists.now }
-    requires held { IsHeldFor joint.now [] held.old }
     requires reached { IsMadeFor joint.now reached.old }
     ensures kept { IsMadeFor joint.now reached.new }
     ensures answer { MatchResult result
@@ -129,16 +97,18 @@ fn place_lists<R: Ruling>(
         × (placement ≡ placement_of joint.now puts))
         (λ e. OnStuck e (λ slot item. IsOutcome joint.now lists.now (stuck slot item))) }
     ensures placement { IfOk result (IsPlacement joint.now) }
+    ensures steps { AsksWithin joint.now (regular_of lists.now.openings) lists.now.asked steps.old
+        steps.new }
 {
     // Reading the joint makes known what its type keeps.
     let _ = &joint.slots;
-    place_all(alloc, joint, rules, lists, held, reached)?;
-    let placement = placement_from(alloc, openings, held)?;
+    let held = place_all(alloc, joint, rules, lists, reached, steps)?;
+    let placement = placement_from(alloc, openings, held.as_slice())?;
     Ok(placement)
 }
 
-/// `fill_try_by` from the joint's stock.
-pub(crate) fn try_from_stock<R: Ruling>(
+/// `fill_try_counted` from the joint's stock.
+pub(crate) fn try_from_stock<R: Ruling, L: Ledger>(
     alloc: Global,
     joint: &Joint,
     rules: &R,
@@ -146,6 +116,7 @@ pub(crate) fn try_from_stock<R: Ruling>(
     reached: &mut Reached,
     seed: u64,
     stream: u64,
+    steps: &mut Steps<L>,
 ) -> Result<Placement, FillError>
     requires rules { R.stands_for rules.now (rule_list joint.now) }
     requires stock { stock.now ≡ stock_of joint.now }
@@ -156,19 +127,62 @@ pub(crate) fn try_from_stock<R: Ruling>(
     ensures answer { MatchResult result (IsFilled joint.now seed stream)
         (λ e. OnStuck e (IsStuck joint.now seed stream)) }
     ensures placement { IfOk result (IsPlacement joint.now) }
+    ensures steps { TryAsksWithin joint.now seed stream steps.old steps.new }
 {
     let lists = lists_of(alloc, stock, seed, stream)?;
-    let mut held = nothing_held(alloc, joint)?;
     let openings = stock.openings.as_slice();
-    place_lists(
+    place_lists(alloc, joint, rules, openings, &lists, reached, steps)
+}
+
+/// The placement of the try with this number of a seed: something at each location with an id. It is Stuck exactly where a
+/// copy of a pool finds no location; the first such copy's slot and item are told. `Memory` where memory ran out. The
+/// joint's rules are asked of `rules`, and the asks are counted in `steps`.
+pub fn fill_try_counted<R: Ruling, L: Ledger>(
+    alloc: Global,
+    joint: &Joint,
+    rules: &R,
+    seed: u64,
+    stream: u64,
+    steps: &mut Steps<L>,
+) -> Result<Placement, FillError>
+    requires rules { R.stands_for rules.now (rule_list joint.now) }
+    ensures answer { MatchResult result (IsFilled joint.now seed stream)
+        (λ e. OnStuck e (IsStuck joint.now seed stream)) }
+    ensures placement { IfOk result (IsPlacement joint.now) }
+    ensures steps { TryAsksWithin joint.now seed stream steps.old steps.new }
+{
+    let stock = lists::stock_of(alloc, joint)?;
+    let mut reached = Reached::new_by(alloc, joint, rules)?;
+    try_from_stock(
         alloc,
         joint,
         rules,
-        openings,
-        &lists,
-        held.as_mut_slice(),
-        reached,
+        &stock,
+        &mut reached,
+        seed,
+        stream,
+        steps,
     )
+}
+
+/// `fill_try_counted` with a counter of its own.
+fn count_and_try<R: Ruling, L: Ledger>(
+    blank: Blank,
+    alloc: Global,
+    joint: &Joint,
+    rules: &R,
+    seed: u64,
+    stream: u64,
+) -> Result<Placement, FillError>
+    requires name { blank.name ≡ L.name }
+    requires parts { (blank.parts ≡ L.parts) × (blank.parts ≡ 1) }
+    requires rules { R.stands_for rules.now (rule_list joint.now) }
+    ensures answer { MatchResult result (IsFilled joint.now seed stream)
+        (λ e. OnStuck e (IsStuck joint.now seed stream)) }
+    ensures placement { IfOk result (IsPlacement joint.now) }
+{
+    let mut steps = Steps::<L>::new(blank);
+    fill_try_counted(alloc, joint, rules, seed, stream, &mut steps)
 }
 
 /// The placement of the try with this number of a seed: something at each location with an id. It is Stuck exactly where a
@@ -186,9 +200,7 @@ pub fn fill_try_by<R: Ruling>(
         (λ e. OnStuck e (IsStuck joint.now seed stream)) }
     ensures placement { IfOk result (IsPlacement joint.now) }
 {
-    let stock = lists::stock_of(alloc, joint)?;
-    let mut reached = Reached::new_by(alloc, joint, rules)?;
-    try_from_stock(alloc, joint, rules, &stock, &mut reached, seed, stream)
+    count_and_try::<R, Brand>(Blank::new(1), alloc, joint, rules, seed, stream)
 }
 
 /// The placement of the try with this number of a seed: something at each location with an id. It is Stuck exactly where a

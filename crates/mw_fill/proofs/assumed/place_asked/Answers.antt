@@ -1,22 +1,42 @@
-use Rattle.std.proofs.Common.{drop, length, subst, arith}
-use Rattle.mw_rules.specs.Holds.{bag_of}
+use Rattle.std.proofs.Common.{subst}
 use Rattle.mw_multi.specs.Joint.{IsJoint}
-use Rattle.mw_multi.specs.Steps.{steps_of}
-use Rattle.mw_multi.specs.Events.{events_of}
 use Rattle.mw_reach.specs.Reached.{counts_in, flags_in}
-use Rattle.mw_reach.proofs.Placing.{placed_for}
-use Rattle.mw_reach.proofs.Settling.{settled_alike}
-use Rattle.mw_fill.specs.Fill.{in_hand}
-use Rattle.mw_fill.proofs.Runs.{none_in_hand}
+use Rattle.mw_fill.proofs.Asked.{whole_within}
+use Rattle.mw_fill.proofs.Runs.{first_list, placed_here}
 use Rattle.mw_fill.proofs.assumed.place_asked.Goals as goal
 
-pub reach_asking-requires-clause-placed : goal.reach_asking-requires-clause-placed
-reach_asking-requires-clause-placed g c =
-    placed_for c.args.joint.now (subst IsJoint c.joint.view_is c.joint.invariant) (events_of c.args.joint.now) c.args.placed.now c.requires.placed
+pub reach_by-requires-clause-placed : goal.reach_by-requires-clause-placed
+reach_by-requires-clause-placed g c =
+    let a = c.args in
+    let laying = c.in_ok-laying.laying in
+    placed_here a.joint.now (subst IsJoint c.joint.view_is c.joint.invariant) a.openings.now a.copies.now laying.laid laying.held.items laying.placed (c.in_ok-laying.ensures.laid a.openings.now a.copies.now)
+
+pub place_range-requires-clause-laid : goal.place_range-requires-clause-laid
+place_range-requires-clause-laid g c = c.in_ok-laying.ensures.laid c.args.openings.now c.args.copies.now
 
 pub place_range-requires-clause-least : goal.place_range-requires-clause-least
 place_range-requires-clause-least g c =
-    let joint = c.args.joint.now in
-    let copies = c.args.copies.now in
-    let into = c.reach_asking.new.into in
-    settled_alike (steps_of joint) (bag_of c.in_ok-start.start) (in_hand joint (drop (length copies) copies)) c.args.placed.now c.args.placed.now (flags_in into) (counts_in into) (λ v i. omega (arith, none_in_hand joint copies c.in_ok-start.start (length copies) (omega arith) c.in_ok-start.ensures i)) c.reach_asking.ensures.least
+    let into = c.reach_by.new.into in
+    first_list c.args.joint.now c.args.copies.now c.in_ok-start.start c.in_ok-laying.laying.placed (flags_in into) (counts_in into) c.in_ok-start.ensures record { least = c.reach_by.ensures.least; tally = c.reach_by.ensures.counts }
+
+pub returns-in_err-place_range-clause-steps : goal.returns-in_err-place_range-clause-steps
+returns-in_err-place_range-clause-steps g c =
+    let a = c.args in
+    let begin = c.in_ok-laying.laying in
+    let reach = c.reach_by.ensures in
+    let range = c.place_range.ensures in
+    let into = c.reach_by.new.into in
+    let first = first_list a.joint.now a.copies.now c.in_ok-start.start begin.placed (flags_in into) (counts_in into) c.in_ok-start.ensures record { least = reach.least; tally = reach.counts } in
+    whole_within a.joint.now a.openings.now a.copies.now begin.laid c.place_range.new.laying.laid begin.placed into _ c.reach_by.new.steps _ c.in_ok-laying.ensures.empty (c.in_ok-laying.ensures.laid a.openings.now a.copies.now).table_is
+    reach.kept first.least reach.steps range.each range.runs range.steps
+
+pub returns-clause-steps : goal.returns-clause-steps
+returns-clause-steps g c =
+    let a = c.args in
+    let begin = c.in_ok-laying.laying in
+    let reach = c.reach_by.ensures in
+    let range = c.place_range.ensures in
+    let into = c.reach_by.new.into in
+    let first = first_list a.joint.now a.copies.now c.in_ok-start.start begin.placed (flags_in into) (counts_in into) c.in_ok-start.ensures record { least = reach.least; tally = reach.counts } in
+    whole_within a.joint.now a.openings.now a.copies.now begin.laid c.place_range.new.laying.laid begin.placed into _ c.reach_by.new.steps _ c.in_ok-laying.ensures.empty (c.in_ok-laying.ensures.laid a.openings.now a.copies.now).table_is
+    reach.kept first.least reach.steps range.each range.runs range.steps

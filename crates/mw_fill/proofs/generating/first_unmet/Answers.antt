@@ -10,18 +10,18 @@ use Rattle.mw_reach.proofs.Placing.{placed_for}
 use Rattle.mw_reach.proofs.SameLeast.{IsLeast-same}
 use Rattle.mw_fill.proofs.generating.first_unmet.Goals as goal
 
-pub reach_asking-requires-clause-placed : goal.reach_asking-requires-clause-placed
-reach_asking-requires-clause-placed g c =
+pub reach_by-requires-clause-placed : goal.reach_by-requires-clause-placed
+reach_by-requires-clause-placed g c =
     placed_for c.args.joint.now (subst IsJoint c.joint.view_is c.joint.invariant) (events_of c.args.joint.now) c.in_ok-placed.placed c.in_ok-placed.ensures.value
 
 pub returns-clause-slot : goal.returns-clause-slot
 returns-clause-slot g c =
     let joint = c.args.joint.now in
-    let w = places_in c.reach_asking.new.into in
+    let w = places_in c.reach_by.new.into in
     let bag = c.in_ok-everything.ensures in (
       c.in_ok-placed.placed,
       w,
       c.in_ok-placed.ensures.value,
-      IsLeast-same (steps_of joint) (bag_of c.in_ok-everything.everything) (everything joint.slots) c.in_ok-placed.placed w bag.counts c.reach_asking.ensures.least.least,
-      c.unmet_goal_asking.ensures ∙ unmet_by_counts joint c.in_ok-everything.everything c.in_ok-placed.placed w (counts_in c.reach_asking.new.into) (everything joint.slots) bag.counts c.reach_asking.ensures.least.tally,
+      IsLeast-same (steps_of joint) (bag_of c.in_ok-everything.everything) (everything joint.slots) c.in_ok-placed.placed w bag.counts c.reach_by.ensures.least,
+      c.unmet_goal_by.ensures.slot ∙ unmet_by_counts joint c.in_ok-everything.everything c.in_ok-placed.placed w (counts_in c.reach_by.new.into) (everything joint.slots) bag.counts c.reach_by.ensures.counts,
     )

@@ -1,9 +1,4 @@
-use Rattle.mw_reach.specs.Reached.{IsMadeFor}
-use Rattle.mw_fill.specs.Generated.{AreStuck}
 use Rattle.mw_fill.proofs.generating.generate_by.Given as goal
 
-abbrev pub invariant-loop-stream : goal.invariant-loop-stream
-invariant-loop-stream g l = record {
-  stuck : AreStuck l.joint l.seed l.stream;
-  made : IsMadeFor l.joint l.reached;
-}
+abbrev pub ghosts-count_and_generate : goal.ghosts-count_and_generate
+ghosts-count_and_generate g a = record { name = a.blank.name; parts = a.blank.parts }

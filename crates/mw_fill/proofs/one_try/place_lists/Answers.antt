@@ -2,7 +2,7 @@ use Rattle.std.proofs.Common.{◌≡◌, All, map, sym, ap, subst, ◌∙◌}
 use Rattle.mw_multi.specs.Joint.{IsJoint}
 use Rattle.mw_multi.specs.Placement.{IsPlacement}
 use Rattle.mw_fill.specs.Try.{placement_of}
-use Rattle.mw_fill.specs.Kept.{OpeningKept, end_held}
+use Rattle.mw_fill.specs.Kept.{OpeningKept, IsHeldFor, end_held}
 use Rattle.mw_fill.proofs.Locations.{openings_kept}
 use Rattle.mw_fill.proofs.Trying.{places_within}
 use Rattle.mw_fill.proofs.Ascending.{held_placement, placement_kept}
@@ -11,21 +11,22 @@ use Rattle.mw_fill.proofs.one_try.place_lists.Goals as goal
 pub placement_from-requires : goal.placement_from-requires
 placement_from-requires g c =
     let joint = c.args.joint.now in
-    let end = c.in_ok-place_all.ensures.answer in
+    let end = c.in_ok-held.ensures.answer in
+    let held = subst (IsHeldFor joint end.0) (sym c.as_slice.ensures.value) end.1 in
     let there : All (OpeningKept joint.slots) c.args.openings.now =
     subst (All (OpeningKept joint.slots)) (sym c.requires.openings) (openings_kept joint (subst IsJoint c.joint.view_is c.joint.invariant)) in
-    record { within = places_within joint end.0 c.place_all.new.held c.args.openings.now end.1 there }
+    record { within = places_within joint end.0 c.as_slice.result.now c.args.openings.now held there }
 
 pub returns-clause-answer : goal.returns-clause-answer
 returns-clause-answer g c =
-    let end = c.in_ok-place_all.ensures.answer in
-    let openings = c.requires.openings in
-    (end.0, end.2, c.in_ok-placement.ensures ∙ ap (map (end_held c.place_all.new.held)) openings ∙ held_placement end.0 c.place_all.new.held _ end.1.entries)
+    let end = c.in_ok-held.ensures.answer in
+    let held = subst (IsHeldFor c.args.joint.now end.0) (sym c.as_slice.ensures.value) end.1 in
+    (end.0, end.2, c.in_ok-placement.ensures ∙ ap (map (end_held c.as_slice.result.now)) c.requires.openings ∙ held_placement end.0 c.as_slice.result.now _ held.entries)
 
 pub returns-clause-placement : goal.returns-clause-placement
 returns-clause-placement g c =
     let joint = c.args.joint.now in
-    let end = c.in_ok-place_all.ensures.answer in
-    let openings = c.requires.openings in
-    let is : c.in_ok-placement.placement ≡ placement_of joint end.0 = c.in_ok-placement.ensures ∙ ap (map (end_held c.place_all.new.held)) openings ∙ held_placement end.0 c.place_all.new.held _ end.1.entries in
+    let end = c.in_ok-held.ensures.answer in
+    let held = subst (IsHeldFor joint end.0) (sym c.as_slice.ensures.value) end.1 in
+    let is : c.in_ok-placement.placement ≡ placement_of joint end.0 = c.in_ok-placement.ensures ∙ ap (map (end_held c.as_slice.result.now)) c.requires.openings ∙ held_placement end.0 c.as_slice.result.now _ held.entries in
     subst (IsPlacement joint) (sym is) (placement_kept joint (subst IsJoint c.joint.view_is c.joint.invariant) end.0 end.1.kept)

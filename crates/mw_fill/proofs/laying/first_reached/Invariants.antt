@@ -3,7 +3,7 @@ use Rattle.std.specs.Prelude.{find}
 use Rattle.mw_reach.specs.Reached.{places_in}
 use Rattle.mw_fill.specs.Openings.{accepts}
 use Rattle.mw_fill.specs.Kept.{is_open_in}
-use Rattle.mw_fill.proofs.assumed.first_reached.Given as goal
+use Rattle.mw_fill.proofs.laying.first_reached.Given as goal
 
 -- the locations that are left decide
 abbrev pub invariant-loop-opening : goal.invariant-loop-opening

@@ -3,7 +3,7 @@ use Rattle.mw_multi.specs.Joint.{IsJoint}
 use Rattle.mw_fill.specs.Try.{IsStuck}
 use Rattle.mw_fill.specs.Generated.{IsUnmet}
 use Rattle.mw_fill.proofs.Beaten.{filled_beatable}
-use Rattle.mw_fill.proofs.generating.generate_by.Goals as goal
+use Rattle.mw_fill.proofs.generating.generate_counted.Goals as goal
 
 pub loop-stream-preserved : goal.loop-stream-preserved
 loop-stream-preserved g c =

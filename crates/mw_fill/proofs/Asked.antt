@@ -1,0 +1,209 @@
+-- The asks of a fill, half by half.
+use Rattle.std.proofs.Common.{◌≡◌, ℕ, zero, suc, ◌+◌, ◌-◌, ◌*◌, ◌^◌, ◌≤◌, Bool, false, List, [], ◌∷◌, ◌++◌, All, length, map, take, drop, refl, sym, ap, subst, ◌∙◌, inl, inr, arith, append-nil, take-append-drop}
+use Rattle.std.specs.Prelude.{sum_by}
+use Rattle.std.proofs.Math.Nat.{add-mul, mul-add, mul-div-le}
+use Rattle.std.proofs.lemmas.Bool.{cases_Bool}
+use Rattle.std.proofs.lemmas.List.{drop-drop, drop-map, drop-take, ext_get_or, length-map, length-take, take-map, take-take, take_all}
+use Rattle.std.proofs.lemmas.List.Sums.{sum_by-append, sum_by-cons}
+use Rattle.mw_rules.specs.Holds.{Places, places_of}
+use Rattle.mw_multi.specs.Joint.{Joint, place_total}
+use Rattle.mw_multi.specs.Placement.{Put, IsPlaced}
+use Rattle.mw_multi.specs.Events.{events_of}
+use Rattle.mw_multi.specs.Steps.{Step, steps_of}
+use Rattle.mw_reach.specs.Reach.{Placed, IsLeast, one_if}
+use Rattle.mw_reach.specs.Bound.{asks_allowed, asks_naming, asks_at, new_in, items_named, names_item_at}
+use Rattle.mw_reach.specs.Reached.{IsMadeFor, flags_in, places_in}
+use Rattle.mw_reach.specs.declared.reached.Reached.{Reached}
+use Rattle.mw_fill.specs.Copies.{ItemCopy}
+use Rattle.mw_fill.specs.Openings.{Opening}
+use Rattle.mw_fill.specs.Fill.{in_hand, is_reached, FillRun}
+use Rattle.mw_fill.specs.Asks.{AreRun, AreLists, half_way, asks_of_levels, AsksWithin}
+use Rattle.mw_fill.specs.Laying.{copy_number, laid_put, laid_number, puts_of, numbers_found, numbers_between, IsLaid, RunsOn, asks_more, asks_of_range, RangeWithin}
+use Rattle.mw_fill.specs.declared.laid.Laid.{Laid}
+use Rattle.mw_fill.proofs.Keeping.{least_alike}
+use Rattle.mw_fill.proofs.Determined.{same_places}
+use Rattle.mw_fill.proofs.Existing.{tables_of, lists_of, there_are_lists}
+
+-- ---- what was put
+
+-- the first puts are those of the copies that were put first
+pub front_puts : (front later : List Laid) (puts : List Put) → take (length front) later ≡ front → take (length later) puts ≡ puts_of later → take (length front) puts ≡ puts_of front
+front_puts front later puts same all =
+    let short : length front ≤ length later = omega (arith, ap length same, length-take (length front) later) in
+    sym (take-take (length front) (length later) puts short) ∙ ap (take (length front)) all ∙ take-map laid_put (length front) later ∙ ap (map laid_put) same
+
+-- the numbers of the copies of a half that were put
+pub half_numbers : (copies : List ItemCopy) (laid : List Laid) (from middle : ℕ) → from ≤ middle → length laid ≡ middle → map laid_number laid ≡ take (length laid) (map copy_number copies) → map laid_number (drop from laid) ≡ numbers_between copies from middle
+half_numbers copies laid from middle h is numbers =
+    let sum : middle ≡ from + (middle - from) = omega arith in
+    sym (drop-map laid_number from laid) ∙ ap (drop from) (numbers ∙ ap (λ k. take k (map copy_number copies)) (is ∙ sum)) ∙ drop-take from (middle - from) (map copy_number copies)
+
+-- ---- fewer items
+
+fewer_in_step : (step : Step) (w : Places) (laid : List Laid) → items_named step (numbers_found w laid) ≤ items_named step (map laid_number laid)
+fewer_in_step step w [] = omega arith
+fewer_in_step step w (l ∷ laid) =
+    let f : ℕ → ℕ = λ i. one_if (names_item_at step i) in
+    let all = sum_by-cons f l.number (map laid_number laid) in
+    elim (cases_Bool (w l.put.place)) [
+      | inl here ↦ rw here (omega (arith, all, sum_by-cons f l.number (numbers_found w laid), fewer_in_step step w laid))
+      | inr away ↦ rw away (omega (arith, all, fewer_in_step step w laid))
+    ]
+
+sums_less : {X : Type 0} (f g : X → ℕ) (xs : List X) → ((x : X) → f x ≤ g x) → sum_by f xs ≤ sum_by g xs
+sums_less f g [] h = omega arith
+sums_less f g (x ∷ xs) h = omega (arith, sum_by-cons f x xs, sum_by-cons g x xs, h x, sums_less f g xs h)
+
+-- those that are found name no more than all
+pub fewer_named : (steps : List Step) (w : Places) (laid : List Laid) → asks_naming steps (numbers_found w laid) ≤ asks_naming steps (map laid_number laid)
+fewer_named steps w laid = sums_less (λ step. items_named step (numbers_found w laid)) (λ step. items_named step (map laid_number laid)) steps (λ step. fewer_in_step step w laid)
+
+-- ---- items of two halves
+
+naming_append : (steps : List Step) (is js : List ℕ) → asks_naming steps (is ++ js) ≡ asks_naming steps is + asks_naming steps js
+naming_append [] is js = omega arith
+naming_append (step ∷ steps) is js =
+    let named : List ℕ → ℕ = items_named step in
+    omega (
+      arith,
+      sum_by-cons (λ s. items_named s (is ++ js)) step steps,
+      sum_by-cons (λ s. items_named s is) step steps,
+      sum_by-cons (λ s. items_named s js) step steps,
+      sum_by-append (λ i. one_if (names_item_at step i)) is js,
+      naming_append steps is js,
+    )
+
+both_numbers : (copies : List ItemCopy) (from middle to : ℕ) → from ≤ middle → middle ≤ to → numbers_between copies from to ≡ numbers_between copies from middle ++ numbers_between copies middle to
+both_numbers copies from middle to low high =
+    let rest = drop from (map copy_number copies) in
+    let k = middle - from in
+    let n = to - middle in
+    let whole : to - from ≡ k + n = omega arith in
+    let at : from + k ≡ middle = omega arith in
+    let first : take k (take (k + n) rest) ≡ take k rest = take-take k (k + n) rest (omega arith) in
+    let second : drop k (take (k + n) rest) ≡ take n (drop middle (map copy_number copies)) = drop-take k n rest ∙ ap (take n) (drop-drop k from (map copy_number copies) ∙ ap (λ m. drop m (map copy_number copies)) at) in
+    ap (λ m. take m rest) whole ∙ sym (take-append-drop k (take (k + n) rest)) ∙ ap (λ ns. ns ++ drop k (take (k + n) rest)) first ∙ ap (λ ns. take k rest ++ ns) second
+
+-- ---- halves
+
+-- a range that has room in so many levels has halves that have room in one less
+pub record IsHalved (from middle to levels below : ℕ) : Type 0 where
+  pub one_less : levels ≡ suc below
+  pub first : middle ≤ from + 2 ^ below
+  pub second : to ≤ middle + 2 ^ below
+
+halved : (from to levels : ℕ) → from + 2 ≤ to → to ≤ from + 2 ^ levels → (below : ℕ) × IsHalved from (half_way from to) to levels below
+halved from to zero long few = absurd (omega arith)
+halved from to (suc below) long few = (below, record { one_less = refl; first = omega (arith, mul-div-le (to - from) 2); second = omega (arith, mul-div-le (to - from) 2) })
+
+-- the list with the copies from `to` on in hand, and with those below `from` where they were put
+pub record IsListFor (joint : Joint) (copies : List ItemCopy) (puts : List Put) (from to : ℕ) (table : Placed) (w : List Bool) : Type 0 where
+  pub table_is : IsPlaced joint.slots (events_of joint ++ take from puts) table
+  pub size : length w ≡ place_total joint.slots
+  pub least : IsLeast (steps_of joint) (in_hand joint (drop to copies)) table (places_of w)
+
+module _ (joint : Joint) (copies : List ItemCopy) (puts : List Put) (tables : ℕ → Placed) (lists : ℕ → ℕ → List Bool) (are : AreLists joint copies puts tables lists) where
+  module _ (from to : ℕ) (table : Placed) (w : List Bool) (list : IsListFor joint copies puts from to table w) where
+    pub same_table : table ≡ tables from
+    same_table = let there = are.tables_are from in ext_get_or [] table (tables from) (list.table_is.size ∙ sym there.size) (λ k h. list.table_is.entries k ∙ sym (there.entries k))
+
+    pub same_list : w ≡ lists from to
+    same_list =
+        let steps = steps_of joint in
+        let base = in_hand joint (drop to copies) in
+        let there = are.least from to in
+        let here : IsLeast steps base (tables from) (places_of w) = least_alike joint (events_of joint ++ take from puts) base table (tables from) (places_of w) list.table_is (are.tables_are from) list.least in
+        ext_get_or false w (lists from to) (list.size ∙ sym (are.sizes from to))
+        (λ k h. same_places (places_of w) (places_of (lists from to)) (here.least (places_of (lists from to)) there.closed) (there.least (places_of w) here.closed) k)
+
+  pub first_is : (to : ℕ) (table : Placed) (w : List Bool) → IsListFor joint copies puts 0 to table w → asks_allowed (steps_of joint) table w ≡ asks_allowed (steps_of joint) (tables 0) (lists 0 to)
+  first_is to table w list = rw (same_table 0 to table w list, same_list 0 to table w list) refl
+
+  -- what it costs to go on from one list to the next, by the lists
+  cost_is : (from to next till : ℕ) (table other : Placed) (w later : List Bool) (more : List ℕ) → IsListFor joint copies puts from to other w → IsListFor joint copies puts next till table later
+      → asks_more joint table more w later ≡ asks_naming (steps_of joint) more + asks_at (steps_of joint) (tables next) (new_in (lists from to) (lists next till))
+  cost_is from to next till table other w later more list there = rw (same_table next till table later there, same_list from to other w list, same_list next till table later there) refl
+
+  module _ (from middle to : ℕ) (half : middle ≡ half_way from to) (low : from ≤ middle) (high : middle ≤ to) where
+    abbrev asked_for : ℕ → ℕ → ℕ
+    asked_for k n = asks_naming (steps_of joint) (numbers_between copies k n)
+
+    abbrev new_there : ℕ → ℕ → ℕ
+    new_there k n = asks_at (steps_of joint) (tables k) (new_in (lists from to) (lists k n))
+
+    -- a level more
+    splits : (below : ℕ) → asks_of_range joint copies tables lists (suc below) from to
+        ≡ (asked_for middle to + new_there from middle + asks_of_range joint copies tables lists below from middle) + (asked_for from middle + new_there middle to + asks_of_range joint copies tables lists below middle to)
+    splits below =
+        let naming : asked_for from to ≡ asked_for from middle + asked_for middle to =
+        ap (asks_naming (steps_of joint)) (both_numbers copies from middle to low high) ∙ naming_append (steps_of joint) (numbers_between copies from middle) (numbers_between copies middle to) in
+        let levels : asks_of_levels joint tables lists (suc below) from to
+        ≡ new_there from middle + new_there middle to + (asks_of_levels joint tables lists below from middle + asks_of_levels joint tables lists below middle to) = rw half refl in
+        omega (
+          arith,
+          naming,
+          levels,
+          add-mul 1 below (asked_for from to),
+          ap (λ n. below * n) naming,
+          mul-add below (asked_for from middle) (asked_for middle to),
+        )
+
+    module _ (levels : ℕ) (long : from + 2 ≤ to) (few : to ≤ from + 2 ^ levels) (table : Placed) (w first : List Bool) (whole : IsListFor joint copies puts from to table w) (begun : IsListFor joint copies puts from middle table first)
+        (before held then : ℕ) (holding : held ≤ before + asks_more joint table (numbers_between copies middle to) w first) where
+      room : (below : ℕ) × IsHalved from middle to levels below
+      room = rw half (halved from to levels long few)
+
+      first_cost : asks_more joint table (numbers_between copies middle to) w first ≡ asked_for middle to + new_there from middle
+      first_cost = cost_is from to from middle table table w first (numbers_between copies middle to) whole begun
+
+      -- where the fill ended in the first half
+      pub first_counted : ((below : ℕ) → middle ≤ from + 2 ^ below → then ≤ held + asks_of_range joint copies tables lists below from middle) → then ≤ before + asks_of_range joint copies tables lists levels from to
+      first_counted putting = rw room.1.one_less (omega (arith, splits room.0, first_cost, holding, putting room.0 room.1.first))
+
+      -- where it went on
+      pub both_counted : (second : List Bool) (other : Placed) (found last : ℕ) → IsListFor joint copies puts middle to other second
+          → found ≤ then + asks_more joint other (numbers_between copies from middle) w second
+          → ((below : ℕ) → middle ≤ from + 2 ^ below → then ≤ held + asks_of_range joint copies tables lists below from middle)
+          → ((below : ℕ) → to ≤ middle + 2 ^ below → last ≤ found + asks_of_range joint copies tables lists below middle to) → last ≤ before + asks_of_range joint copies tables lists levels from to
+      both_counted second other found last there finding putting ending =
+          let second_cost = cost_is from to middle to other table w second (numbers_between copies from middle) whole there in
+          rw room.1.one_less (omega (arith, splits room.0, first_cost, second_cost, holding, putting room.0 room.1.first, finding, ending room.0 room.1.second))
+
+-- the list of what was put so far
+pub list_there : (joint : Joint) (copies : List ItemCopy) (puts : List Put) (laid : List Laid) (from to : ℕ) (table : Placed) (w : List Bool) → from ≡ length laid → take (length laid) puts ≡ puts_of laid
+    → IsPlaced joint.slots (events_of joint ++ puts_of laid) table → length w ≡ place_total joint.slots → IsLeast (steps_of joint) (in_hand joint (drop to copies)) table (places_of w) → IsListFor joint copies puts from to table w
+list_there joint copies puts laid from to table w is same placed size least = record { table_is = rw (is, same) placed; size = size; least = least }
+
+-- ---- the whole
+
+are_run : (joint : Joint) (openings : List Opening) (copies : List ItemCopy) (laid : List Laid) → RunsOn joint openings copies laid → AreRun joint openings copies (puts_of laid)
+are_run joint openings copies laid runs = λ out rest. runs out (subst (λ k. FillRun is_reached joint openings (drop k copies) (puts_of laid) out) (length-map laid laid_put) rest)
+
+-- the asks for the first list, and then those within the whole
+pub whole_within : (joint : Joint) (openings : List Opening) (copies : List ItemCopy) (begin laid : List Laid) (table : Placed) (reached : Reached) (before begun last : ℕ) → begin ≡ [] → IsPlaced joint.slots (events_of joint ++ puts_of begin) table
+    → IsMadeFor joint reached → IsLeast (steps_of joint) (in_hand joint (drop (length copies) copies)) table (places_in reached) → begun ≤ before + asks_allowed (steps_of joint) table (flags_in reached)
+    → All (IsLaid joint.slots) laid → RunsOn joint openings copies laid → RangeWithin joint copies laid (length begin) (length copies) begun last → AsksWithin joint openings copies before last
+whole_within joint openings copies begin laid table reached before begun last none placed made least first each runs within =
+    let events : IsPlaced joint.slots (events_of joint) table = subst (λ ps. IsPlaced joint.slots ps table) (append-nil (events_of joint)) (rw none at placed) in
+    let tables = tables_of joint copies laid table reached.work made in
+    let lists = lists_of joint copies laid table reached.work made in
+    let are = there_are_lists joint copies laid table reached.work made events each in
+    let puts = puts_of laid in
+    let w = flags_in reached in
+    inr (
+      puts,
+      tables,
+      lists,
+      are_run joint openings copies laid runs,
+      are,
+      λ levels few.
+          let nothing : List Laid = [] in
+          let list = list_there joint copies puts nothing 0 (length copies) table w refl refl (rw none at placed) made.done least in
+          let first_list : asks_allowed (steps_of joint) table w ≡ asks_allowed (steps_of joint) (tables 0) (lists 0 (length copies)) =
+          first_is joint copies puts tables lists are (length copies) table w list in
+          let all : numbers_between copies 0 (length copies) ≡ map copy_number copies = take_all (length copies - 0) (map copy_number copies) (omega (arith, length-map copies copy_number)) in
+          let same = take_all (length laid) puts (omega (arith, length-map laid laid_put)) in
+          let rest : last ≤ begun + asks_of_range joint copies tables lists levels 0 (length copies) =
+          subst (λ (ls : List Laid). last ≤ begun + asks_of_range joint copies tables lists levels (length ls) (length copies)) none (within levels puts tables lists (omega (arith, few)) same are) in
+          omega (arith, first, first_list, rest, ap (λ ns. levels * asks_naming (steps_of joint) ns) all),
+    )

@@ -1,0 +1,125 @@
+ghost use Rattle.std.specs.Prelude.{◌≡◌, ◌<◌, ◌&&◌, [], None, All, IfOk, find, length};
+ghost use Rattle.mw_reach.specs.Reached.{places_in};
+ghost use Rattle.mw_fill.specs.Openings.{accepts};
+ghost use Rattle.mw_fill.specs.Kept.{IsHeldFor, is_open_in};
+
+use crate::error::FillError;
+use crate::item_copy::ItemCopy;
+use crate::laid::Laid;
+use crate::opening::Opening;
+use mw_base::{List, Memory};
+use mw_multi::{Joint, Placed, Put};
+use mw_reach::Reached;
+use std::alloc::Global;
+
+/// Copies to be put in this order, and the locations to put them at.
+#[derive(Clone, Copy)]
+pub(crate) struct Order<'a> {
+    pub copies: &'a [ItemCopy],
+    /// The copies' numbers over all slots.
+    pub numbers: &'a [u32],
+    pub openings: &'a [Opening],
+}
+
+/// What was put so far.
+#[derive(Drop)]
+pub(crate) struct Laying {
+    /// For each place, what stands there.
+    pub held: Vec<Option<Put>>,
+    /// The same for reach, with the events.
+    pub placed: Placed,
+    /// The copies that were put, in their order.
+    pub laid: List<Laid>,
+}
+
+/// The first of the locations that is free, accepts the copy and is reached.
+fn first_reached(
+    copy: &ItemCopy,
+    openings: &[Opening],
+    held: &[Option<Put>],
+    reached: &Reached,
+) -> Option<Opening>
+    requires within { All (λ s. s.place < length held.now) openings.now }
+    ensures { result ≡ find (is_open_in
+        (λ s. accepts copy.now s && places_in reached.now s.place) held.now) openings.now }
+{
+    for opening in openings {
+        let free = held[opening.place as usize].is_none();
+        if free && (opening.accepts(copy) && reached.has(opening.place)) {
+            return Some(*opening);
+        }
+    }
+    None
+}
+
+/// Nothing at each place of the joint.
+fn nothing_held(alloc: Global, joint: &Joint) -> Result<Vec<Option<Put>>, Memory>
+    ensures { IfOk result (λ held. IsHeldFor joint.now [] held.items) }
+{
+    let held = vec![in alloc; None; joint.place_count() as usize]?;
+    Ok(held)
+}
+
+impl Laying {
+    ghost use Rattle.std.specs.Prelude.{◌≡◌, ◌+◌, ◌<◌, List, All, IfOk, OnOk, MatchResult, [], drop, length, take};
+    ghost use Rattle.mw_reach.specs.Reached.{HasLeast};
+    ghost use Rattle.mw_fill.specs.Copies.{ItemCopy};
+    ghost use Rattle.mw_fill.specs.Openings.{Opening};
+    ghost use Rattle.mw_fill.specs.Fill.{stuck, in_hand, is_reached, FillRun};
+    ghost use Rattle.mw_fill.specs.Laying.{IsLaid, RunsOn, AreOrdered, IsLaying};
+    ghost use Rattle.mw_fill.specs.Answer.{OnStuck};
+
+    /// The events alone; `Memory` where memory ran out.
+    pub(crate) fn new(alloc: Global, joint: &Joint) -> Result<Laying, Memory>
+        ensures empty { IfOk result (λ laying. laying.laid ≡ []) }
+        ensures laid { IfOk result (λ laying. (openings : List Opening) (copies : List ItemCopy)
+            → IsLaying joint.now openings copies laying) }
+    {
+        let held = nothing_held(alloc, joint)?;
+        let placed = Placed::events(alloc, joint)?;
+        let laid = List::new(alloc);
+        Ok(Laying { held, placed, laid })
+    }
+
+    /// Puts the next copy at the first of the locations that is free, accepts it and is reached.
+    pub(crate) fn put_next(
+        &mut self,
+        joint: &Joint,
+        order: &Order,
+        reached: &Reached,
+    ) -> Result<(), FillError>
+        requires order { AreOrdered joint.now.slots order.now.copies.now order.now.numbers.now
+            order.now.openings.now }
+        requires next { length self.old.laid < length order.now.copies.now }
+        requires laid { IsLaying joint.now order.now.openings.now order.now.copies.now self.old }
+        requires least { HasLeast joint.now
+            (in_hand joint.now (drop (length self.old.laid + 1) order.now.copies.now))
+            self.old.placed reached.now }
+        ensures front { take (length self.old.laid) self.new.laid ≡ self.old.laid }
+        ensures each { All (IsLaid joint.now.slots) self.new.laid }
+        ensures runs { RunsOn joint.now order.now.openings.now order.now.copies.now
+            self.new.laid }
+        ensures more { OnOk result (length self.new.laid ≡ length self.old.laid + 1) }
+        ensures answer { MatchResult result
+            (λ _. IsLaying joint.now order.now.openings.now order.now.copies.now self.new)
+            (λ e. OnStuck e (λ slot item. FillRun is_reached joint.now order.now.openings.now
+            order.now.copies.now [] (stuck slot item))) }
+    {
+        // Reading the joint makes known what its type keeps.
+        let _ = &joint.slots;
+        let copies = order.copies;
+        let copy = &copies[self.laid.len()];
+        match first_reached(copy, order.openings, self.held.as_slice(), reached) {
+            None => Err(copy.stuck()),
+            Some(opening) => {
+                let put = copy.put_at(&opening);
+                self.placed.put(joint, put)?;
+                let number = copy.number;
+                self.laid.push(Laid { put, number })?;
+                let held = self.held.as_mut_slice();
+                held[opening.place as usize] = Some(put);
+                Ok(())
+            }
+        }
+    }
+}
