@@ -7,10 +7,11 @@ use Rattle.std.specs.Borrow.{Bor}
 use Rattle.clap.specs.Walk.{texts}
 use Rattle.mw_offline.specs.Checking.{Asked}
 use Rattle.mw_offline.specs.Generating.{Wanted}
-use Rattle.mw_cli.specs.Words.{IsGenerate, IsCheck}
+use Rattle.mw_offline.specs.NewRooms.{RoomFiles}
+use Rattle.mw_cli.specs.Words.{IsGenerate, IsCheck, IsNewRoom}
 use Rattle.mw_cli.specs.Lines.{AsksFor, HasOneMeaning, HasTries}
 use Rattle.mw_cli.specs.declared.command_line.CommandLine.{CommandLine}
-use Rattle.mw_cli.specs.declared.command_line.CommandLine.TheVariants.{Generate, Check, Reach, Drive}
+use Rattle.mw_cli.specs.declared.command_line.CommandLine.TheVariants.{Generate, Check, Reach, NewRoom, Drive}
 
 -- the first of borrowed words
 pub first_text : (words : List (Bor (List ℕ))) (word : Bor (List ℕ)) (name : List ℕ) → Some word ≡ slice_get words 0 → word.now ≡ name → slice_get (texts words) 0 ≡ Some name
@@ -25,12 +26,14 @@ abbrev name_of : CommandLine → List ℕ
 name_of (Generate w) = codes "generate"
 name_of (Check w) = codes "check"
 name_of (Reach w) = codes "reach"
+name_of (NewRoom w) = codes "new-room"
 name_of (Drive w) = codes "drive"
 
 named : (words : List (List ℕ)) (line : CommandLine) → AsksFor words line → slice_get words 0 ≡ Some (name_of line)
 named words (Generate w) h = h.taken.named
 named words (Check w) h = h.taken.named
 named words (Reach w) h = h.taken.named
+named words (NewRoom w) h = h.taken.named
 named words (Drive w) h = h.taken.named
 
 -- what is given is one
@@ -52,6 +55,11 @@ pub only_check : (words : List (List ℕ)) (line : CommandLine) → slice_get wo
 only_check words (Check w) first none asks = none _ asks
 only_check words line first none asks = apart (slice_get words 0) (codes "check") (name_of line) refl first (named words line asks)
 
+-- the same of `new-room`
+pub only_new_room : (words : List (List ℕ)) (line : CommandLine) → slice_get words 0 ≡ Some (codes "new-room") → ((room : RoomFiles) → IsNewRoom words room → ⊥) → AsksFor words line → ⊥
+only_new_room words (NewRoom w) first none asks = none _ asks
+only_new_room words line first none asks = apart (slice_get words 0) (codes "new-room") (name_of line) refl first (named words line asks)
+
 number_one : (o : Option (List ℕ)) (m n : ℕ) → m < 2 ^ 64 → n < 2 ^ 64 → o ≡ Some (decimal m) → o ≡ Some (decimal n) → m ≡ n
 number_one o m n m_small n_small first second = decimal_injective m n m_small n_small (given_one o (decimal m) (decimal n) first second)
 
@@ -69,6 +77,10 @@ asks_one words (Check v) (Check w) p q =
 asks_one words (Reach v) (Reach w) p q =
     let players = given_one _ v.players w.players p.players_given q.players_given in
     λ i. Reach (record { players = players i })
+asks_one words (NewRoom v) (NewRoom w) p q =
+    let multidata = given_one _ v.multidata w.multidata p.multidata q.multidata in
+    let journal = given_one _ v.journal w.journal p.journal q.journal in
+    λ i. NewRoom (record { multidata = multidata i; journal = journal i })
 asks_one words (Drive v) (Drive w) p q =
     let multidata = given_one _ v.multidata w.multidata p.multidata_given q.multidata_given in
     λ i. Drive (record { multidata = multidata i })
@@ -80,4 +92,5 @@ pub has_tries : (words : List (List ℕ)) (line : CommandLine) → AsksFor words
 has_tries words (Generate w) asks = asks.tries_range
 has_tries words (Check w) asks = tt
 has_tries words (Reach w) asks = tt
+has_tries words (NewRoom w) asks = tt
 has_tries words (Drive w) asks = tt

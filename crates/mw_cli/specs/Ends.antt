@@ -5,23 +5,28 @@ use Rattle.mw_offline.specs.Driving.{DriveEnds}
 use Rattle.mw_offline.specs.Reaching.{ReachEnds}
 use Rattle.mw_offline.specs.Generating.{Wrote, wanted_in, GenerateEnds}
 use Rattle.mw_offline.specs.Checking.{asked_in, CheckEnds}
+use Rattle.mw_offline.specs.FilesAround.{FilesAround}
+use Rattle.mw_offline.specs.NewRooms.{room_in, NewRoomEnds}
 use Rattle.mw_cli.specs.Words.{bad_words}
 use Rattle.mw_cli.specs.declared.command_line.CommandLine.{CommandLine}
-use Rattle.mw_cli.specs.declared.command_line.CommandLine.TheVariants.{Generate, Check, Reach, Drive}
+use Rattle.mw_cli.specs.declared.command_line.CommandLine.TheVariants.{Generate, Check, Reach, NewRoom, Drive}
 
--- what the folder's files were and are, the input before and after with what it tells is left, what
+-- what the folder's files were and are and what a crash may leave of them, the input before and after with what it tells is left, what
 -- the out sink held before and after and how often it failed, and what the error sink was told
-pub record Around (S : Type 0) : Type 0 where
+pub record Around (S : Type 0) : Type 1 where
   pub wrote : Wrote
+  pub files : FilesAround
   pub left : S → Option (List ℕ)
   pub input : S
   pub input_after : S
   pub out : Told
   pub told : Told
 
-abbrev pub around : {S : Type 0} → Wrote → (S → Option (List ℕ)) → S → S → Told → Told → Around S
-around wrote left input after out told = record {
+abbrev pub around : {S : Type 0} → Wrote → FilesAround → (S → Option (List ℕ)) → S → S → Told → Told
+    → Around S
+around wrote files left input after out told = record {
   wrote = wrote;
+  files = files;
   left = left;
   input = input;
   input_after = after;
@@ -36,6 +41,7 @@ LineEnds (Check w) status a =
     CheckEnds status a.wrote.before a.wrote.may_fail (asked_in w) a.out a.told
 LineEnds (Reach w) status a =
     ReachEnds status a.wrote.before a.wrote.may_fail w.players a.out a.told
+LineEnds (NewRoom w) status a = NewRoomEnds status a.files (room_in w) a.out a.told
 LineEnds (Drive w) status a =
     DriveEnds a.left status (a.wrote.before w.multidata) a.wrote.may_fail a.input a.input_after a.out
     a.told

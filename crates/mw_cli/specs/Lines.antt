@@ -2,9 +2,10 @@
 use Rattle.std.specs.Prelude.{◌≡◌, ◌≤◌, ℕ, List, ⊤}
 use Rattle.mw_offline.specs.Checking.{Asked}
 use Rattle.mw_offline.specs.Generating.{Wanted}
-use Rattle.mw_cli.specs.Words.{IsGenerate, IsCheck, IsReach, IsDrive}
+use Rattle.mw_offline.specs.NewRooms.{RoomFiles}
+use Rattle.mw_cli.specs.Words.{IsGenerate, IsCheck, IsReach, IsNewRoom, IsDrive}
 use Rattle.mw_cli.specs.declared.command_line.CommandLine.{CommandLine}
-use Rattle.mw_cli.specs.declared.command_line.CommandLine.TheVariants.{Generate, Check, Reach, Drive}
+use Rattle.mw_cli.specs.declared.command_line.CommandLine.TheVariants.{Generate, Check, Reach, NewRoom, Drive}
 
 abbrev pub generate_line : Wanted → CommandLine
 generate_line w = Generate (record { players = w.players; out_name = w.out_name; seed = w.seed; tries = w.tries })
@@ -15,6 +16,9 @@ check_line a = Check (record { players = a.players; multidata = a.multidata })
 abbrev pub reach_line : List ℕ → CommandLine
 reach_line players = Reach (record { players = players })
 
+abbrev pub new_room_line : RoomFiles → CommandLine
+new_room_line room = NewRoom (record { multidata = room.multidata; journal = room.journal })
+
 abbrev pub drive_line : List ℕ → CommandLine
 drive_line multidata = Drive (record { multidata = multidata })
 
@@ -23,6 +27,7 @@ abbrev pub AsksFor : List (List ℕ) → CommandLine → Type 0
 AsksFor words (Generate w) = IsGenerate words (record { players = w.players; out_name = w.out_name; seed = w.seed; tries = w.tries })
 AsksFor words (Check w) = IsCheck words (record { players = w.players; multidata = w.multidata })
 AsksFor words (Reach w) = IsReach words w.players
+AsksFor words (NewRoom w) = IsNewRoom words (record { multidata = w.multidata; journal = w.journal })
 AsksFor words (Drive w) = IsDrive words w.multidata
 
 -- they ask for nothing
@@ -38,4 +43,5 @@ abbrev pub HasTries : CommandLine → Type 0
 HasTries (Generate w) = (1 ≤ w.tries) × (w.tries ≤ 1000)
 HasTries (Check w) = ⊤
 HasTries (Reach w) = ⊤
+HasTries (NewRoom w) = ⊤
 HasTries (Drive w) = ⊤

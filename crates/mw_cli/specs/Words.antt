@@ -4,6 +4,7 @@ use Rattle.clap.specs.Words.{App, Kinds, Rule, fault_of, first_of, matches_of, n
 use Rattle.clap.specs.Simple.{new_shape}
 use Rattle.mw_offline.specs.Checking.{Asked}
 use Rattle.mw_offline.specs.Generating.{Wanted}
+use Rattle.mw_offline.specs.NewRooms.{RoomFiles}
 
 -- ---- the commands, as clap reads their words
 
@@ -41,6 +42,10 @@ check_app = command_app (codes "check") (word_rule (codes "players") ∷ word_ru
 -- `reach PLAYERS`
 abbrev pub reach_app : App
 reach_app = command_app (codes "reach") (word_rule (codes "players") ∷ [])
+
+-- `new-room MULTIDATA JOURNAL`
+abbrev pub new_room_app : App
+new_room_app = command_app (codes "new-room") (word_rule (codes "multidata") ∷ word_rule (codes "journal") ∷ [])
 
 -- `drive MULTIDATA`
 abbrev pub drive_app : App
@@ -81,6 +86,12 @@ pub record IsCheck (words : List (List ℕ)) (asked : Asked) : Type 0 where
 pub record IsReach (words : List (List ℕ)) (players : List ℕ) : Type 0 where
   pub taken : IsTaken reach_app words
   pub players_given : given reach_app words (codes "players") ≡ Some players
+
+-- `new-room` of a seed file and a journal
+pub record IsNewRoom (words : List (List ℕ)) (room : RoomFiles) : Type 0 where
+  pub taken : IsTaken new_room_app words
+  pub multidata : given new_room_app words (codes "multidata") ≡ Some room.multidata
+  pub journal : given new_room_app words (codes "journal") ≡ Some room.journal
 
 -- `drive` of a seed file
 pub record IsDrive (words : List (List ℕ)) (multidata : List ℕ) : Type 0 where

@@ -1,4 +1,4 @@
-use mw_offline::{CheckWords, DriveWords, GenerateWords, ReachWords};
+use mw_offline::{CheckWords, DriveWords, GenerateWords, NewRoomWords, ReachWords};
 
 /// What a command line asks for.
 #[derive(Debug, Drop)]
@@ -9,6 +9,8 @@ pub enum CommandLine {
     Check(CheckWords),
     /// What is reached is to be told.
     Reach(ReachWords),
+    /// A room's journal is to be made.
+    NewRoom(NewRoomWords),
     /// A script is to be run on a room.
     Drive(DriveWords),
 }

@@ -1,7 +1,7 @@
 //! The commands, as `clap` reads their words.
 ghost use Rattle.std.specs.Prelude.{◌≡◌, [], ◌∷◌, IfOk, false, true};
 ghost use Rattle.clap.specs.Words.{app_of, new_rule, rule_of};
-ghost use Rattle.mw_cli.specs.Words.{command_app, word_rule, option_rule, seed_rule, tries_rule, generate_app, check_app, reach_app, drive_app};
+ghost use Rattle.mw_cli.specs.Words.{command_app, word_rule, option_rule, seed_rule, tries_rule, generate_app, check_app, reach_app, new_room_app, drive_app};
 
 use clap::{Arg, Command};
 use std::alloc::{AllocError, Global};
@@ -72,6 +72,15 @@ pub(crate) fn reach_command<'a>(alloc: Global) -> Result<Command<'a>, AllocError
     ensures { IfOk result (λ c. app_of c ≡ reach_app) }
 {
     bare_command(alloc, "reach").arg(word(alloc, "players"))
+}
+
+/// `new-room MULTIDATA JOURNAL`
+pub(crate) fn new_room_command<'a>(alloc: Global) -> Result<Command<'a>, AllocError>
+    ensures { IfOk result (λ c. app_of c ≡ new_room_app) }
+{
+    bare_command(alloc, "new-room")
+        .arg(word(alloc, "multidata"))?
+        .arg(word(alloc, "journal"))
 }
 
 /// `drive MULTIDATA`

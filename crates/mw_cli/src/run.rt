@@ -5,8 +5,10 @@ ghost use Rattle.mw_offline.specs.Driving.{DriveEnds};
 ghost use Rattle.mw_offline.specs.Reaching.{ReachEnds};
 ghost use Rattle.mw_offline.specs.Generating.{Wanted, wrote_by, GenerateEnds};
 ghost use Rattle.mw_offline.specs.Checking.{Asked, CheckEnds};
-ghost use Rattle.mw_cli.specs.Words.{IsGenerate, IsCheck, IsReach, IsDrive};
-ghost use Rattle.mw_cli.specs.Lines.{IsNoCommand, HasTries, generate_line, drive_line};
+ghost use Rattle.mw_offline.specs.FilesAround.{files_around};
+ghost use Rattle.mw_offline.specs.NewRooms.{RoomFiles, NewRoomEnds};
+ghost use Rattle.mw_cli.specs.Words.{IsGenerate, IsCheck, IsReach, IsNewRoom, IsDrive};
+ghost use Rattle.mw_cli.specs.Lines.{IsNoCommand, HasTries, generate_line, new_room_line, drive_line};
 ghost use Rattle.mw_cli.specs.Ends.{around, LineEnds, RefusalEnds};
 
 use crate::command_line::CommandLine;
@@ -14,7 +16,9 @@ use crate::error::WordsError;
 use crate::words::read_words;
 use mw_base::Text;
 use mw_edges::{Folder, Sink, Source};
-use mw_offline::{cmd_check, cmd_drive, cmd_generate, cmd_reach, end_without_memory, tell};
+use mw_offline::{
+    cmd_check, cmd_drive, cmd_generate, cmd_new_room, cmd_reach, end_without_memory, tell,
+};
 use std::alloc::Global;
 
 /// Does what a command line asks for.
@@ -29,6 +33,7 @@ fn run_line<F: Folder, S: Source, O: Sink, E: Sink>(
     requires tries { HasTries line.now }
     ensures ends { LineEnds line.now result
         (around (wrote_by F.holds F.may_fail F.refusals folder.old folder.new)
+        (files_around F.holds F.images F.is_open F.may_fail F.faults folder.old folder.new)
         S.left input.old input.new (told_by O.held O.faults out.old out.new)
         (told_by E.held E.refusals err.old err.new)) }
     ensures input { ((multidata : List ℕ) → line.now ≡ drive_line multidata → ⊥) → input.new
@@ -36,13 +41,15 @@ fn run_line<F: Folder, S: Source, O: Sink, E: Sink>(
     ensures fault { result ≡ 5 → Rose (F.faults folder.old) (F.faults folder.new)
         ⊎ (Rose (S.faults input.old) (S.faults input.new)
         ⊎ Rose (O.faults out.old) (O.faults out.new)) }
-    ensures same { ((wanted : Wanted) → line.now ≡ generate_line wanted → ⊥) → (name : List ℕ)
+    ensures same { ((wanted : Wanted) → line.now ≡ generate_line wanted → ⊥)
+        → ((room : RoomFiles) → line.now ≡ new_room_line room → ⊥) → (name : List ℕ)
         → F.holds folder.new name ≡ F.holds folder.old name }
 {
     match line {
         CommandLine::Generate(words) => cmd_generate(alloc, words, folder, out, err),
         CommandLine::Check(words) => cmd_check(alloc, words, folder, out, err),
         CommandLine::Reach(words) => cmd_reach(alloc, words, folder, out, err),
+        CommandLine::NewRoom(words) => cmd_new_room(alloc, words, folder, out, err),
         CommandLine::Drive(words) => cmd_drive(alloc, words, folder, input, out, err),
     }
 }
@@ -53,12 +60,13 @@ fn run_line<F: Folder, S: Source, O: Sink, E: Sink>(
 /// right. 2: the words are no command. 3: a players file, a world file or their joint is refused,
 /// or no fill is tried, since a goal can't be met or there are more items than locations. 4: each
 /// try is stuck. 5: the folder, the input or the out sink failed. 6: memory ran out. 7: the seed
-/// file or the script is refused. With a status other than 0 the error sink gets that status's
-/// line, or a front of it where it refuses.
+/// file or the script is refused, or a byte stands where a journal was to be made. With a status
+/// other than 0 the error sink gets that status's line, or a front of it where it refuses.
 ///
-/// Of the folder's files `generate` alone changes one, the seed file that its words name: with 0 it
-/// is written; with 5 or 6 it is as it was or is written, or the folder refused to write it; and
-/// else it isn't touched. `drive` alone reads the input, and not where the seed file is refused.
+/// Of the folder's files `generate` changes one, the seed file that its words name: with 0 it is
+/// written; with 5 or 6 it is as it was or is written, or the folder refused to write it; and else
+/// it isn't touched. `new-room` changes one, the journal that its words name, and only where no
+/// byte stands in it and the seed file is accepted. The others change none. `drive` alone reads the input, and not where the seed file is refused.
 #[tactic(auto, using(crate::proofs::Asking::has_tries))]
 pub fn run<F: Folder, S: Source, O: Sink, E: Sink>(
     alloc: Global,
@@ -77,6 +85,10 @@ pub fn run<F: Folder, S: Source, O: Sink, E: Sink>(
     ensures reach { (players : List ℕ) → IsReach words.now players
         → ReachEnds result (F.holds folder.old) (F.may_fail folder.old) players
         (told_by O.held O.faults out.old out.new) (told_by E.held E.refusals err.old err.new) }
+    ensures new_room { (room : RoomFiles) → IsNewRoom words.now room
+        → NewRoomEnds result
+        (files_around F.holds F.images F.is_open F.may_fail F.faults folder.old folder.new) room
+        (told_by O.held O.faults out.old out.new) (told_by E.held E.refusals err.old err.new) }
     ensures drive { (name : List ℕ) → IsDrive words.now name
         → DriveEnds S.left result (F.holds folder.old name) (F.may_fail folder.old) input.old
         input.new (told_by O.held O.faults out.old out.new)
@@ -90,7 +102,8 @@ pub fn run<F: Folder, S: Source, O: Sink, E: Sink>(
     ensures fault { result ≡ 5 → Rose (F.faults folder.old) (F.faults folder.new)
         ⊎ (Rose (S.faults input.old) (S.faults input.new)
         ⊎ Rose (O.faults out.old) (O.faults out.new)) }
-    ensures same { ((wanted : Wanted) → IsGenerate words.now wanted → ⊥) → (name : List ℕ)
+    ensures same { ((wanted : Wanted) → IsGenerate words.now wanted → ⊥)
+        → ((room : RoomFiles) → IsNewRoom words.now room → ⊥) → (name : List ℕ)
         → F.holds folder.new name ≡ F.holds folder.old name }
 {
     match read_words(alloc, words) {

@@ -2,15 +2,18 @@ ghost use Rattle.std.specs.Prelude.{◌≡◌, ℕ, List, Some, IfOk, codes, sli
 ghost use Rattle.clap.specs.Walk.{texts};
 ghost use Rattle.mw_offline.specs.Checking.{Asked};
 ghost use Rattle.mw_offline.specs.Generating.{Wanted};
-ghost use Rattle.mw_cli.specs.Words.{IsGenerate, IsCheck, IsReach, IsDrive};
+ghost use Rattle.mw_offline.specs.NewRooms.{RoomFiles};
+ghost use Rattle.mw_cli.specs.Words.{IsGenerate, IsCheck, IsReach, IsNewRoom, IsDrive};
 ghost use Rattle.mw_cli.specs.Lines.{AsksFor, IsNoCommand, HasOneMeaning};
 
 use crate::arguments::{number, parse, text};
 use crate::command_line::CommandLine;
-use crate::commands::{check_command, drive_command, generate_command, reach_command};
+use crate::commands::{
+    check_command, drive_command, generate_command, new_room_command, reach_command,
+};
 use crate::error::WordsError;
 use mw_base::Text;
-use mw_offline::{CheckWords, DriveWords, GenerateWords, ReachWords};
+use mw_offline::{CheckWords, DriveWords, GenerateWords, NewRoomWords, ReachWords};
 use std::alloc::{AllocError, Global};
 
 /// The words as they are borrowed.
@@ -71,6 +74,22 @@ fn read_reach(alloc: Global, words: &[&str]) -> Result<ReachWords, WordsError>
     })
 }
 
+/// The words of `new-room`.
+fn read_new_room(alloc: Global, words: &[&str]) -> Result<NewRoomWords, WordsError>
+    requires { slice_get (texts words.now) 0 ≡ Some (codes "new-room") }
+    ensures ok { IfOk result
+        (λ w. IsNewRoom (texts words.now)
+        record { multidata = w.multidata; journal = w.journal }) }
+    ensures bad { result ≡ Err WordsError.BadWords → (room : RoomFiles)
+        → IsNewRoom (texts words.now) room → ⊥ }
+{
+    let matches = parse(new_room_command(alloc)?, words)?;
+    Ok(NewRoomWords {
+        multidata: text(alloc, &matches, "multidata")?,
+        journal: text(alloc, &matches, "journal")?,
+    })
+}
+
 /// The words of `drive`.
 fn read_drive(alloc: Global, words: &[&str]) -> Result<DriveWords, WordsError>
     requires { slice_get (texts words.now) 0 ≡ Some (codes "drive") }
@@ -96,6 +115,7 @@ fn read_command(alloc: Global, words: &[&str]) -> Result<CommandLine, WordsError
         "generate" => Ok(CommandLine::Generate(read_generate(alloc, words)?)),
         "check" => Ok(CommandLine::Check(read_check(alloc, words)?)),
         "reach" => Ok(CommandLine::Reach(read_reach(alloc, words)?)),
+        "new-room" => Ok(CommandLine::NewRoom(read_new_room(alloc, words)?)),
         "drive" => Ok(CommandLine::Drive(read_drive(alloc, words)?)),
         _ => Err(WordsError::BadWords),
     }

@@ -14,5 +14,7 @@ pub mod TableCauses
 pub mod Counted
 pub mod Generated
 pub mod SeedReading
+pub mod FirstGates
+pub mod NewRooms
 pub mod Checked
 pub mod OneRun

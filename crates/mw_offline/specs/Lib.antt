@@ -10,5 +10,7 @@ pub mod Tables
 pub mod Reaching
 pub mod Generating
 pub mod Checking
+pub mod FilesAround
+pub mod NewRooms
 pub mod Laws
 pub mod Examples

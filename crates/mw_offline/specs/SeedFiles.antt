@@ -1,10 +1,11 @@
 -- Seed files that are read.
-use Rattle.std.specs.Prelude.{◌++◌, ℕ, List, Option, Ok, Err, Bool, codes, ⊤}
+use Rattle.std.specs.Prelude.{◌≡◌, ◌++◌, ℕ, List, Option, Ok, Err, Bool, codes, ⊤}
 use Rattle.mw_edges.specs.Folders.{GivesFile, MayBeUnread}
 use Rattle.mw_edges.specs.declared.folder.FileRead.TheVariants.{Whole, Longer}
 use Rattle.mw_json.specs.Grammar.{Breach}
 use Rattle.mw_json.specs.Paths.{kind_text, path_text}
 use Rattle.mw_model.specs.Seed.{Seed}
+use Rattle.mw_multidata.specs.Digest.{digest_of}
 use Rattle.mw_multidata.specs.SeedOf.{SeedOf}
 use Rattle.mw_offline.specs.declared.stop.Stop.{Stop}
 use Rattle.mw_offline.specs.declared.stop.Stop.TheVariants.{Fault, Memory, Refused}
@@ -32,6 +33,14 @@ pub record SeedIn (file : Option (Option (List ℕ))) (seed : Seed) : Type 0 whe
   pub bytes : List ℕ
   pub is_file : IsFile file bytes
   pub is : SeedOf bytes (Ok seed)
+
+-- the same, and this is the digest of its bytes
+pub record DigestedIn (file : Option (Option (List ℕ))) (seed : Seed) (digest : List ℕ)
+    : Type 0 where
+  pub bytes : List ℕ
+  pub is_file : IsFile file bytes
+  pub is : SeedOf bytes (Ok seed)
+  pub digested : digest ≡ digest_of bytes
 
 -- why a seed file gives no seed, of a folder that may fail so
 abbrev pub IsSeedStopped : Option (Option (List ℕ)) → Bool → Stop SeedCause → Type 0

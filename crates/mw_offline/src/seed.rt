@@ -1,14 +1,16 @@
 //! Reads a seed file.
 ghost use Rattle.std.specs.Prelude.{◌≡◌, ◌≤◌, ◌≢◌, IfOk, IfErr, ℕ, List, Ok, Some, false, length};
 ghost use Rattle.mw_edges.specs.Causes.{Rose};
+ghost use Rattle.mw_edges.specs.Folders.{SameImages};
+ghost use Rattle.mw_model.specs.Seed.{Seed};
 ghost use Rattle.mw_multidata.specs.SeedOf.{SeedOf};
-ghost use Rattle.mw_offline.specs.SeedFiles.{IsFile, SeedIn, IsSeedStopped, max_seed_file};
+ghost use Rattle.mw_offline.specs.SeedFiles.{DigestedIn, IsFile, SeedIn, IsSeedStopped, max_seed_file};
 
 use crate::seed_cause::SeedCause;
 use crate::stop::Stop;
 use mw_base::{Bytes, Text};
 use mw_edges::{FileRead, Folder, FolderError};
-use mw_multidata::{DataRefusal, Multidata, read};
+use mw_multidata::{DataRefusal, Multidata, digest, read};
 use std::alloc::Global;
 
 /// The greatest length of a seed file, in bytes.
@@ -26,6 +28,8 @@ fn read_bytes<F: Folder>(
     ensures fault { result ≡ Err Stop.Fault → Rose (F.faults folder.old) (F.faults folder.new) }
     ensures later { F.faults folder.old ≤ F.faults folder.new }
     ensures same { (n : List ℕ) → F.holds folder.new n ≡ F.holds folder.old n }
+    ensures crash { (n : List ℕ) → SameImages (F.images folder.old n) (F.images folder.new n) }
+    ensures opened { (n : List ℕ) → F.is_open folder.new n ≡ F.is_open folder.old n }
 {
     match folder.read_file(alloc, name, MAX_SEED_FILE) {
         Ok(FileRead::Whole(bytes)) => Ok(bytes),
@@ -69,4 +73,58 @@ pub(crate) fn read_seed<F: Folder>(
 {
     let bytes = read_bytes(alloc, folder, name)?;
     seed_of(alloc, bytes.as_slice())
+}
+
+/// What a seed file holds, and the SHA-256 of its bytes.
+#[derive(Drop)]
+pub(crate) struct DigestedSeed {
+    /// What it holds.
+    pub(crate) multidata: Multidata,
+    /// The digest.
+    pub(crate) digest: [u8; 32],
+}
+
+/// Reads a seed file, and takes the digest of its bytes.
+#[tactic(auto, using(crate::proofs::SeedReading::unread_seed))]
+pub(crate) fn read_digested<F: Folder>(
+    alloc: Global,
+    folder: &mut F,
+    name: &Text,
+) -> Result<DigestedSeed, Stop<SeedCause>>
+    ensures ok { IfOk result
+        (λ s. DigestedIn (F.holds folder.old name.now) s.multidata s.digest) }
+    ensures err { IfErr result
+        (IsSeedStopped (F.holds folder.old name.now) (F.may_fail folder.old)) }
+    ensures fault { result ≡ Err Stop.Fault → Rose (F.faults folder.old) (F.faults folder.new) }
+    ensures later { F.faults folder.old ≤ F.faults folder.new }
+    ensures same { (n : List ℕ) → F.holds folder.new n ≡ F.holds folder.old n }
+    ensures crash { (n : List ℕ) → SameImages (F.images folder.old n) (F.images folder.new n) }
+    ensures opened { (n : List ℕ) → F.is_open folder.new n ≡ F.is_open folder.old n }
+{
+    let bytes = read_bytes(alloc, folder, name)?;
+    let multidata = seed_of(alloc, bytes.as_slice())?;
+    Ok(DigestedSeed {
+        multidata,
+        digest: digest(bytes.as_slice()),
+    })
+}
+
+/// Reads and judges a seed file, and gives the SHA-256 of its bytes alone.
+pub(crate) fn read_digest<F: Folder>(
+    alloc: Global,
+    folder: &mut F,
+    name: &Text,
+) -> Result<[u8; 32], Stop<SeedCause>>
+    ensures ok { IfOk result
+        (λ digest. (seed : Seed) × DigestedIn (F.holds folder.old name.now) seed digest) }
+    ensures err { IfErr result
+        (IsSeedStopped (F.holds folder.old name.now) (F.may_fail folder.old)) }
+    ensures fault { result ≡ Err Stop.Fault → Rose (F.faults folder.old) (F.faults folder.new) }
+    ensures later { F.faults folder.old ≤ F.faults folder.new }
+    ensures same { (n : List ℕ) → F.holds folder.new n ≡ F.holds folder.old n }
+    ensures crash { (n : List ℕ) → SameImages (F.images folder.old n) (F.images folder.new n) }
+    ensures opened { (n : List ℕ) → F.is_open folder.new n ≡ F.is_open folder.old n }
+{
+    let seed = read_digested(alloc, folder, name)?;
+    Ok(seed.digest)
 }

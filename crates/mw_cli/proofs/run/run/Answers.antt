@@ -1,7 +1,7 @@
 use Rattle.std.proofs.Common.{Err, ap, refl, inl, inr}
 use Rattle.std.proofs.KnownBytes.{Keeps-refl}
 use Rattle.mw_offline.specs.declared.stop.Stop.TheVariants.{Memory}
-use Rattle.mw_cli.specs.Lines.{generate_line, check_line, reach_line, drive_line}
+use Rattle.mw_cli.specs.Lines.{generate_line, check_line, reach_line, new_room_line, drive_line}
 use Rattle.mw_cli.proofs.Asking.{asks_one}
 use Rattle.mw_cli.proofs.run.run.Goals as goal
 
@@ -14,6 +14,9 @@ returns-in-Ok-clause-check g c = λ asked is. rw (asks_one c.args.words.now c.in
 pub returns-in-Ok-clause-reach : goal.returns-in-Ok-clause-reach
 returns-in-Ok-clause-reach g c = λ players is. rw (asks_one c.args.words.now c.in-Ok.line (reach_line players) c.in-Ok.ensures.ok is) at c.run_line.ensures.ends
 
+pub returns-in-Ok-clause-new_room : goal.returns-in-Ok-clause-new_room
+returns-in-Ok-clause-new_room g c = λ room is. rw (asks_one c.args.words.now c.in-Ok.line (new_room_line room) c.in-Ok.ensures.ok is) at c.run_line.ensures.ends
+
 pub returns-in-Ok-clause-drive : goal.returns-in-Ok-clause-drive
 returns-in-Ok-clause-drive g c = λ name is. rw (asks_one c.args.words.now c.in-Ok.line (drive_line name) c.in-Ok.ensures.ok is) at c.run_line.ensures.ends
 
@@ -25,6 +28,9 @@ returns-in-Err-BadWords-clause-check g c = λ asked is. absurd (c.in-Err-BadWord
 
 pub returns-in-Err-BadWords-clause-reach : goal.returns-in-Err-BadWords-clause-reach
 returns-in-Err-BadWords-clause-reach g c = λ players is. absurd (c.in-Err-BadWords.ensures.bad (ap Err c.in-Err-BadWords.field-0-is) (reach_line players) is)
+
+pub returns-in-Err-BadWords-clause-new_room : goal.returns-in-Err-BadWords-clause-new_room
+returns-in-Err-BadWords-clause-new_room g c = λ room is. absurd (c.in-Err-BadWords.ensures.bad (ap Err c.in-Err-BadWords.field-0-is) (new_room_line room) is)
 
 pub returns-in-Err-BadWords-clause-drive : goal.returns-in-Err-BadWords-clause-drive
 returns-in-Err-BadWords-clause-drive g c = λ name is. absurd (c.in-Err-BadWords.ensures.bad (ap Err c.in-Err-BadWords.field-0-is) (drive_line name) is)

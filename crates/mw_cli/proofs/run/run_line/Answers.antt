@@ -1,9 +1,14 @@
 use Rattle.mw_cli.proofs.run.run_line.Goals as goal
 
 pub returns-in-Generate-clause-same : goal.returns-in-Generate-clause-same
-returns-in-Generate-clause-same g c = λ none.
+returns-in-Generate-clause-same g c = λ none _.
     let w = c.in-Generate.words in
     absurd (none (record { players = w.players; out_name = w.out_name; seed = w.seed; tries = w.tries }) c.in-Generate.is)
+
+pub returns-in-NewRoom-clause-same : goal.returns-in-NewRoom-clause-same
+returns-in-NewRoom-clause-same g c = λ _ none.
+    let w = c.in-NewRoom.words in
+    absurd (none (record { multidata = w.multidata; journal = w.journal }) c.in-NewRoom.is)
 
 pub returns-in-Drive-clause-input : goal.returns-in-Drive-clause-input
 returns-in-Drive-clause-input g c = λ none. absurd (none c.in-Drive.words.multidata c.in-Drive.is)
@@ -16,6 +21,9 @@ returns-in-Check-clause-ends g c = rw c.in-Check.is c.cmd_check.ensures.ends
 
 pub returns-in-Reach-clause-ends : goal.returns-in-Reach-clause-ends
 returns-in-Reach-clause-ends g c = rw c.in-Reach.is c.cmd_reach.ensures.ends
+
+pub returns-in-NewRoom-clause-ends : goal.returns-in-NewRoom-clause-ends
+returns-in-NewRoom-clause-ends g c = rw c.in-NewRoom.is c.cmd_new_room.ensures.ends
 
 pub returns-in-Drive-clause-ends : goal.returns-in-Drive-clause-ends
 returns-in-Drive-clause-ends g c = rw c.in-Drive.is c.cmd_drive.ensures.ends

@@ -1,0 +1,144 @@
+//! The command `new-room`.
+ghost use Rattle.std.specs.Prelude.{◌≡◌, ◌≢◌, ◌≤◌, ◌⊎◌, ℕ, List, [], Some, IfErr, OnOk};
+ghost use Rattle.mw_edges.specs.Causes.{Rose};
+ghost use Rattle.mw_journal.specs.Opening.{RefusesCreate};
+ghost use Rattle.mw_journal.specs.Reads.{OnlyReads};
+ghost use Rattle.mw_journal.specs.Settled.{AllShut};
+ghost use Rattle.mw_offline.specs.Ends.{HasLeft, told_by};
+ghost use Rattle.mw_offline.specs.FilesAround.{files_around, OthersStay, IsOnlyRead};
+ghost use Rattle.mw_offline.specs.NewRooms.{IsEmpty, ShowsByte, HasJournalCause, HasRoomCause};
+ghost use Rattle.mw_offline.specs.NewRooms.{room_in, NoRoom, MakesSome, MakesRoom, NewRoomEnds};
+
+use crate::room_cause::{RoomCause, room_stop};
+use crate::seed::read_digest;
+use crate::stop::{Stop, end};
+use crate::telling::put_text;
+use mw_base::Text;
+use mw_disk::Disk;
+use mw_edges::{Folder, FolderError, Sink};
+use mw_journal::{OpenError, create};
+use std::alloc::Global;
+
+/// The words of `new-room`.
+#[derive(Debug, Drop)]
+pub struct NewRoomWords {
+    /// The seed file's name.
+    pub multidata: Text,
+    /// The journal's name.
+    pub journal: Text,
+}
+
+/// Makes an empty journal on a disk, and gives the disk back.
+#[tactic(auto, using(crate::proofs::FirstGates::all_first))]
+fn create_on<D: Disk>(alloc: Global, disk: D, digest: &[u8; 32]) -> (D, Result<(), OpenError>)
+    ensures ok { OnOk result.1 (AllShut (D.may_leave result.0) digest.now [] 40) }
+    ensures empty { OnOk result.1 ((f : List ℕ) → D.told disk ≡ Some f → f ≡ []) }
+    ensures refused { IfErr result.1
+        (RefusesCreate (D.told disk) (D.faults disk) (D.faults result.0)) }
+    ensures count { D.faults disk ≤ D.faults result.0 }
+    ensures kept { result.1 ≡ Err OpenError.NotEmpty → OnlyReads D.told D.may_leave D.moment
+        D.left_since D.faults disk result.0 }
+    ensures bytes { (f : List ℕ) → D.told disk ≡ Some f → f ≢ [] → OnlyReads D.told D.may_leave
+        D.moment D.left_since D.faults disk result.0 }
+{
+    match create(alloc, disk, digest) {
+        Ok(journal) => (journal.into_disk(), Ok(())),
+        Err((disk, error)) => (disk, Err(error)),
+    }
+}
+
+/// Makes an empty journal in a file without bytes, or in one that isn't there. Its disk is closed
+/// again.
+fn make_journal<F: Folder>(
+    alloc: Global,
+    folder: &mut F,
+    name: &Text,
+    digest: &[u8; 32],
+) -> Result<(), Stop<RoomCause>>
+    ensures ok { OnOk result (AllShut (F.images folder.new name.now) digest.now [] 40) }
+    ensures empty { OnOk result (IsEmpty (F.holds folder.old name.now)) }
+    ensures refused { IfErr result (HasJournalCause (F.holds folder.old name.now)) }
+    ensures fault { result ≡ Err Stop.Fault → Rose (F.faults folder.old) (F.faults folder.new) }
+    ensures later { F.faults folder.old ≤ F.faults folder.new }
+    ensures kept { result ≡ Err (Stop.Refused RoomCause.NotEmpty)
+        → IsOnlyRead (files_around F.holds F.images F.is_open F.may_fail F.faults
+        folder.old folder.new) name.now }
+    ensures bytes { ShowsByte (F.holds folder.old name.now)
+        → IsOnlyRead (files_around F.holds F.images F.is_open F.may_fail F.faults
+        folder.old folder.new) name.now }
+    ensures others { OthersStay (files_around F.holds F.images F.is_open F.may_fail F.faults
+        folder.old folder.new) name.now }
+{
+    let disk = match folder.open_disk(alloc, name) {
+        Ok(disk) => disk,
+        Err(FolderError::Failed) => return Err(Stop::Fault),
+        Err(FolderError::Memory) => return Err(Stop::Memory),
+    };
+    let (disk, created) = create_on(alloc, disk, digest);
+    folder.close_disk(name, disk);
+    match created {
+        Ok(()) => Ok(()),
+        Err(error) => Err(room_stop(error)),
+    }
+}
+
+/// Does all that `new-room` does but for its error line.
+fn new_room<F: Folder, O: Sink>(
+    alloc: Global,
+    words: &NewRoomWords,
+    folder: &mut F,
+    out: &mut O,
+) -> Result<(), Stop<RoomCause>>
+    ensures done { OnOk result
+        (MakesRoom (files_around F.holds F.images F.is_open F.may_fail F.faults
+        folder.old folder.new) (room_in words.now) (O.held out.old) (O.held out.new)) }
+    ensures left { IfErr result
+        (HasLeft (HasRoomCause (files_around F.holds F.images F.is_open F.may_fail F.faults
+        folder.old folder.new) (room_in words.now))
+        (NoRoom (files_around F.holds F.images F.is_open F.may_fail F.faults
+        folder.old folder.new) (room_in words.now) (O.held out.old) (O.held out.new))
+        (MakesSome (files_around F.holds F.images F.is_open F.may_fail F.faults
+        folder.old folder.new) (room_in words.now) (O.held out.old) (O.held out.new))
+        (Rose (F.faults folder.old) (F.faults folder.new)
+        ⊎ Rose (O.faults out.old) (O.faults out.new))) }
+    ensures fault { result ≡ Err Stop.Fault
+        → Rose (F.faults folder.old) (F.faults folder.new)
+        ⊎ Rose (O.faults out.old) (O.faults out.new) }
+    ensures others { OthersStay (files_around F.holds F.images F.is_open F.may_fail F.faults
+        folder.old folder.new) words.now.journal }
+    ensures bytes { ShowsByte (F.holds folder.old words.now.journal)
+        → IsOnlyRead (files_around F.holds F.images F.is_open F.may_fail F.faults
+        folder.old folder.new) words.now.journal }
+{
+    let digest = read_digest(alloc, folder, &words.multidata)?;
+    make_journal(alloc, folder, &words.journal, &digest)?;
+    put_text(out, "room made\n")
+}
+
+/// Makes an empty journal for a seed file, in a file without bytes or in one that isn't there, and
+/// prints that.
+///
+/// The status is 0 where all is done: whatever a crash then leaves of the journal's file stands for
+/// no records of that seed file. It is 5 where the folder, the journal's disk or the out sink
+/// failed; 6 where memory ran out; 7 where the seed file is refused, and then the journal's file
+/// isn't touched, or where a byte stands in that file. Where one does nothing is written, whatever
+/// the status is. With a status other than 0 the error sink gets that status's line, or a front of
+/// it where it refuses.
+pub fn cmd_new_room<F: Folder, O: Sink, E: Sink>(
+    alloc: Global,
+    words: &NewRoomWords,
+    folder: &mut F,
+    out: &mut O,
+    err: &mut E,
+) -> u8
+    ensures ends { NewRoomEnds result
+        (files_around F.holds F.images F.is_open F.may_fail F.faults folder.old folder.new)
+        (room_in words.now) (told_by O.held O.faults out.old out.new)
+        (told_by E.held E.refusals err.old err.new) }
+    ensures fault { result ≡ 5
+        → Rose (F.faults folder.old) (F.faults folder.new)
+        ⊎ Rose (O.faults out.old) (O.faults out.new) }
+{
+    let outcome = new_room(alloc, words, folder, out);
+    end(alloc, err, outcome)
+}
