@@ -64,6 +64,8 @@ mod harness;
 #[cfg(test)]
 mod large_tests;
 #[cfg(test)]
+mod new_room_tests;
+#[cfg(test)]
 mod overrun_tests;
 #[cfg(test)]
 mod permission_tests;

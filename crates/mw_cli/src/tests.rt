@@ -14,7 +14,7 @@ pub(crate) const ROOM_A: &str =
     r#"{"format":"mw-multidata-1","games":{"G":{"item_name_to_id":{"Boots":5,"Coin":8,"Map":9,"Sword":7},"location_name_to_id":{"A1":101,"A2":102,"B1":201}}},"locations":[[1,101,7,2,1],[1,102,8,1,0],[2,201,9,1,2]],"seed_name":"A","server":{"collect":"goal","hint_cost":10,"location_check_points":1,"password":"","release":"goal","remaining":"goal"},"slots":[{"game":"G","names":["Ann"],"start":[[5,0]]},{"game":"G","names":["Bob"],"start":[]}],"spheres":[],"teams":1}"#;
 
 /// A folder that has this file as `A`, whose call of this number fails.
-fn folder_of(alloc: Global, file: &[u8], failing: u64) -> Result<MemoryFolder, Fail> {
+pub(crate) fn folder_of(alloc: Global, file: &[u8], failing: u64) -> Result<MemoryFolder, Fail> {
     let mut files = List::new(alloc);
     add_file(alloc, &mut files, "A", file)?;
     Ok(MemoryFolder::new(files, faults(alloc, failing)?))

@@ -31,11 +31,16 @@ fn told(alloc: Global, words: &str) -> Result<String, Fail> {
             w.multidata.as_str()
         )?,
         CommandLine::Reach(w) => format!(in alloc; "reach <{}>", w.players.as_str())?,
+        CommandLine::NewRoom(w) => format!(in alloc;
+            "new-room <{}> <{}>",
+            w.multidata.as_str(),
+            w.journal.as_str()
+        )?,
         CommandLine::Drive(w) => format!(in alloc; "drive <{}>", w.multidata.as_str())?,
     })
 }
 
-const ROWS: [(&str, &str); 46] = [
+const ROWS: [(&str, &str); 50] = [
     ("fly", "bad words"),
     ("", "bad words"),
     ("generate", "bad words"),
@@ -92,6 +97,10 @@ const ROWS: [(&str, &str); 46] = [
     ("reach ", "reach <>"),
     ("reach -", "reach <->"),
     ("reach -p", "bad words"),
+    ("new-room", "bad words"),
+    ("new-room A", "bad words"),
+    ("new-room A J", "new-room <A> <J>"),
+    ("new-room A J K", "bad words"),
     ("drive", "bad words"),
     ("drive A", "drive <A>"),
     ("drive -- A", "drive <A>"),
