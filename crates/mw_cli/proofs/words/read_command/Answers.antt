@@ -11,6 +11,6 @@ pub returns-in_err-read_check-in-check-clause-bad : goal.returns-in_err-read_che
 returns-in_err-read_check-in-check-clause-bad c = λ is line.
     only_check (texts c.args.words.now) line (first_text c.args.words.now c.in-Some.command.now _ c.in-Some.ensures.value c.in-check.is) (search rules)
 
-pub returns-in_err-read_new_room-in-new-room-clause-bad : goal.returns-in_err-read_new_room-in-new-room-clause-bad
-returns-in_err-read_new_room-in-new-room-clause-bad c = λ is line.
-    only_new_room (texts c.args.words.now) line (first_text c.args.words.now c.in-Some.command.now _ c.in-Some.ensures.value c.in-new-room.is) (search rules)
+pub returns-in_err-read_new_room-in-text-clause-bad : goal.returns-in_err-read_new_room-in-text-clause-bad
+returns-in_err-read_new_room-in-text-clause-bad c = λ is line.
+    only_new_room (texts c.args.words.now) line (first_text c.args.words.now c.in-Some.command.now _ c.in-Some.ensures.value c.in-text.is) (search rules)
