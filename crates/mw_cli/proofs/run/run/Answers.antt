@@ -1,7 +1,7 @@
-use Rattle.std.proofs.Common.{Err, ap, refl, inl, inr}
+use Rattle.std.proofs.Common.{Err, ap, refl, subst, inl, inr}
 use Rattle.std.proofs.KnownBytes.{Keeps-refl}
 use Rattle.mw_offline.specs.declared.stop.Stop.TheVariants.{Memory}
-use Rattle.mw_cli.specs.Lines.{generate_line, check_line, reach_line, new_room_line, drive_line}
+use Rattle.mw_cli.specs.Lines.{AsksFor, generate_line, check_line, reach_line, new_room_line, drive_line}
 use Rattle.mw_cli.proofs.Asking.{asks_one}
 use Rattle.mw_cli.proofs.run.run.Goals as goal
 
@@ -53,3 +53,9 @@ returns-in-Err-Memory-clause-drive g c = λ _ _.
 
 pub returns-in-Err-BadWords-clause-other : goal.returns-in-Err-BadWords-clause-other
 returns-in-Err-BadWords-clause-other g c = λ _. (refl, refl, inl (refl, c.tell.ensures))
+
+-- a line of another command is neither of the two that change a file
+pub returns-in-Ok-clause-same : goal.returns-in-Ok-clause-same
+returns-in-Ok-clause-same g c = λ no_seed no_room.
+    let asks = c.in-Ok.ensures.ok in
+    c.run_line.ensures.same (λ wanted is. no_seed wanted (subst (AsksFor c.args.words.now) is asks)) (λ room is. no_room room (subst (AsksFor c.args.words.now) is asks))
