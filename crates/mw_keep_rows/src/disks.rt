@@ -1,0 +1,59 @@
+use mw_base::{Bytes, List};
+use mw_disk::{DiskError, MemDisk};
+use mw_journal::{Journal, create};
+use mw_keep::{KeptRoom, recover};
+use mw_multidata::digest;
+use mw_room_a::ROOM_A;
+use std::alloc::Global;
+use std::test::Fail;
+
+/// The plan that the call of a number fails, if one is given.
+fn plan_of(alloc: Global, failing: Option<u64>) -> Result<List<(u64, DiskError)>, Fail> {
+    let mut plan = List::new(alloc);
+    if let Some(number) = failing {
+        plan.push((number, DiskError::Failed))?;
+    }
+    Ok(plan)
+}
+
+/// A disk of these bytes, on which the call of a number fails, if one is given.
+pub(crate) fn disk_of(alloc: Global, bytes: &[u8], failing: Option<u64>) -> Result<MemDisk, Fail> {
+    let plan = plan_of(alloc, failing)?;
+    let start = Bytes::from_vec(Vec::from_slice(alloc, bytes)?);
+    Ok(MemDisk::new(alloc, start, plan)?)
+}
+
+/// A new journal of the seed file.
+fn created(alloc: Global, disk: MemDisk) -> Result<Journal<MemDisk>, Fail> {
+    match create(alloc, disk, &digest(ROOM_A.as_bytes())) {
+        Ok(journal) => Ok(journal),
+        Err((_, error)) => Err(Fail::from(error)),
+    }
+}
+
+/// The bytes of a new journal of the seed file.
+pub(crate) fn new_journal(alloc: Global) -> Result<Vec<u8>, Fail> {
+    let disk = created(alloc, disk_of(alloc, b"", None)?)?.into_disk();
+    Ok(Vec::from_slice(alloc, disk.bytes())?)
+}
+
+/// The room that a disk keeps.
+fn recovered(alloc: Global, disk: MemDisk) -> Option<KeptRoom<MemDisk>> {
+    recover(alloc, disk, ROOM_A.as_bytes()).ok()
+}
+
+/// The room that a disk of these bytes keeps.
+pub(crate) fn kept_room(
+    alloc: Global,
+    bytes: &[u8],
+    failing: Option<u64>,
+) -> Result<KeptRoom<MemDisk>, Fail> {
+    let disk = disk_of(alloc, bytes, failing)?;
+    Ok(recovered(alloc, disk).ok_or("no room")?)
+}
+
+/// A new room.
+pub(crate) fn new_room(alloc: Global, failing: Option<u64>) -> Result<KeptRoom<MemDisk>, Fail> {
+    let bytes = new_journal(alloc)?;
+    kept_room(alloc, bytes.as_slice(), failing)
+}
