@@ -60,8 +60,9 @@ fn played_disk(alloc: Global) -> Result<MemDisk, Fail> {
     Ok(room.into_disk())
 }
 
+/// An event commits before it is done, so a check comes back after a crash that no commit precedes.
 #[test]
-fn checks_come_back_after_a_crash(rt: HostRuntime) -> Result<(), Fail> {
+fn crash_before_commit(rt: HostRuntime) -> Result<(), Fail> {
     let disk = played_disk(rt.alloc())?;
     let item =
         r#"{"cmd":"ReceivedItems","index":0,"items":[{"class":"NetworkItem","flags":1,"item":7,"location":101,"player":1}]}"#;
@@ -153,7 +154,7 @@ fn stopped_disk(alloc: Global) -> Result<(bool, MemDisk), Fail> {
 }
 
 #[test]
-fn a_second_sync_that_fails_stops_a_room(rt: HostRuntime) -> Result<(), Fail> {
+fn second_sync_fails(rt: HostRuntime) -> Result<(), Fail> {
     let (stopped, disk) = stopped_disk(rt.alloc())?;
     assert!(rt; stopped);
     for tear in TEARS {
