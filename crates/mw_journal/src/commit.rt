@@ -1,4 +1,4 @@
-ghost use Rattle.std.specs.Prelude.{◌≡◌, ◌+◌, ◌<◌, ◌≤◌, ◌^◌, ◌∷◌, ◌++◌, [], ℕ, List, length, OnOk, IfOk};
+ghost use Rattle.std.specs.Prelude.{◌≡◌, ◌+◌, ◌<◌, ◌≤◌, ◌^◌, ◌∷◌, ◌++◌, [], ℕ, List, length, is_some, OnOk, IfOk};
 ghost use Rattle.mw_disk.specs.Causes.{HasCause};
 ghost use Rattle.mw_disk.specs.Crash.{LeavesOnly};
 ghost use Rattle.mw_journal.specs.Image.{measured};
@@ -42,6 +42,7 @@ pub(crate) fn commit<D: Disk>(
         → AllShut (D.may_leave disk.old) digest text place
         → AllShut (D.may_leave disk.new) digest (text ++ _body.now)
         (place + 5 + length _body.now)) }
+    ensures tells { is_some (D.told disk.new) ≡ is_some (D.told disk.old) }
     ensures cause { HasCause (D.faults disk.old) (D.faults disk.new) result }
 {
     put_safely(disk, place + 1, bytes)?;

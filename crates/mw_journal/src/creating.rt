@@ -1,6 +1,6 @@
-ghost use Rattle.std.specs.Prelude.{◌≡◌, ◌≢◌, ◌<◌, ◌≤◌, [], MatchResult, ℕ, List, IfOk, IfErr, OnOk, IsErrOf, Some};
+ghost use Rattle.std.specs.Prelude.{◌≡◌, ◌≢◌, ◌<◌, ◌≤◌, [], MatchResult, ℕ, List, IfOk, IfErr, OnOk, IsErrOf, Some, is_some};
 ghost use Rattle.mw_journal.specs.Opening.{RefusesCreate, open_error_of};
-ghost use Rattle.mw_journal.specs.Journal.{StandsFor, disk_of};
+ghost use Rattle.mw_journal.specs.Journal.{StandsFor, disk_of, gate_of};
 ghost use Rattle.mw_journal.specs.Reads.{OnlyReads};
 ghost use Rattle.mw_journal.specs.Settled.{AllShut};
 
@@ -27,6 +27,7 @@ fn write_empty<D: Disk>(alloc: Global, disk: &mut D, digest: &[u8; 32]) -> Resul
     ensures empty { OnOk result ((f : List ℕ) → D.told disk.old ≡ Some f → f ≡ []) }
     ensures refused { IfErr result
         (RefusesCreate (D.told disk.old) (D.faults disk.old) (D.faults disk.new)) }
+    ensures tells { is_some (D.told disk.new) ≡ is_some (D.told disk.old) }
     ensures count { D.faults disk.old ≤ D.faults disk.new }
     ensures kept { IsErrOf result OpenError.NotEmpty → OnlyReads D.told D.may_leave D.moment
         D.left_since D.faults disk.old disk.new }
@@ -50,7 +51,7 @@ fn write_empty<D: Disk>(alloc: Global, disk: &mut D, digest: &[u8; 32]) -> Resul
     }
 }
 
-/// Makes an empty journal of a seed file's digest, on a disk without bytes.
+/// Makes an empty journal of a seed file's digest, on a disk without bytes. Its gate is at 40.
 ///
 /// `NotEmpty` comes exactly where a byte stands. Where one does nothing is written, whatever is
 /// answered. `DiskFault` comes only where the disk's count rose.
@@ -60,6 +61,8 @@ pub fn create<D: Disk>(
     digest: &[u8; 32],
 ) -> Result<Journal<D>, (D, OpenError)>
     ensures ok { IfOk result (StandsFor D.may_leave digest.now []) }
+    ensures gate { IfOk result (λ j. gate_of j ≡ 40) }
+    ensures tells { IfOk result (λ j. is_some (D.told (disk_of j)) ≡ is_some (D.told disk)) }
     ensures empty { OnOk result ((f : List ℕ) → D.told disk ≡ Some f → f ≡ []) }
     ensures refused { IfErr result (λ e.
         RefusesCreate (D.told disk) (D.faults disk) (D.faults e.0) e.1) }

@@ -1,4 +1,4 @@
-ghost use Rattle.std.specs.Prelude.{◌≡◌, ◌≤◌, ◌<◌, ◌+◌, ◌^◌, ◌++◌, ◌⊎◌, [], ℕ, List, length, OnOk, OnErr, IfOk, IfErr, IsErrOf};
+ghost use Rattle.std.specs.Prelude.{◌≡◌, ◌≤◌, ◌<◌, ◌+◌, ◌^◌, ◌++◌, ◌⊎◌, [], ℕ, List, length, is_some, OnOk, OnErr, IfOk, IfErr, IsErrOf};
 ghost use Rattle.mw_disk.specs.Crash.{LeavesOnly};
 ghost use Rattle.mw_journal.specs.Settled.{IsSettled};
 
@@ -71,7 +71,8 @@ impl<D: Disk> Journal<D> {
         disk
     }
 
-    /// Appends a body as one batch: two writes, each made safe by a sync.
+    /// Appends a body as one batch: two writes, each made safe by a sync. A disk that tells its bytes
+    /// goes on to tell them.
     ///
     /// At each moment of the call a crash leaves the text with the body or without it, and after Ok
     /// with it.
@@ -97,6 +98,7 @@ impl<D: Disk> Journal<D> {
         ensures fault { IsErrOf result AppendError.DiskFault
             → (D.faults (disk_of self.old) < D.faults (disk_of self.new))
             ⊎ (state_of self.old ≡ JournalState.Faulted) }
+        ensures tells { is_some (D.told (disk_of self.new)) ≡ is_some (D.told (disk_of self.old)) }
         ensures count { D.faults (disk_of self.old) ≤ D.faults (disk_of self.new) }
         ensures state { Leaves result (IsSame self.old self.new)
             (state_of self.old) (state_of self.new) }

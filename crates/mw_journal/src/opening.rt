@@ -1,4 +1,4 @@
-ghost use Rattle.std.specs.Prelude.{◌≡◌, ◌≢◌, ◌<◌, ◌≤◌, ◌^◌, ◌⊎◌, ◌++◌, ℕ, List, IfOk, IfErr, OnOk, MatchResult, Some};
+ghost use Rattle.std.specs.Prelude.{◌≡◌, ◌≢◌, ◌<◌, ◌≤◌, ◌^◌, ◌⊎◌, ◌++◌, ℕ, List, IfOk, IfErr, OnOk, MatchResult, Some, is_some};
 ghost use Rattle.mw_disk.specs.Crash.{LeavesOnly, OnlyTold};
 ghost use Rattle.mw_journal.specs.Image.{IsShut, StandsAt};
 ghost use Rattle.mw_journal.specs.Opening.{RefusesOpen, IsOfBytes, IsOutside};
@@ -46,6 +46,7 @@ fn open_bytes<D: Disk>(alloc: Global, disk: &mut D, digest: &[u8; 32]) -> Result
         (D.faults disk.old) (D.faults disk.new)) }
     ensures read { IfErr result (λ e. IsOfBytes e → OnlyReads D.told D.may_leave D.moment
         D.left_since D.faults disk.old disk.new) }
+    ensures tells { is_some (D.told disk.new) ≡ is_some (D.told disk.old) }
     ensures count { D.faults disk.old ≤ D.faults disk.new }
 {
     let found = match look(alloc, disk, digest) {
@@ -67,7 +68,7 @@ fn open_bytes<D: Disk>(alloc: Global, disk: &mut D, digest: &[u8; 32]) -> Result
 /// Where the first gate that isn't open isn't 0, it is written 0. At each moment of the call a
 /// crash leaves what it might have left before: a settled journal stays settled. It then gives the
 /// text, or the text and the batch whose append was cut short, and each image of the disk stands
-/// for just that.
+/// for just that. A disk that tells its bytes goes on to tell them.
 ///
 /// `NotJournal` and `OtherSeed` come exactly where the bytes are no journal or another seed's, and
 /// then nothing is written. `DiskFault` comes only where the disk's count rose.
@@ -91,6 +92,7 @@ pub fn open<D: Disk>(
         (D.faults disk) (D.faults e.0) e.1) }
     ensures read { IfErr result (λ e. IsOfBytes e.1 → OnlyReads D.told D.may_leave D.moment
         D.left_since D.faults disk e.0) }
+    ensures tells { is_some (D.told (disk_after result)) ≡ is_some (D.told disk) }
     ensures count { D.faults disk ≤ D.faults (disk_after result) }
     ensures settled { IfErr result (λ e. (f text body : List ℕ) → D.told disk ≡ Some f
         → AllSettled (D.may_leave disk) digest.now text body → IsOutside e.1) }

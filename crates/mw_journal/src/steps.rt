@@ -1,4 +1,4 @@
-ghost use Rattle.std.specs.Prelude.{◌≡◌, length, OnOk};
+ghost use Rattle.std.specs.Prelude.{◌≡◌, length, is_some, OnOk};
 ghost use Rattle.std.specs.Option.{option_map};
 ghost use Rattle.mw_disk.specs.Causes.{HasCause};
 ghost use Rattle.mw_disk.specs.Crash.{IsTorn, LeavesOnly, OnlyTold};
@@ -13,6 +13,7 @@ pub(crate) fn put_safely<D: Disk>(disk: &mut D, at: u64, bytes: &[u8]) -> Result
     ensures written { OnOk result
         (D.told disk.new ≡ option_map (written at bytes.now) (D.told disk.old)) }
     ensures safe { OnOk result (OnlyTold (D.told disk.new) (D.may_leave disk.new)) }
+    ensures tells { is_some (D.told disk.new) ≡ is_some (D.told disk.old) }
     ensures cause { HasCause (D.faults disk.old) (D.faults disk.new) result }
 {
     disk.write_at(at, bytes)?;

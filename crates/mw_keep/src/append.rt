@@ -1,4 +1,4 @@
-ghost use Rattle.std.specs.Prelude.{◌≡◌, ◌≤◌, [], ℕ, List, IfOk, OnOk, None, map};
+ghost use Rattle.std.specs.Prelude.{◌≡◌, ◌≤◌, [], ℕ, List, IfOk, OnOk, None, is_some, map};
 ghost use Rattle.mw_protocol.specs.Records as plain;
 ghost use Rattle.mw_protocol.specs.Spelled.{records_bytes};
 ghost use Rattle.mw_records.specs.Records.{record_view};
@@ -36,6 +36,7 @@ pub fn append<D: Disk>(
         → Appends D.may_leave D.moment D.left_since D.faults digest kept place risked
         (map record_view records.now) journal.old result journal.new }
     ensures quiet { records.now ≡ [] → journal.new ≡ journal.old }
+    ensures tells { is_some (D.told (disk_of journal.new)) ≡ is_some (D.told (disk_of journal.old)) }
     ensures count { D.faults (disk_of journal.old) ≤ D.faults (disk_of journal.new) }
 {
     if records.is_empty() {

@@ -1,4 +1,4 @@
-ghost use Rattle.std.specs.Prelude.{◌≡◌, ◌≤◌, ℕ, List, None, Err, option_map};
+ghost use Rattle.std.specs.Prelude.{◌≡◌, ◌≤◌, ℕ, List, None, Err, is_some, option_map};
 ghost use Rattle.mw_protocol.specs.Lives as plain;
 ghost use Rattle.mw_protocol.specs.Rooms.{Room as Plain, session_in};
 ghost use Rattle.mw_room.specs.Events.{event_view};
@@ -78,6 +78,17 @@ impl<D: Disk> KeptRoom<D> {
         journal.into_disk()
     }
 
+    /// Whether a session is open. It takes no memory, and is no call.
+    pub fn is_open(&self, session: SessionId) -> bool
+        ensures { (digest : List ℕ) (life : plain.Life) → Keeps D.may_leave digest life self.now
+            → result ≡ is_some (session_in life.room.sessions session) }
+    {
+        match self.room.state(session) {
+            SessionState::Shut => false,
+            SessionState::Overrun | SessionState::Ready { .. } => true,
+        }
+    }
+
     /// The refusal of a call, if it is refused.
     fn refusal(&self, call: &Call) -> Option<Reply>
         ensures { (digest : List ℕ) (life : plain.Life) → Keeps D.may_leave digest life self.now
@@ -144,6 +155,7 @@ impl<D: Disk> KeptRoom<D> {
     /// Makes an event: appends its records, if it has some, and then does it.
     fn happen(&mut self, event: &Event) -> Reply
         ensures origin { origin_of self.new ≡ origin_of self.old }
+        ensures tells { is_some (D.told (kept_disk self.new)) ≡ is_some (D.told (kept_disk self.old)) }
         ensures count { D.faults (kept_disk self.old) ≤ D.faults (kept_disk self.new) }
         ensures goes { (digest : List ℕ) (life : plain.Life)
             → Keeps D.may_leave digest (plain.counted life) self.old → life.stopped ≡ None
@@ -164,6 +176,7 @@ impl<D: Disk> KeptRoom<D> {
     /// Makes a call that isn't refused.
     fn go(&mut self, call: Call) -> Reply
         ensures origin { origin_of self.new ≡ origin_of self.old }
+        ensures tells { is_some (D.told (kept_disk self.new)) ≡ is_some (D.told (kept_disk self.old)) }
         ensures count { D.faults (kept_disk self.old) ≤ D.faults (kept_disk self.new) }
         ensures goes { (digest : List ℕ) (life : plain.Life)
             → Keeps D.may_leave digest (plain.counted life) self.old
@@ -187,12 +200,14 @@ impl<D: Disk> KeptRoom<D> {
     /// `Stopped` comes exactly where an earlier append of this life failed, this call's append
     /// fails, or the room has had 2^63 calls; `Gone` where the call names a session that isn't
     /// open; `Overrun` where it names one that was owed more than it may keep and doesn't end it.
-    /// A call that is refused, and one that answers `Memory`, leaves the room as it was.
+    /// A call that is refused, and one that answers `Memory`, leaves the room as it was. A disk that
+    /// tells its bytes goes on to tell them.
     pub fn act(&mut self, call: Call) -> Reply
         ensures acts { (digest : List ℕ) (life : plain.Life)
             → Keeps D.may_leave digest life self.old
             → Acts D.may_leave D.moment D.left_since D.faults digest life
             (call_view call) self.old (reply_view result) self.new }
+        ensures tells { is_some (D.told (kept_disk self.new)) ≡ is_some (D.told (kept_disk self.old)) }
         ensures count { D.faults (kept_disk self.old) ≤ D.faults (kept_disk self.new) }
         ensures origin { origin_of self.new ≡ origin_of self.old }
     {

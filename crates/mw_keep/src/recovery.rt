@@ -1,4 +1,4 @@
-ghost use Rattle.std.specs.Prelude.{◌≡◌, ◌≢◌, ◌<◌, ◌≤◌, [], ℕ, List, IfOk, IfErr, OnOk, Ok, Err, Some, length};
+ghost use Rattle.std.specs.Prelude.{◌≡◌, ◌≢◌, ◌<◌, ◌≤◌, [], ℕ, List, IfOk, IfErr, OnOk, Ok, Err, Some, is_some, length};
 ghost use Rattle.mw_disk.specs.Crash.{LeavesOnly};
 ghost use Rattle.mw_json.specs.Grammar.{Breach};
 ghost use Rattle.mw_journal.specs.Reads.{OnlyReads};
@@ -111,6 +111,7 @@ pub fn resume<D: Disk>(
         → AllSettled (D.may_leave disk) digest.now text body
         → LeavesOnly D.moment D.left_since disk (disk_left result)
         (λ c. IsSettled c digest.now text body) }
+    ensures tells { is_some (D.told (disk_left result)) ≡ is_some (D.told disk) }
     ensures count { D.faults disk ≤ D.faults (disk_left result) }
 {
     let Ok(mut room) = room_of(alloc, multidata) else {
@@ -152,6 +153,7 @@ pub fn recover<D: Disk>(
         → AllSettled (D.may_leave disk) (digest_of multidata.now) text body
         → LeavesOnly D.moment D.left_since disk (disk_left result)
         (λ c. IsSettled c (digest_of multidata.now) text body) }
+    ensures tells { is_some (D.told (disk_left result)) ≡ is_some (D.told disk) }
     ensures count { D.faults disk ≤ D.faults (disk_left result) }
 {
     match read(alloc, multidata) {

@@ -1,0 +1,132 @@
+-- How a run of commands ends.
+use Rattle.std.proofs.Common.{◌≡◌, ◌∙◌, ℕ, Bool, true, false, List, [], ◌∷◌, ◌++◌, Option, Some, None, refl, sym, ap, subst, inl, inr, append_assoc, append-nil}
+use Rattle.std.proofs.KnownBytes.{Appends-trans}
+use Rattle.std.proofs.lemmas.List.Elements.{All-append}
+use Rattle.std.specs.Io.KnownBytes.{Appends}
+use Rattle.std.specs.Prelude.{All, IsTrue, IsFalse}
+use Rattle.mw_edges.specs.Causes.{PutsFront}
+use Rattle.mw_model.specs.Seed.{Seed}
+use Rattle.mw_protocol.specs.Lives.{Life, Step, after_all, life_after_all}
+use Rattle.mw_protocol.specs.Named.{are_named}
+use Rattle.mw_protocol.specs.Spelled.{records_bytes}
+use Rattle.mw_journal.specs.Settled.{AllShut}
+use Rattle.mw_laws.specs.Naming.{NamesFit}
+use Rattle.mw_keep.specs.Entered.{AreSound}
+use Rattle.mw_keep.specs.Keeps.{Keeps, kept_disk}
+use Rattle.mw_keep.specs.declared.kept.KeptRoom.{KeptRoom}
+use Rattle.mw_drive.specs.Commands.{Command}
+use Rattle.mw_drive.specs.Drive.{Put, text_put, is_full, puts, after, Run, after_puts, run, drive_text}
+use Rattle.mw_drive.specs.Left.{IsGoing, IsLeft, HasDriven, IsKept, KeepsShown}
+use Rattle.mw_drive.specs.Runs.{IsCut, HasHalted, IsShownKept}
+use Rattle.mw_drive.specs.declared.error.DriveError.{DriveError}
+use Rattle.mw_drive.specs.declared.error.DriveError.TheVariants.{Full}
+use Rattle.mw_drive.proofs.Crashing.{safe_of, left_of}
+use Rattle.mw_drive.proofs.Running.{Laws, IsRun, text_both, run_goes, run_full, runs_on, kept_later, puts_are_kept}
+
+-- ---- all were done
+
+module _ {D : Type 0} (may_leave : D → List ℕ → Type 0) (digest : List ℕ) (seed : Seed) (first now : Life) (old new : Option (List ℕ)) (all : List Command) (k : KeptRoom D)
+    (r : IsRun first now old new [] all) (keeps : Keeps may_leave digest now k)
+  where
+    whole_text : text_put r.ps ≡ drive_text first all
+    whole_text = ap text_put (sym (append-nil r.ps)) ∙ ap (λ (x : Run). text_put x.puts) r.whole
+
+    whole_life : now ≡ (run first all).life
+    whole_life = ap (λ (x : Run). x.life) r.whole
+
+    pub has_driven : IsGoing seed now → HasDriven (may_leave (kept_disk k)) digest first all old new
+    has_driven going = record {
+      whole = sym (ap (λ (x : Run). x.full) r.whole);
+      put = subst (Appends old new) whole_text r.put;
+      place = now.place;
+      stands = subst (λ (l : Life). AllShut (may_leave (kept_disk k)) digest (records_bytes l.room.journal) now.place) whole_life (safe_of may_leave digest now k keeps going.safe);
+    }
+
+    pub driven_kept : IsShownKept (may_leave (kept_disk k)) digest seed first old new
+    driven_kept before is = record {
+      more = r.steps;
+      left = subst (IsLeft (may_leave (kept_disk k)) digest) (r.is_now ∙ runs_on seed before r.steps first is) (left_of may_leave digest now k keeps);
+      put = r.ps;
+      front = (text_put r.ps, [], sym (append-nil (text_put r.ps)), r.put);
+      kept = r.kept seed before is;
+    }
+
+-- ---- one was not
+
+front_then : (front text f rest more : List ℕ) → text ≡ f ++ rest → (front ++ text) ++ more ≡ (front ++ f) ++ (rest ++ more)
+front_then front text f rest more is =
+    ap (λ (t : List ℕ). (front ++ t) ++ more) is ∙ ap (λ (t : List ℕ). t ++ more) (sym (append_assoc front f rest)) ∙ append_assoc (front ++ f) rest more
+
+module _ {D : Type 0} (laws : Laws) (may_leave : D → List ℕ → Type 0) (digest : List ℕ) (seed : Seed) (first now : Life) (old mid new : Option (List ℕ)) (c : Command) (left all : List Command)
+    (r : IsRun first now old mid (c ∷ left) all) (disk : D) (error : DriveError) (cut : IsCut may_leave digest seed now c mid new disk error)
+  where
+    -- the text of all, where the next command meets a full journal
+    full_text : is_full now c ≡ true → drive_text first all ≡ text_put r.ps
+    full_text h = ap (λ (x : Run). text_put x.puts) (sym r.whole ∙ ap (after_puts r.ps) (run_full now c left h)) ∙ ap text_put (append-nil r.ps)
+
+    full_run : is_full now c ≡ true → (run first all).full ≡ true
+    full_run h = ap (λ (x : Run). x.full) (sym r.whole ∙ ap (after_puts r.ps) (run_full now c left h))
+
+    -- and where it doesn't
+    more_text : is_full now c ≡ false → drive_text first all ≡ text_put r.ps ++ text_put (puts now c) ++ text_put (run (after now c) left).puts
+    more_text h =
+        ap (λ (x : Run). text_put x.puts) (sym r.whole ∙ ap (after_puts r.ps) (run_goes now c left h))
+        ∙ text_both r.ps (puts now c ++ (run (after now c) left).puts)
+        ∙ ap (λ (t : List ℕ). text_put r.ps ++ t) (text_both (puts now c) (run (after now c) left).puts)
+        ∙ sym (append_assoc (text_put r.ps) (text_put (puts now c)) (text_put (run (after now c) left).puts))
+
+    put_full : is_full now c ≡ true → Appends old new (drive_text first all)
+    put_full h =
+        subst (Appends old new) (append-nil (text_put r.ps) ∙ sym (full_text h)) (Appends-trans _ _ _ _ _ r.put (cut.quiet h))
+
+    front_by : (b : Bool) → is_full now c ≡ b → PutsFront old new (drive_text first all)
+    front_by true h = (drive_text first all, [], sym (append-nil (drive_text first all)), put_full h)
+    front_by false h =
+        let f = cut.front in (
+          text_put r.ps ++ f.0,
+          f.1 ++ text_put (run (after now c) left).puts,
+          more_text h ∙ front_then (text_put r.ps) (text_put (puts now c)) f.0 f.1 (text_put (run (after now c) left).puts) f.2,
+          Appends-trans _ _ _ _ _ r.put f.3,
+        )
+
+    front_shown : PutsFront old new (text_put (r.ps ++ puts now c))
+    front_shown =
+        let f = cut.front in (
+          text_put r.ps ++ f.0,
+          f.1,
+          text_both r.ps (puts now c) ∙ ap (λ (t : List ℕ). text_put r.ps ++ t) f.2 ∙ sym (append_assoc (text_put r.ps) f.0 f.1),
+          Appends-trans _ _ _ _ _ r.put f.3,
+        )
+
+    module _ (before : List Step) (is : first ≡ life_after_all seed before) where
+      now_is : now ≡ life_after_all seed (before ++ r.steps)
+      now_is = r.is_now ∙ runs_on seed before r.steps first is
+
+      cut_is : after_all now cut.steps ≡ life_after_all seed (before ++ (r.steps ++ cut.steps))
+      cut_is = runs_on seed (before ++ r.steps) cut.steps now now_is ∙ ap (life_after_all seed) (append_assoc before r.steps cut.steps)
+
+      cut_puts : All (IsKept seed (before ++ (r.steps ++ cut.steps))) (r.ps ++ puts now c)
+      cut_puts =
+          subst (λ s. All (IsKept seed s) (r.ps ++ puts now c)) (append_assoc before r.steps cut.steps)
+          (kept_later seed (before ++ r.steps) cut.steps (r.ps ++ puts now c)
+          (All-append (IsKept seed (before ++ r.steps)) r.ps (puts now c) (r.kept seed before is) (puts_are_kept laws seed (before ++ r.steps) now now_is c)))
+
+    pub cut_kept : IsShownKept (may_leave disk) digest seed first old new
+    cut_kept before is = record {
+      more = r.steps ++ cut.steps;
+      left = subst (IsLeft (may_leave disk) digest) (cut_is before is) cut.left;
+      put = r.ps ++ puts now c;
+      front = front_shown;
+      kept = cut_puts before is;
+    }
+
+    pub has_halted : (k : KeptRoom D) → Keeps may_leave digest now k → HasHalted (may_leave disk) digest seed first all old new error
+    has_halted k keeps = record {
+      front = front_by (is_full now c) refl;
+      full = λ e. (full_run (cut.full e), put_full (cut.full e));
+      kept = cut_kept;
+      outside = λ before is fit. cut.outside record {
+        spelled = keeps.records;
+        named = subst (λ (l : Life). are_named seed l.room.journal ≡ true) (sym (now_is before is)) (laws.named_all.journal seed (before ++ r.steps) fit);
+      };
+    }

@@ -1,0 +1,131 @@
+ghost use Rattle.std.specs.Prelude.{◌≡◌, ◌⊎◌, ◌<◌, ◌≤◌, [], ℕ, List, IfOk, IfErr, OnOk, Ok, Some, IsTrue, is_some, map};
+ghost use Rattle.mw_edges.specs.Causes.{Rose};
+ghost use Rattle.mw_multidata.specs.Digest.{digest_of};
+ghost use Rattle.mw_multidata.specs.SeedOf.{SeedOf};
+ghost use Rattle.mw_protocol.specs.Lives.{Step, life_after_all};
+ghost use Rattle.mw_keep.specs.Keeps.{kept_disk};
+ghost use Rattle.mw_laws.specs.Naming.{NamesFit};
+ghost use Rattle.mw_drive.specs.Commands.{command_view};
+ghost use Rattle.mw_drive.specs.Ends.{Drives, IsFound, IsOfJournal, Refuses, StaysSettled, StopsWith};
+ghost use Rattle.mw_drive.specs.Input.{HasScript, HasNoScript};
+ghost use Rattle.mw_drive.specs.Left.{IsLeft, KeepsShown};
+ghost use Rattle.mw_drive.specs.Runs.{HasLife, RunsScript, HaltsScript};
+
+use crate::command::Command;
+use crate::crash::drive_error;
+use crate::error::DriveError;
+use crate::input::read_script;
+use crate::run::run_all;
+use crate::script::judge_script;
+use mw_base::List;
+use mw_disk::Disk;
+use mw_edges::{Sink, Source};
+use mw_keep::{KeptRoom, resume};
+use mw_laws::{journals_are_named, lives_keep};
+use mw_multidata::{Multidata, digest};
+use std::alloc::Global;
+
+/// Reads the script of an input to its end, and judges it.
+fn read_commands<S: Source>(alloc: Global, input: &mut S) -> Result<List<Command>, DriveError>
+    ensures ok { IfOk result (λ commands. HasScript (S.left input.old) (S.left input.new)
+        (map command_view commands)) }
+    ensures err { IfErr result (HasNoScript (S.left input.old) (S.left input.new)) }
+    ensures fault { result ≡ Err DriveError.Fault → Rose (S.faults input.old) (S.faults input.new) }
+    ensures later { S.faults input.old ≤ S.faults input.new }
+{
+    let script = read_script(alloc, input)?;
+    Ok(judge_script(alloc, &script)?)
+}
+
+/// Runs the script of an input on a room. The disk is handed back.
+fn drive_kept<D: Disk, S: Source, O: Sink>(
+    alloc: Global,
+    kept: KeptRoom<D>,
+    file: &[u8],
+    input: &mut S,
+    out: &mut O,
+) -> (D, Result<(), DriveError>)
+    ensures done { OnOk result.1 (RunsScript D.may_leave D.told file.now kept
+        (S.left input.old) (S.left input.new) (O.held out.old) (O.held out.new) result.0) }
+    ensures err { IfErr result.1 (λ error. HaltsScript D.may_leave D.told file.now kept
+        (S.left input.old) (S.left input.new) (O.held out.old) (O.held out.new) result.0 error) }
+    ensures fault { result.1 ≡ Err DriveError.Fault → HasLife D.may_leave file.now kept
+        → (D.faults (kept_disk kept) < D.faults result.0)
+        ⊎ (Rose (S.faults input.old) (S.faults input.new)
+        ⊎ Rose (O.faults out.old) (O.faults out.new)) }
+    ensures count { D.faults (kept_disk kept) ≤ D.faults result.0 }
+    ensures later { (S.faults input.old ≤ S.faults input.new)
+        × (O.faults out.old ≤ O.faults out.new) }
+{
+    match read_commands(alloc, input) {
+        Ok(commands) => run_all(alloc, kept, file, commands, out),
+        Err(error) => (kept.into_disk(), Err(error)),
+    }
+}
+
+/// What a seed names is there, for contracts alone.
+fn names_fit(multidata: &Multidata)
+    ensures { NamesFit multidata.now }
+{
+    let _ = &multidata.seed_name;
+}
+
+/// Recovers the room of a seed from the journal on a disk, runs the script of an input on it, and
+/// prints the messages that are taken. The disk is handed back. `file` is the bytes that the seed
+/// was read from.
+///
+/// The journal is judged first, and the input isn't touched where it is refused. The script is read
+/// to its end and judged whole before its first line runs. A `crash` drops the room with its
+/// sessions, and recovers it from its journal.
+///
+/// `Journal` comes only where the disk's bytes are no journal of this seed, and `Script` only where
+/// the script is refused at that line; `Full` only where the next batch would pass the journal's
+/// limit, or the room has had 2^63 calls, and then all before that line was put. `Fault` comes only
+/// where a count of the disk, the input or the out sink rose in this call.
+///
+/// Whatever is answered, what a crash may then leave of the disk is settled for a life that goes on
+/// from the one for which it was settled before, and all that was shown by what was put is checked
+/// in that life's journal.
+pub fn drive_on<D: Disk, S: Source, O: Sink>(
+    alloc: Global,
+    disk: D,
+    multidata: Multidata,
+    file: &[u8],
+    input: &mut S,
+    out: &mut O,
+) -> (D, Result<(), DriveError>)
+    requires { SeedOf file.now (Ok multidata) }
+    ensures done { OnOk result.1 (Drives
+        (IsFound (D.told disk) (D.may_leave disk) (digest_of file.now) multidata)
+        (D.told disk) (D.may_leave result.0) (digest_of file.now) multidata
+        (S.left input.old) (S.left input.new) (O.held out.old) (O.held out.new)) }
+    ensures stopped { IfErr result.1 (StopsWith S.left
+        (IsFound (D.told disk) (D.may_leave disk) (digest_of file.now) multidata)
+        (Refuses (D.told disk) (digest_of file.now) multidata)
+        (StaysSettled (D.may_leave disk) (D.may_leave result.0) (digest_of file.now))
+        (D.told disk) (D.may_leave result.0) (digest_of file.now) multidata
+        input.old input.new (O.held out.old) (O.held out.new)) }
+    ensures fault { result.1 ≡ Err DriveError.Fault → (D.faults disk < D.faults result.0)
+        ⊎ (Rose (S.faults input.old) (S.faults input.new)
+        ⊎ Rose (O.faults out.old) (O.faults out.new)) }
+    ensures kept { (steps : List Step) → IsTrue (is_some (D.told disk))
+        → IsLeft (D.may_leave disk) (digest_of file.now) (life_after_all multidata steps)
+        → KeepsShown (D.may_leave result.0) (digest_of file.now) multidata steps
+        (O.held out.old) (O.held out.new) }
+    ensures accepted { IfErr result.1 (λ error. (steps : List Step)
+        → IsTrue (is_some (D.told disk))
+        → IsLeft (D.may_leave disk) (digest_of file.now) (life_after_all multidata steps)
+        → IsOfJournal error → ⊥) }
+    ensures count { D.faults disk ≤ D.faults result.0 }
+    ensures later { (S.faults input.old ≤ S.faults input.new)
+        × (O.faults out.old ≤ O.faults out.new) }
+{
+    // The laws of lives, by which what was settled stays so.
+    lives_keep();
+    journals_are_named();
+    names_fit(&multidata);
+    match resume(alloc, disk, multidata, &digest(file)) {
+        Ok(kept) => drive_kept(alloc, kept, file, input, out),
+        Err((disk, error)) => (disk, Err(drive_error(error))),
+    }
+}
