@@ -1,15 +1,13 @@
 -- Calls that are made one after another on a kept room.
-use Rattle.std.proofs.Common.{◌≡◌, ◌∙◌, ◌<◌, ◌≤◌, ◌||◌, ℕ, Bool, true, false, List, [], ◌∷◌, ◌++◌, Option, Some, None, map, refl, sym, ap, ap₂, subst, arith, append-nil}
-use Rattle.std.specs.Prelude.{IsTrue, IsFalse}
+use Rattle.std.proofs.Common.{◌≡◌, ◌∙◌, ◌≤◌, ◌||◌, ℕ, Bool, true, false, List, [], ◌∷◌, ◌++◌, map, refl, sym, ap, subst, arith}
 use Rattle.mw_model.specs.Seed.{Seed}
 use Rattle.mw_protocol.specs.Lives.{Life, Call, Reply, Step, acts, fine, reply_to, life_after, after, after_all}
 use Rattle.mw_keep.specs.Keeps.{Keeps, kept_disk}
 use Rattle.mw_keep.specs.declared.kept.KeptRoom.{KeptRoom}
-use Rattle.mw_drive.specs.Calls.{IsOutside, IsDone, AreDone, HaveStopped}
+use Rattle.mw_drive.specs.Calls.{IsDone, AreDone, HaveStopped}
 use Rattle.mw_drive.specs.Drive.{is_overrun, is_stopped, life_through, meet_overrun, stop}
 use Rattle.mw_drive.specs.Left.{IsGoing}
 use Rattle.mw_drive.specs.declared.error.DriveError.{DriveError}
-use Rattle.mw_drive.specs.declared.error.DriveError.TheVariants.{Fault, Full}
 
 -- ---- steps of a life
 

@@ -1,20 +1,20 @@
 -- Commands that are done on a kept room.
-use Rattle.std.proofs.Common.{◌≡◌, ◌∙◌, ◌<◌, ◌^◌, ◌⊎◌, ◌&&◌, inl, inr, ℕ, ◌||◌, Bool, true, false, not, cond, List, [], ◌∷◌, ◌++◌, Option, Some, None, map, refl, sym, ap, subst, append-nil}
+use Rattle.std.proofs.Common.{◌≡◌, ◌∙◌, ◌^◌, ◌⊎◌, ◌&&◌, inl, inr, ℕ, ◌||◌, Bool, true, false, not, cond, List, [], ◌∷◌, ◌++◌, Option, Some, None, map, refl, sym, ap, subst, append-nil}
 use Rattle.std.specs.Option.{is_some}
-use Rattle.std.specs.Prelude.{IsTrue, IsFalse, nat_le, unwrap_or}
+use Rattle.std.specs.Prelude.{nat_le, unwrap_or}
 use Rattle.mw_model.specs.Seed.{Seed}
 use Rattle.mw_protocol.specs.Connecting.{Member}
-use Rattle.mw_protocol.specs.Lives.{Life, Call, happens, takes as take_call, Reply, opens as opened_as, done, messages, gone as was_gone, overrun as was_overrun, stopped, memory, too_many_calls, Outcome, passes, lacks, stops, Step, fine, refused_by, refused_to, reply_of, reply_to, reply_unless, life_after, after_all, outcome}
+use Rattle.mw_protocol.specs.Lives.{Life, Call, happens, takes as take_call, Reply, messages, overrun as was_overrun, stopped, too_many_calls, Outcome, passes, lacks, stops, fine, refused_by, refused_to, reply_of, reply_to, reply_unless, outcome}
 use Rattle.mw_protocol.specs.Packets.{Inbound}
-use Rattle.mw_protocol.specs.Rooms.{Room, Session, Message, opened, lost, text_of, session_in, member_in, untaken_of}
-use Rattle.mw_keep.specs.Keeps.{Keeps, kept_disk}
+use Rattle.mw_protocol.specs.Rooms.{Room, Session, Message, lost, text_of, session_in, member_in, untaken_of}
+use Rattle.mw_keep.specs.Keeps.{Keeps}
 use Rattle.mw_keep.specs.declared.kept.KeptRoom.{KeptRoom}
-use Rattle.mw_drive.specs.Calls.{IsOutside, IsDone, AreDone, HaveStopped, IsPerformed}
+use Rattle.mw_drive.specs.Calls.{IsDone, AreDone, HaveStopped, IsPerformed}
 use Rattle.mw_drive.specs.Commands.{Command, opens, sends, takes, loses, commits, crashes}
-use Rattle.mw_drive.specs.Drive.{Put, gone, overrun, message, text_put, message_line, message_lines, gone_line, overrun_line, is_absent, is_absent_in, named, calls, calls_of, call_for, is_overrun, is_stopped, texts_in, life_through, replies, meet_overrun, stop, is_full, puts, told_of, taken_by, taken_from, after, is_crash}
+use Rattle.mw_drive.specs.Drive.{Put, gone, overrun, message, text_put, message_line, message_lines, gone_line, overrun_line, is_absent, is_absent_in, named, calls, calls_of, call_for, is_overrun, is_stopped, texts_in, life_through, meet_overrun, stop, puts, told_of, taken_by, taken_from, after, is_crash}
 use Rattle.mw_drive.specs.Left.{IsGoing}
 use Rattle.mw_drive.specs.declared.error.DriveError.{DriveError}
-use Rattle.mw_drive.specs.declared.error.DriveError.TheVariants.{Fault, Memory, Full}
+use Rattle.mw_drive.specs.declared.error.DriveError.TheVariants.{Memory}
 use Rattle.mw_drive.proofs.Calling.{call_step, through_steps}
 
 -- ---- texts

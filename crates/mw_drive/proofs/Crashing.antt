@@ -1,21 +1,21 @@
 -- What a crash leaves of a kept room, and that it is recovered.
-use Rattle.std.proofs.Common.{◌≡◌, ◌∙◌, ◌<◌, ◌≤◌, ◌⊎◌, ℕ, List, [], ◌∷◌, ◌++◌, length, Option, Some, None, true, false, refl, sym, ap, ap₂, subst, inl, inr, arith, append-nil}
+use Rattle.std.proofs.Common.{◌≡◌, ◌∙◌, ◌≤◌, ◌⊎◌, ℕ, List, [], ◌++◌, length, Option, Some, None, true, refl, sym, ap, subst, inl, inr, arith, append-nil}
 use Rattle.std.specs.Option.{is_some}
-use Rattle.std.specs.Prelude.{IsTrue, Ok}
+use Rattle.std.specs.Prelude.{Ok}
 use Rattle.mw_disk.specs.Crash.{LeavesOnly}
 use Rattle.mw_model.specs.Seed.{Seed}
 use Rattle.mw_multidata.specs.Digest.{digest_of}
 use Rattle.mw_multidata.specs.SeedOf.{SeedOf}
-use Rattle.mw_protocol.specs.Lives.{Life, new_life, after_all}
+use Rattle.mw_protocol.specs.Lives.{Life, new_life}
 use Rattle.mw_protocol.specs.Records.{Record}
 use Rattle.mw_protocol.specs.Spelled.{records_bytes}
 use Rattle.mw_journal.specs.Image.{StandsAt}
 use Rattle.mw_journal.specs.Settled.{IsSettled, AllSettled, AllShut}
 use Rattle.mw_journal.proofs.Unique.{one_shut}
 use Rattle.mw_keep.specs.Entered.{AreSound}
-use Rattle.mw_keep.specs.Holds.{AreRecords, Holds, IsAmong, IsSafe, IsBroken}
+use Rattle.mw_keep.specs.Holds.{AreRecords, Holds, IsAmong}
 use Rattle.mw_keep.specs.Keeps.{Keeps, journal_of, kept_disk}
-use Rattle.mw_keep.specs.Recovers.{Recovers, Resumes}
+use Rattle.mw_keep.specs.Recovers.{Recovers}
 use Rattle.mw_keep.specs.declared.kept.KeptRoom.{KeptRoom}
 use Rattle.mw_keep.specs.declared.error.KeepError.{KeepError}
 use Rattle.mw_keep.specs.declared.error.KeepError.TheVariants as keep

@@ -1,23 +1,23 @@
 -- What the run of a script on a disk comes to, by what the room that is recovered from it stands for.
-use Rattle.std.proofs.Common.{◌≡◌, ◌∙◌, ◌⊎◌, ◌<◌, ℕ, List, [], ◌∷◌, ◌++◌, length, take, get_or, Option, Some, None, true, false, Result, Ok, Err, refl, sym, ap, subst, inl, inr, append_assoc, append-nil, arith}
+use Rattle.std.proofs.Common.{◌≡◌, ◌∙◌, ◌⊎◌, ℕ, List, [], ◌∷◌, ◌++◌, length, take, Option, Some, None, true, Result, Ok, Err, refl, sym, ap, subst, inl, inr, append_assoc, append-nil, arith}
 use Rattle.std.proofs.KnownBytes.{Keeps-refl}
 use Rattle.std.proofs.lemmas.List.{take_all}
 use Rattle.std.proofs.lemmas.List.Elements.{All-nil}
 use Rattle.std.specs.Io.KnownBytes.{Keeps as WasKept}
 use Rattle.std.specs.Option.{is_some}
-use Rattle.std.specs.Prelude.{All, IsTrue, IfErr, OnOk}
+use Rattle.std.specs.Prelude.{All, IfErr, OnOk}
 use Rattle.mw_edges.specs.Causes.{PutsFront}
 use Rattle.mw_model.specs.Seed.{Seed}
 use Rattle.mw_multidata.specs.Digest.{digest_of}
 use Rattle.mw_multidata.specs.SeedOf.{SeedOf}
-use Rattle.mw_protocol.specs.Lives.{Life, Step, crashes as crash_step, new_life, life_anew, after_all, life_after_all}
+use Rattle.mw_protocol.specs.Lives.{Life, Step, crashes as crash_step, new_life, life_anew, life_after_all}
 use Rattle.mw_protocol.specs.Records.{Record}
 use Rattle.mw_protocol.specs.Spelled.{records_bytes}
 use Rattle.mw_journal.specs.Settled.{AllSettled, AllShut}
 use Rattle.mw_laws.specs.Kept.{LivesKeep}
 use Rattle.mw_laws.specs.Naming.{JournalsAreNamed, NamesFit}
 use Rattle.mw_protocol.specs.Named.{are_named}
-use Rattle.mw_keep.specs.Holds.{AreRecords, IsAmong}
+use Rattle.mw_keep.specs.Holds.{IsAmong}
 use Rattle.mw_keep.specs.Keeps.{kept_disk}
 use Rattle.mw_keep.specs.Entered.{AreSound}
 use Rattle.mw_keep.specs.Recovers.{Resumes, RefusesResume}
@@ -30,15 +30,14 @@ use Rattle.mw_drive.specs.Commands.{Command}
 use Rattle.mw_drive.specs.Crashes.{error_of}
 use Rattle.mw_drive.specs.declared.error.JournalRefusal.{JournalRefusal}
 use Rattle.mw_drive.specs.declared.error.JournalRefusal.TheVariants.{NotJournal, OtherSeed, BadRecord}
-use Rattle.mw_drive.specs.Ends.{IsFound, Refuses, Drives, IsReady, IsUnread, IsStopped, IsOfJournal}
-use Rattle.mw_drive.specs.Input.{HasScript, HasNoScript}
-use Rattle.mw_drive.specs.Left.{FindsItself, IsGoing, IsKept, IsLeft, KeepsShown}
-use Rattle.mw_drive.specs.Runs.{IsKeptIn, IsShownKept, RunsScript, HaltsScript}
+use Rattle.mw_drive.specs.Ends.{IsFound, Refuses, Drives, IsUnread, IsStopped, IsOfJournal}
+use Rattle.mw_drive.specs.Input.{HasNoScript}
+use Rattle.mw_drive.specs.Left.{FindsItself, IsKept, IsLeft, KeepsShown}
+use Rattle.mw_drive.specs.Runs.{IsKeptIn, RunsScript, HaltsScript}
 use Rattle.mw_drive.specs.declared.error.DriveError.{DriveError}
 use Rattle.mw_drive.specs.declared.error.DriveError.TheVariants.{Fault, Memory, Full, Journal, Script}
 use Rattle.mw_drive.proofs.Calling.{all_after}
 use Rattle.mw_drive.proofs.Crashing.{safe_of, left_of}
-use Rattle.mw_drive.proofs.Running.{runs_on}
 
 -- ---- the life in which a room is recovered
 

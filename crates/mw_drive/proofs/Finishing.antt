@@ -1,25 +1,22 @@
 -- How a run of commands ends.
-use Rattle.std.proofs.Common.{◌≡◌, ◌∙◌, ℕ, Bool, true, false, List, [], ◌∷◌, ◌++◌, Option, Some, None, refl, sym, ap, subst, inl, inr, append_assoc, append-nil}
+use Rattle.std.proofs.Common.{◌≡◌, ◌∙◌, ℕ, Bool, true, false, List, [], ◌∷◌, ◌++◌, Option, refl, sym, ap, subst, append_assoc, append-nil}
 use Rattle.std.proofs.KnownBytes.{Appends-trans}
 use Rattle.std.proofs.lemmas.List.Elements.{All-append}
 use Rattle.std.specs.Io.KnownBytes.{Appends}
-use Rattle.std.specs.Prelude.{All, IsTrue, IsFalse}
+use Rattle.std.specs.Prelude.{All}
 use Rattle.mw_edges.specs.Causes.{PutsFront}
 use Rattle.mw_model.specs.Seed.{Seed}
 use Rattle.mw_protocol.specs.Lives.{Life, Step, after_all, life_after_all}
 use Rattle.mw_protocol.specs.Named.{are_named}
 use Rattle.mw_protocol.specs.Spelled.{records_bytes}
 use Rattle.mw_journal.specs.Settled.{AllShut}
-use Rattle.mw_laws.specs.Naming.{NamesFit}
-use Rattle.mw_keep.specs.Entered.{AreSound}
 use Rattle.mw_keep.specs.Keeps.{Keeps, kept_disk}
 use Rattle.mw_keep.specs.declared.kept.KeptRoom.{KeptRoom}
 use Rattle.mw_drive.specs.Commands.{Command}
-use Rattle.mw_drive.specs.Drive.{Put, text_put, is_full, puts, after, Run, after_puts, run, drive_text}
-use Rattle.mw_drive.specs.Left.{IsGoing, IsLeft, HasDriven, IsKept, KeepsShown}
+use Rattle.mw_drive.specs.Drive.{text_put, is_full, puts, after, Run, after_puts, run, drive_text}
+use Rattle.mw_drive.specs.Left.{IsGoing, IsLeft, HasDriven, IsKept}
 use Rattle.mw_drive.specs.Runs.{IsCut, HasHalted, IsShownKept}
 use Rattle.mw_drive.specs.declared.error.DriveError.{DriveError}
-use Rattle.mw_drive.specs.declared.error.DriveError.TheVariants.{Full}
 use Rattle.mw_drive.proofs.Crashing.{safe_of, left_of}
 use Rattle.mw_drive.proofs.Running.{Laws, IsRun, text_both, run_goes, run_full, runs_on, kept_later, puts_are_kept}
 

@@ -1,17 +1,16 @@
 -- A script's commands, one after another, on a room that is kept.
-use Rattle.std.proofs.Common.{◌≡◌, ◌∙◌, ◌||◌, ℕ, Bool, true, false, List, [], ◌∷◌, ◌++◌, Option, refl, sym, ap, subst, inl, inr}
+use Rattle.std.proofs.Common.{◌≡◌, ◌∙◌, ◌||◌, ℕ, Bool, true, false, List, [], ◌∷◌, Option, refl, ap, inl, inr}
 use Rattle.std.specs.List.{list_any}
 use Rattle.std.specs.Option.{is_some}
-use Rattle.std.specs.Prelude.{IsTrue, IsFalse}
 use Rattle.mw_model.specs.Seed.{Seed}
 use Rattle.mw_multidata.specs.Digest.{digest_of}
 use Rattle.mw_protocol.specs.Lives.{Life}
-use Rattle.mw_keep.specs.Keeps.{Keeps, kept_disk}
+use Rattle.mw_keep.specs.Keeps.{kept_disk}
 use Rattle.mw_keep.specs.declared.kept.KeptRoom.{KeptRoom}
 use Rattle.mw_drive.specs.Commands.{Command}
 use Rattle.mw_drive.specs.Drive.{is_crash}
 use Rattle.mw_drive.specs.Left.{FindsItself}
-use Rattle.mw_drive.specs.Runs.{HasStepped, IsCut, IsKeptIn, HasHalted, HasLife}
+use Rattle.mw_drive.specs.Runs.{HasStepped, IsCut, IsKeptIn, HasHalted}
 use Rattle.mw_drive.specs.declared.error.DriveError.{DriveError}
 use Rattle.mw_drive.proofs.Finishing.{has_halted}
 use Rattle.mw_drive.proofs.Running.{Laws, IsRun, run_more}

@@ -1,18 +1,18 @@
 -- A call that is answered as done goes as where memory and the disk don't fail.
-use Rattle.std.proofs.Common.{◌≡◌, ◌∙◌, ◌<◌, ◌≤◌, ◌^◌, ◌||◌, ℕ, List, [], ◌∷◌, Bool, true, false, not, cond, Option, Some, None, refl, sym, ap, subst}
-use Rattle.std.specs.Prelude.{IsTrue, IsFalse, nat_le, nat_lt, unwrap_or}
+use Rattle.std.proofs.Common.{◌≡◌, ◌∙◌, ◌^◌, ◌||◌, ℕ, List, [], ◌∷◌, Bool, true, false, cond, Option, Some, None, refl, sym, ap, subst}
+use Rattle.std.specs.Prelude.{nat_le, nat_lt, unwrap_or}
 use Rattle.mw_model.specs.Seed.{Seed}
-use Rattle.mw_protocol.specs.Lives.{Life, Call, happens, commits, takes, Luck, fine, lacking, faulty, Outcome, passes, lacks, stops, StopCause, disk_fault, journal_full, too_many_calls, Reply, opens, done, messages, gone, overrun, stopped, memory, append, length_with, outcome, records_of, answer, reply_of, reply_to, reply_unless, refusal, refused_by, refused_in, refused_to, ends, named_by, room_then, life_after, life_of, life_unless, risked_then, acts, after_all}
+use Rattle.mw_protocol.specs.Lives.{Life, Call, happens, commits, takes, Luck, fine, lacking, faulty, Outcome, passes, lacks, stops, StopCause, disk_fault, journal_full, too_many_calls, Reply, opens, done, messages, gone, overrun, stopped, memory, append, length_with, outcome, records_of, answer, reply_of, reply_to, reply_unless, refusal, refused_by, refused_in, refused_to, ends, named_by, room_then, life_after, life_of, life_unless, risked_then, acts}
 use Rattle.mw_protocol.specs.Records.{Record}
 use Rattle.mw_protocol.specs.Rooms.{Room, Session, opened, sent, failed, lost, session_in}
 use Rattle.mw_keep.specs.Acts.{Acts}
-use Rattle.mw_keep.specs.Keeps.{Keeps, kept_disk}
+use Rattle.mw_keep.specs.Keeps.{Keeps}
 use Rattle.mw_keep.specs.declared.kept.KeptRoom.{KeptRoom}
 use Rattle.mw_drive.specs.Calls.{failure, error_for, IsOutside, IsDone, HaveStopped}
 use Rattle.mw_drive.specs.Drive.{is_stopped}
 use Rattle.mw_drive.specs.Left.{IsGoing}
 use Rattle.mw_drive.specs.declared.error.DriveError.{DriveError}
-use Rattle.mw_drive.specs.declared.error.DriveError.TheVariants.{Fault, Memory, Full, Journal, Script}
+use Rattle.mw_drive.specs.declared.error.DriveError.TheVariants.{Fault, Memory, Full}
 
 -- ---- outcomes
 

@@ -1,8 +1,7 @@
 -- What a seed file's seed keeps, its records can name.
-use Rattle.std.proofs.Common.{◌≡◌, ◌≤◌, ℕ, ℤ, List, Option, Some, None, true, false, refl, arith, length}
+use Rattle.std.proofs.Common.{◌≡◌, ℤ, List, Option, Some, None, true, refl, arith}
 use Rattle.std.specs.Option.{is_some}
-use Rattle.std.specs.Prelude.{All, IsTrue}
-use Rattle.mw_model.specs.Seed.{Seed, Slot, Game, slot_of}
+use Rattle.mw_model.specs.Seed.{Seed, Slot, Game}
 use Rattle.mw_multidata.specs.SeedKept.{IsSeed, game_of, has_location}
 use Rattle.mw_laws.specs.Naming.{NamesFit}
 

@@ -1,15 +1,12 @@
 -- The run of a script, command by command: its puts, its lives, and that what is put is kept.
-use Rattle.std.proofs.Common.{◌≡◌, ◌∙◌, ◌≤◌, ◌||◌, ◌&&◌, ℕ, Bool, true, false, cond, List, [], ◌∷◌, ◌++◌, Option, Some, None, map, refl, sym, ap, ap₂, subst, inl, inr, append_assoc, append-nil}
+use Rattle.std.proofs.Common.{◌≡◌, ◌∙◌, ℕ, Bool, true, false, cond, List, [], ◌∷◌, ◌++◌, Option, Some, None, map, refl, sym, ap, subst, append_assoc, append-nil}
 use Rattle.std.proofs.KnownBytes.{Appends-trans, Appends-nil}
 use Rattle.std.proofs.lemmas.Grind.{flat_map-append}
 use Rattle.std.proofs.lemmas.List.Elements.{All-nil, All-append, All-map, All-cons, All-contains_itself}
 use Rattle.std.specs.Io.KnownBytes.{Appends}
-use Rattle.std.specs.List.{list_any}
-use Rattle.std.specs.Option.{is_some}
-use Rattle.std.specs.Prelude.{All, IsTrue, IsFalse, slice_index_or}
-use Rattle.mw_edges.specs.Causes.{PutsFront}
+use Rattle.std.specs.Prelude.{All, slice_index_or}
 use Rattle.mw_model.specs.Seed.{Seed}
-use Rattle.mw_protocol.specs.Lives.{Life, Step, acts, crashes as crash_step, fine, after_all, life_after_all, new_life}
+use Rattle.mw_protocol.specs.Lives.{Life, Step, crashes as crash_step, after_all, life_after_all, new_life}
 use Rattle.mw_protocol.specs.Connecting.{Member}
 use Rattle.mw_protocol.specs.Rooms.{Message, member_in}
 use Rattle.mw_laws.specs.Kept.{journal_after}
@@ -17,10 +14,9 @@ use Rattle.mw_laws.specs.Naming.{JournalsAreNamed}
 use Rattle.mw_laws.specs.Shows.{ShowsChecked, ShownIsChecked}
 use Rattle.mw_laws.specs.Tails.{TailsOfTheLastView, untaken_in}
 use Rattle.mw_drive.specs.Commands.{Command, opens, sends, takes, loses, commits, crashes}
-use Rattle.mw_drive.specs.Drive.{Put, gone, overrun, message, put_line, text_put, calls, calls_of, named, is_absent, meet_overrun, is_full, puts, told_of, taken_by, taken_from, life_through, life_recovered, after, Run, after_puts, run, drive_text, is_crash}
+use Rattle.mw_drive.specs.Drive.{Put, gone, overrun, message, put_line, text_put, calls, calls_of, named, is_absent, meet_overrun, is_full, puts, told_of, taken_by, taken_from, after, Run, after_puts, run}
 use Rattle.mw_drive.specs.Left.{IsTold, IsKept}
 use Rattle.mw_drive.proofs.Calling.{call_step, through_steps, all_after}
-use Rattle.mw_drive.proofs.Commanding.{after_is}
 
 -- ---- texts
 

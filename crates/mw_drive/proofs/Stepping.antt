@@ -1,13 +1,10 @@
 -- What one step of a script comes to: its text is put, or it is cut.
-use Rattle.std.proofs.Common.{◌≡◌, ◌≢◌, ◌∙◌, ◌<◌, ◌⊎◌, ℕ, Bool, true, false, List, [], ◌∷◌, ◌++◌, Option, Some, None, map, refl, sym, ap, subst, inl, inr}
+use Rattle.std.proofs.Common.{◌≡◌, ◌≢◌, ◌∙◌, ◌<◌, ◌⊎◌, ℕ, Bool, true, false, List, [], Option, map, refl, sym, subst, inl, inr}
 use Rattle.std.proofs.KnownBytes.{Appends-nil}
 use Rattle.std.specs.Io.KnownBytes.{Appends}
-use Rattle.std.specs.Option.{is_some}
-use Rattle.std.specs.Prelude.{IsTrue, IsFalse, Ok}
 use Rattle.mw_edges.specs.Causes.{PutsFront}
 use Rattle.mw_model.specs.Seed.{Seed}
 use Rattle.mw_multidata.specs.Digest.{digest_of}
-use Rattle.mw_multidata.specs.SeedOf.{SeedOf}
 use Rattle.mw_protocol.specs.Lives.{Life, after_all}
 use Rattle.mw_keep.specs.Entered.{AreSound}
 use Rattle.mw_keep.specs.Keeps.{Keeps, kept_disk}
@@ -18,7 +15,7 @@ use Rattle.mw_drive.specs.Drive.{is_crash, is_full, puts, calls, after, text_put
 use Rattle.mw_drive.specs.Left.{IsGoing, IsLeft}
 use Rattle.mw_drive.specs.Runs.{HasStepped, IsCut, HasLife, StepsOn}
 use Rattle.mw_drive.specs.declared.error.DriveError.{DriveError}
-use Rattle.mw_drive.specs.declared.error.DriveError.TheVariants.{Fault, Memory, Full, Journal, Script}
+use Rattle.mw_drive.specs.declared.error.DriveError.TheVariants.{Fault, Memory, Full}
 use Rattle.mw_drive.proofs.Calling.{call_step, through_steps}
 use Rattle.mw_drive.proofs.Commanding.{after_is}
 use Rattle.mw_drive.proofs.Crashing.{left_of, recovered_goes}

@@ -1,8 +1,8 @@
 -- How the run of a script on a disk ends.
-use Rattle.std.specs.Prelude.{◌≡◌, ◌⊎◌, ◌<◌, ℕ, ◌++◌, List, [], Option, Some, Result, Ok, Err, IsTrue, is_some}
+use Rattle.std.specs.Prelude.{◌≡◌, ◌⊎◌, ℕ, ◌++◌, List, Option, Some}
 use Rattle.std.specs.Io.KnownBytes.{Keeps}
 use Rattle.mw_model.specs.Seed.{Seed}
-use Rattle.mw_protocol.specs.Lives.{Life, Step, new_life, life_after_all}
+use Rattle.mw_protocol.specs.Lives.{Life, new_life}
 use Rattle.mw_protocol.specs.Records.{Record}
 use Rattle.mw_protocol.specs.Spelled.{records_bytes}
 use Rattle.mw_journal.specs.Image.{Stands, StandsAt}

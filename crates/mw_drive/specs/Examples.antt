@@ -1,9 +1,8 @@
 -- Rows of a script beside the definitions.
-use Rattle.std.specs.Prelude.{◌≡◌, ℕ, ◌∷◌, [], List, Some, None, true, false, codes, refl}
+use Rattle.std.specs.Prelude.{◌≡◌, ◌∷◌, [], Some, None, true, false, codes, refl}
 use Rattle.mw_model.specs.Seed.{Seed}
 use Rattle.mw_protocol.specs.Lives.{Life, new_life}
 use Rattle.mw_protocol.specs.Packets.{good, sync}
-use Rattle.mw_protocol.specs.Rooms.{Room}
 use Rattle.mw_drive.specs.Commands.{opens, sends, takes, loses, commits, crashes}
 use Rattle.mw_drive.specs.Drive.{run, overrun, gone}
 use Rattle.mw_drive.specs.Lines.{commit_line, crash_line, line_in}

@@ -5,7 +5,7 @@ use Rattle.std.specs.Io.KnownBytes.{Appends}
 use Rattle.mw_edges.specs.Causes.{PutsFront}
 use Rattle.mw_model.specs.Seed.{Seed}
 use Rattle.mw_protocol.specs.Connecting.{Member}
-use Rattle.mw_protocol.specs.Lives.{Life, Step, after_all, life_after_all}
+use Rattle.mw_protocol.specs.Lives.{Life, Step, life_after_all}
 use Rattle.mw_protocol.specs.Records.{Record}
 use Rattle.mw_protocol.specs.Rooms.{Message}
 use Rattle.mw_protocol.specs.Spelled.{records_bytes}
@@ -15,7 +15,7 @@ use Rattle.mw_laws.specs.Shows.{MayPlayAs, ShowsChecked}
 use Rattle.mw_laws.specs.Tails.{AreTails, untaken_in}
 use Rattle.mw_keep.specs.Holds.{AreRecords, IsAmong}
 use Rattle.mw_drive.specs.Commands.{Command}
-use Rattle.mw_drive.specs.Drive.{Put, gone, overrun, message, text_put, is_crash, Run, run, drive_text}
+use Rattle.mw_drive.specs.Drive.{Put, gone, overrun, message, text_put, is_crash, run, drive_text}
 
 -- ---- lives
 

@@ -1,12 +1,9 @@
-use Rattle.std.proofs.Common.{◌≡◌, ℕ, List, Some, sym, subst}
+use Rattle.std.proofs.Common.{◌≡◌, Some, sym, subst}
 use Rattle.mw_protocol.specs.Spelled.{records_bytes}
-use Rattle.mw_disk.specs.Crash.{LeavesOnly}
-use Rattle.mw_journal.specs.Settled.{AllSettled, IsSettled}
+use Rattle.mw_journal.specs.Settled.{AllSettled}
 use Rattle.mw_multidata.specs.Digest.{digest_of}
-use Rattle.mw_keep.specs.Keeps.{kept_disk}
 use Rattle.mw_keep.specs.Recovers.{Recovers}
 use Rattle.mw_drive.specs.Calls.{IsOutside}
-use Rattle.mw_drive.specs.Crashes.{error_of}
 use Rattle.mw_drive.specs.Left.{IsLeft}
 use Rattle.mw_drive.proofs.Crashing.{recovers_life, refused_outside, left_after, left_of}
 use Rattle.mw_drive.proofs.crash.crash.Goals as goal

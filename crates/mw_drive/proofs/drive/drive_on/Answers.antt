@@ -1,4 +1,4 @@
-use Rattle.std.proofs.Common.{◌≡◌, ℕ, List, refl, sym, subst, inl, inr}
+use Rattle.std.proofs.Common.{ℕ, List, refl, sym, subst, inl, inr}
 use Rattle.std.proofs.KnownBytes.{Keeps-refl}
 use Rattle.mw_disk.specs.Crash.{LeavesOnly}
 use Rattle.mw_journal.specs.Settled.{AllSettled, IsSettled}
@@ -7,8 +7,7 @@ use Rattle.mw_protocol.specs.Lives.{life_after_all}
 use Rattle.mw_protocol.specs.Spelled.{records_bytes}
 use Rattle.mw_multidata.specs.Digest.{digest_of}
 use Rattle.mw_keep.specs.Recovers.{Resumes, RefusesResume}
-use Rattle.mw_drive.specs.Ends.{IsOfJournal, Refuses}
-use Rattle.mw_drive.specs.Left.{IsLeft}
+use Rattle.mw_drive.specs.Ends.{IsOfJournal}
 use Rattle.mw_drive.proofs.Crashing.{left_after}
 use Rattle.mw_drive.proofs.Driving.{runs_drive, halts_drive, drive_kept, halts_accepted, cause_of, unopened_accepted, unopened_kept}
 use Rattle.mw_drive.proofs.Passing.{if_err}

@@ -1,9 +1,7 @@
-use Rattle.std.proofs.Common.{◌≡◌, ◌∷◌, [], ◌∙◌, List, map, sym, ap, subst, arith, rules}
+use Rattle.std.proofs.Common.{◌≡◌, ◌∷◌, [], ◌∙◌, map, sym, ap, subst, arith}
 use Rattle.std.proofs.lemmas.List.{nil_from_length}
 use Rattle.std.specs.Vec.Iter.{into_iter_items}
-use Rattle.mw_protocol.specs.Lives.{Call}
 use Rattle.mw_packets_in.specs.View.{inbound_view}
-use Rattle.mw_keep.specs.Keeps.{kept_disk}
 use Rattle.mw_keep.specs.Views.{call_view, reply_view}
 use Rattle.mw_drive.specs.Calls.{StopsAmong}
 use Rattle.mw_drive.specs.Drive.{call_for}

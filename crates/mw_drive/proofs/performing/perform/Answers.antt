@@ -1,4 +1,4 @@
-use Rattle.std.proofs.Common.{◌≡◌, ◌∙◌, map, sym, ap, subst, rules, refl}
+use Rattle.std.proofs.Common.{◌≡◌, ◌∙◌, map, sym, ap, subst, rules}
 use Rattle.std.specs.Prelude.{IfOk, IfErr, string_bytes}
 use Rattle.mw_packets_in.specs.View.{inbound_view}
 use Rattle.mw_drive.specs.Calls.{Performs, StopsIn}

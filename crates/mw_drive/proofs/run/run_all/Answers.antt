@@ -1,8 +1,7 @@
-use Rattle.std.proofs.Common.{rules, ◌≡◌, ◌∷◌, [], ◌∙◌, List, map, refl, sym, ap, subst, inl, inr, arith}
+use Rattle.std.proofs.Common.{rules, ◌≡◌, ◌∷◌, [], ◌∙◌, map, refl, sym, subst, inl, inr, arith}
 use Rattle.std.proofs.lemmas.List.{nil_from_length}
 use Rattle.std.specs.Vec.Iter.{into_iter_items}
 use Rattle.mw_multidata.specs.Digest.{digest_of}
-use Rattle.mw_keep.specs.Keeps.{kept_disk}
 use Rattle.mw_drive.specs.Commands.{command_view}
 use Rattle.mw_drive.specs.Left.{HasDriven}
 use Rattle.mw_drive.specs.Runs.{IsShownKept}

@@ -1,4 +1,4 @@
-use Rattle.std.proofs.Common.{◌≡◌, ◌∙◌, ◌∷◌, [], true, inl, sym, subst}
+use Rattle.std.proofs.Common.{◌≡◌, ◌∙◌, true, inl, sym, subst}
 use Rattle.mw_multidata.specs.Digest.{digest_of}
 use Rattle.mw_keep.specs.Keeps.{kept_disk}
 use Rattle.mw_drive.specs.Commands.{command_view, crashes}

@@ -1,4 +1,4 @@
-use Rattle.std.proofs.Common.{◌<◌, length, map, arith}
+use Rattle.std.proofs.Common.{map, arith}
 use Rattle.mw_drive.specs.Commands.{command_view}
 use Rattle.mw_drive.specs.Lines.{lines_of}
 use Rattle.mw_drive.specs.Script.{commands_in}
