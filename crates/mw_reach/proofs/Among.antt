@@ -76,16 +76,17 @@ module _ (steps : List Step) (origins : List ℕ) (by_place by_item : List (List
   past_end_item n h i = let none : step_at steps n ≡ no_step = get_or_past steps n no_step h in rw none (and_right (nat_le 0 i) false refl)
 
   -- each number in the tables is a step's
+  pub among_place : (p n : ℕ) → is_among (numbers_at by_place p) n ≡ true → n < length steps
+  among_place p n among = elim (cases_lt n (length steps)) [
+    | inl within ↦ within
+    | inr past ↦
+        let there = times_among (numbers_at by_place p) n among in
+        let none : one_if (waits_for_place (step_at steps n) p) ≡ 0 = ap one_if (past_end n past p) in
+        absurd (omega (arith, watched.places n p))
+  ]
+
   pub place_numbers : (p : ℕ) → All (λ n. n < length steps) (numbers_at by_place p)
-  place_numbers p i d h =
-      let n = get_or (numbers_at by_place p) i d in
-      elim (cases_lt n (length steps)) [
-        | inl within ↦ within
-        | inr past ↦
-            let there = times_among (numbers_at by_place p) n (among_at (numbers_at by_place p) i d h) in
-            let none : one_if (waits_for_place (step_at steps n) p) ≡ 0 = ap one_if (past_end n past p) in
-            absurd (omega (arith, watched.places n p))
-      ]
+  place_numbers p i d h = among_place p (get_or (numbers_at by_place p) i d) (among_at (numbers_at by_place p) i d h)
 
   pub item_numbers : (k : ℕ) → All (λ n. n < length steps) (numbers_at by_item k)
   item_numbers k i d h =

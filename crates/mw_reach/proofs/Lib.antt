@@ -8,6 +8,7 @@ pub mod Items
 pub mod SameLeast
 pub mod Settling
 pub mod Noting
+pub mod Parting
 pub mod Parts
 pub mod Slots
 pub mod Placing

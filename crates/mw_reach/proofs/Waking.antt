@@ -1,6 +1,6 @@
 -- Steps that are asked, one after another.
 use Rattle.std.proofs.Common.{◌≡◌, ◌≢◌, ℕ, ◌+◌, ◌<◌, ◌≤◌, Bool, true, false, not, cond, eqb, List, [], ◌∷◌, ◌++◌, ◌⊎◌, None, length, get_or, set, take, map, refl, sym, ap, ◌∙◌, inl, inr, arith, get_or-set_same, get_or-set_other}
-use Rattle.std.proofs.lemmas.Bool.{false≢true, cases_eq, cases_lt, or_cases, eqb-true}
+use Rattle.std.proofs.lemmas.Bool.{false≢true, cases_Bool, cases_eq, cases_lt, or_cases, eqb-true}
 use Rattle.std.proofs.lemmas.List.{take_more, map_push, map-append, append-nil, get_or-map, get_or_past}
 use Rattle.std.proofs.lemmas.List.Concat.{flat_map-append}
 use Rattle.std.proofs.lemmas.List.Sums.{sum_by-set}
@@ -55,6 +55,13 @@ missing-set listed p h e =
     let f : Bool → ℕ = λ b. cond (not b) 1 0 in
     omega (arith, sum_by-set f listed p true false h, ap f e)
 
+-- with a place listed no more are missing
+pub missing-fewer : (listed : List Bool) (p : ℕ) → p < length listed → missing (set listed p true) ≤ missing listed
+missing-fewer listed p h = elim (cases_Bool (places_of listed p)) [
+  | inl there ↦ let f : Bool → ℕ = λ b. cond (not b) 1 0 in omega (arith, sum_by-set f listed p true false h, ap f there)
+  | inr new ↦ omega (arith, missing-set listed p h new)
+]
+
 -- a place that isn't listed leaves room for it
 pub room_left : (listed : List Bool) (p : ℕ) → p < length listed → places_of listed p ≡ false → 1 ≤ missing listed
 room_left listed p h e = omega (arith, missing-set listed p h e)
@@ -70,6 +77,7 @@ module _ (bag : Bag) (done : Places) where
     queued = λ head l q. q;
     entries = λ e. e;
     room = refl;
+    front = λ k l. refl;
   }
 
   pub newly_listed : (step : Step) (listed : List Bool) (queue : List ℕ) (len : ℕ) → step.to < length listed → len < length queue → places_of listed step.to ≡ false → is_open step bag done ≡ true
@@ -96,6 +104,7 @@ module _ (bag : Bag) (done : Places) where
           | inr other ↦ rw (get_or-set_other queue len j step.to 0 other) (grows (get_or queue j 0) (all j (omega arith)))
         ];
         room = omega (arith, missing-set listed step.to h new);
+        front = λ j l. get_or-set_other queue len j step.to 0 (omega arith);
       }
 
   pub asked_both : (xs ys : List Step) (listed : List Bool) (queue : List ℕ) (len : ℕ) (later : List Bool) (later_queue : List ℕ) (later_len : ℕ) (last : List Bool) (last_queue : List ℕ) (last_len : ℕ)
@@ -109,6 +118,7 @@ module _ (bag : Bag) (done : Places) where
     queued = λ head l q. b.queued head (omega (arith, a.longer)) (a.queued head l q);
     entries = λ e. b.entries (a.entries e);
     room = b.room ∙ a.room;
+    front = λ k l. b.front k (omega (arith, a.longer)) ∙ a.front k l;
   }
 
   -- the steps with the first i numbers, and with one more

@@ -5,6 +5,7 @@ pub mod GoingOn
 pub mod Rows
 pub mod Tables
 pub mod Worklist
+pub mod Split
 pub mod Building
 pub mod Reached
 pub mod Goals

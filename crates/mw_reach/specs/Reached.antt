@@ -8,6 +8,7 @@ use Rattle.mw_reach.specs.Counts.{LiesWithin}
 use Rattle.mw_reach.specs.GoingOn.{IsSettled}
 use Rattle.mw_reach.specs.Rows.{steps_in}
 use Rattle.mw_reach.specs.Building.{AreJointRows}
+use Rattle.mw_reach.specs.Split.{IsSplit}
 use Rattle.mw_reach.specs.declared.work.Work.{Work}
 use Rattle.mw_reach.specs.declared.reached.Reached.{Reached}
 use Rattle.mw_reach.specs.declared.mark.Mark.{Mark}
@@ -25,6 +26,7 @@ pub record IsPlacedFor (joint : Joint) (placed : Placed) : Type 0 where
 pub record IsWorkFor (joint : Joint) (work : Work) : Type 0 where
   pub rows : AreJointRows joint work.rows
   pub steps : steps_in joint work.rows ≡ steps_of joint
+  pub split : IsSplit (steps_in joint work.rows) work.rows.by_place work.split
   pub done : length work.done.items ≡ place_total joint.slots
   pub listed : length work.listed.items ≡ place_total joint.slots
   pub queue : length work.queue.items ≡ place_total joint.slots

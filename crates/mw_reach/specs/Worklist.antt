@@ -53,6 +53,7 @@ pub record Wakes (asked : List Step) (bag : Bag) (done : Places) (listed : List 
   pub queued : (head : ℕ) → head ≤ len → IsQueued done listed queue head len → IsQueued done later later_queue head later_len
   pub entries : AreListed listed queue len → AreListed later later_queue later_len
   pub room : later_len + missing later ≡ len + missing listed
+  pub front : (k : ℕ) → k < len → slice_index later_queue k ≡ slice_index queue k
 
 abbrev pub steps_at : List Step → List ℕ → List Step
 steps_at steps numbers = map (step_at steps) numbers

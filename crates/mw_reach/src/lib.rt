@@ -1,13 +1,17 @@
 //! The least list of places that the rules of joined worlds allow.
 #![tactic(auto)]
 
+mod always;
 mod build;
 mod goals;
+mod leaf;
 mod least;
 mod mark;
 mod prepare;
 mod reached;
 mod row;
+mod split;
+mod splitting;
 mod table;
 mod walk;
 mod watch;

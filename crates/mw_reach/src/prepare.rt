@@ -3,7 +3,9 @@ ghost use Rattle.mw_multi.specs.Joint.{place_total};
 ghost use Rattle.mw_multi.specs.Steps.{rule_list};
 ghost use Rattle.mw_reach.specs.Reached.{IsWorkFor};
 
+use crate::always::always_of;
 use crate::build::rows_of;
+use crate::splitting::split_of;
 use crate::work::Work;
 use mw_base::Memory;
 use mw_multi::Joint;
@@ -18,6 +20,8 @@ pub(crate) fn work_of<R: Ruling>(alloc: Global, joint: &Joint, rules: &R) -> Res
         ≡ replicate (place_total joint.now.slots) false) }
 {
     let rows = rows_of(alloc, joint, rules)?;
+    let free = always_of(alloc, joint)?;
+    let split = split_of(alloc, joint, free.as_slice(), &rows)?;
     let places = joint.place_count() as usize;
     let items = joint.item_count() as usize;
     let done = vec![in alloc; false; places]?;
@@ -26,6 +30,7 @@ pub(crate) fn work_of<R: Ruling>(alloc: Global, joint: &Joint, rules: &R) -> Res
     let counts = vec![in alloc; 0; items]?;
     Ok(Work {
         rows,
+        split,
         done,
         listed,
         queue,

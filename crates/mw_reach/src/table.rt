@@ -31,6 +31,13 @@ impl Table {
         Ok(Table { entries })
     }
 
+    /// The table of these lists, the first of which is that of key 0.
+    pub fn of(entries: Vec<List<u32>>) -> Table
+        ensures { result ≡ entries.items }
+    {
+        Table { entries }
+    }
+
     /// The numbers of a key.
     pub fn at(&self, key: usize) -> &[u32]
         requires { key < length self.now }

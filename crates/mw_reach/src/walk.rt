@@ -6,9 +6,11 @@ ghost use Rattle.mw_reach.specs.Bound.{asks_allowed};
 ghost use Rattle.mw_reach.specs.Counts.{LiesWithin};
 ghost use Rattle.mw_reach.specs.GoingOn.{IsSettled, HasMore, HasRoomFor};
 ghost use Rattle.mw_reach.specs.Rows.{steps_in};
+ghost use Rattle.mw_reach.specs.Split.{IsSplit};
 ghost use Rattle.mw_reach.specs.Worklist.{AreRows, paid, numbers_of, IsGoing, IsWorking};
 
 use crate::row::Rows;
+use crate::split::Split;
 use crate::worklist::{begin, count_items, take_next, wake_items};
 use mw_multi::{Joint, Placed};
 use mw_rules::{Ruling, Steps};
@@ -19,6 +21,7 @@ fn visit_all<R: Ruling, L: Ledger>(
     joint: &Joint,
     rules: &R,
     rows: &Rows,
+    split: &Split,
     placed: &Placed,
     done: &mut [bool],
     counts: &mut [u32],
@@ -29,6 +32,7 @@ fn visit_all<R: Ruling, L: Ledger>(
 )
     requires rules { R.stands_for rules.now (rule_list joint.now) }
     requires rows { AreRows joint.now (length done.old) (length counts.old) rows.now }
+    requires split { IsSplit (steps_in joint.now rows.now) rows.now.by_place split.now }
     requires tables { (length listed.old ≡ length done.old) × (length queue.old ≡ length done.old)
         × (length placed.now ≡ length done.old) }
     requires items { LiesWithin (length counts.old) placed.now }
@@ -43,7 +47,7 @@ fn visit_all<R: Ruling, L: Ledger>(
     let mut head = 0;
     while head < len {
         len = take_next(
-            joint, rules, rows, placed, done, counts, listed, queue, head, len, steps,
+            joint, rules, rows, split, placed, done, counts, listed, queue, head, len, steps,
         );
         head += 1;
     }
@@ -54,6 +58,7 @@ pub(crate) fn reach_rows<R: Ruling, L: Ledger>(
     joint: &Joint,
     rules: &R,
     rows: &Rows,
+    split: &Split,
     base: &[u32],
     placed: &Placed,
     done: &mut [bool],
@@ -64,6 +69,7 @@ pub(crate) fn reach_rows<R: Ruling, L: Ledger>(
 )
     requires rules { R.stands_for rules.now (rule_list joint.now) }
     requires rows { AreRows joint.now (length done.old) (length base.now) rows.now }
+    requires split { IsSplit (steps_in joint.now rows.now) rows.now.by_place split.now }
     requires tables { (length listed.old ≡ length done.old) × (length queue.old ≡ length done.old)
         × (length placed.now ≡ length done.old) }
     requires counts { length counts.old ≡ length base.now }
@@ -81,7 +87,7 @@ pub(crate) fn reach_rows<R: Ruling, L: Ledger>(
     counts.copy_from_slice(base);
     let len = begin(rows.rows.as_slice(), rows.origins.as_slice(), listed, queue);
     visit_all(
-        joint, rules, rows, placed, done, counts, listed, queue, len, steps,
+        joint, rules, rows, split, placed, done, counts, listed, queue, len, steps,
     );
 }
 
@@ -90,6 +96,7 @@ pub(crate) fn go_on_rows<R: Ruling, L: Ledger>(
     joint: &Joint,
     rules: &R,
     rows: &Rows,
+    split: &Split,
     more: &[u32],
     placed: &Placed,
     done: &mut [bool],
@@ -100,6 +107,7 @@ pub(crate) fn go_on_rows<R: Ruling, L: Ledger>(
 )
     requires rules { R.stands_for rules.now (rule_list joint.now) }
     requires rows { AreRows joint.now (length done.old) (length counts.old) rows.now }
+    requires split { IsSplit (steps_in joint.now rows.now) rows.now.by_place split.now }
     requires more { All (λ i. i < length counts.old) more.now }
     requires tables { (length listed.old ≡ length done.old) × (length queue.old ≡ length done.old)
         × (length placed.now ≡ length done.old) }
@@ -118,6 +126,6 @@ pub(crate) fn go_on_rows<R: Ruling, L: Ledger>(
         joint, rules, rows, more, done, counts, listed, queue, 0, steps,
     );
     visit_all(
-        joint, rules, rows, placed, done, counts, listed, queue, len, steps,
+        joint, rules, rows, split, placed, done, counts, listed, queue, len, steps,
     );
 }

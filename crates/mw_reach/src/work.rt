@@ -1,9 +1,11 @@
 use crate::row::Rows;
+use crate::split::Split;
 
 /// The rows of a joint, and room to work in.
 #[derive(Drop)]
 pub struct Work {
     pub rows: Rows,
+    pub split: Split,
     /// For each place, whether it is in the list and the rules see it.
     pub done: Vec<bool>,
     /// For each place, whether it is in the list or waits for it.

@@ -8,9 +8,13 @@ ghost use Rattle.mw_multi.specs.Steps.{Step, rule_list};
 ghost use Rattle.mw_reach.specs.Reach.{times_in, is_open as step_is_open};
 ghost use Rattle.mw_reach.specs.Counts.{HasRoom, LiesWithin, missing};
 ghost use Rattle.mw_reach.specs.Rows.{RowFits, slot_at, step_of, steps_in};
+ghost use Rattle.mw_rules.specs.Names.{is_among};
+ghost use Rattle.mw_reach.specs.Split.{IsSplit};
 ghost use Rattle.mw_reach.specs.Worklist.{IsOrigin, AreRows, cost_at, paid, steps_at, numbers_of, Wakes, IsGoing, IsWorking};
 
+use crate::leaf::take_leaves;
 use crate::row::{Row, Rows};
+use crate::split::Split;
 use mw_multi::{Joint, Placed};
 use mw_rules::{Ruling, Steps};
 use std::sync::ledger::Ledger;
@@ -27,7 +31,7 @@ pub(crate) fn count_items(items: &[u32], counts: &mut [u32])
 }
 
 /// Adds a place that isn't in the list, and what lies there.
-fn add(place: u32, placed: &Placed, done: &mut [bool], counts: &mut [u32])
+pub(crate) fn add(place: u32, placed: &Placed, done: &mut [bool], counts: &mut [u32])
     requires place { place < length done.old }
     requires placed { length placed.now ≡ length done.old }
     requires items { LiesWithin (length counts.old) placed.now }
@@ -237,11 +241,12 @@ pub(crate) fn begin(rows: &[Row], origins: &[u32], listed: &mut [bool], queue: &
     len
 }
 
-/// Marks a place as done, with what lies there, and asks the steps that this may open.
+/// Marks a place as done, with what lies there, and asks the steps that this may open. Its leaves are in the list.
 fn visit<R: Ruling, L: Ledger>(
     joint: &Joint,
     rules: &R,
     rows: &Rows,
+    split: &Split,
     placed: &Placed,
     place: u32,
     done: &mut [bool],
@@ -253,6 +258,7 @@ fn visit<R: Ruling, L: Ledger>(
 ) -> usize
     requires rules { R.stands_for rules.now (rule_list joint.now) }
     requires rows { AreRows joint.now (length done.old) (length counts.old) rows.now }
+    requires split { IsSplit (steps_in joint.now rows.now) rows.now.by_place split.now }
     requires tables { (length listed.old ≡ length done.old) × (length queue.old ≡ length done.old)
         × (length placed.now ≡ length done.old) }
     requires items { LiesWithin (length counts.old) placed.now }
@@ -263,13 +269,15 @@ fn visit<R: Ruling, L: Ledger>(
     ensures steps { steps.new ≤ steps.old + cost_at rows.now placed.now place }
     ensures done { done.new ≡ slice_set done.old place true }
     ensures working { (base : Bag) (head : ℕ) → head < len → slice_index queue.old head ≡ place
+        → ((t : ℕ) → is_among (numbers_at split.now.leaves place) t ≡ true
+        → places_of listed.old t ≡ true)
         → IsWorking (steps_in joint.now rows.now) base placed.now done.old counts.old listed.old
         queue.old head len → IsWorking (steps_in joint.now rows.now) base placed.now done.new
         counts.new listed.new queue.new (head + 1) result }
 {
     add(place, placed, done, counts);
     let table = rows.rows.as_slice();
-    let numbers = rows.by_place.at(place as usize);
+    let numbers = split.asked.at(place as usize);
     let len = wake(
         joint, rules, table, numbers, done, counts, listed, queue, len, steps,
     );
@@ -279,11 +287,12 @@ fn visit<R: Ruling, L: Ledger>(
     )
 }
 
-/// Takes the next place of the queue.
+/// Takes the next place of the queue, with its leaves.
 pub(crate) fn take_next<R: Ruling, L: Ledger>(
     joint: &Joint,
     rules: &R,
     rows: &Rows,
+    split: &Split,
     placed: &Placed,
     done: &mut [bool],
     counts: &mut [u32],
@@ -295,6 +304,7 @@ pub(crate) fn take_next<R: Ruling, L: Ledger>(
 ) -> usize
     requires rules { R.stands_for rules.now (rule_list joint.now) }
     requires rows { AreRows joint.now (length done.old) (length counts.old) rows.now }
+    requires split { IsSplit (steps_in joint.now rows.now) rows.now.by_place split.now }
     requires tables { (length listed.old ≡ length done.old) × (length queue.old ≡ length done.old)
         × (length placed.now ≡ length done.old) }
     requires items { LiesWithin (length counts.old) placed.now }
@@ -309,10 +319,14 @@ pub(crate) fn take_next<R: Ruling, L: Ledger>(
         queue.new (head + 1) result }
 {
     let place = queue[head];
+    let leaves = split.leaves.at(place as usize);
+    let len = take_leaves(
+        joint, rules, rows, placed, leaves, done, counts, listed, queue, len, steps,
+    );
     if done[place as usize] {
         return len;
     }
     visit(
-        joint, rules, rows, placed, place, done, counts, listed, queue, len, steps,
+        joint, rules, rows, split, placed, place, done, counts, listed, queue, len, steps,
     )
 }
