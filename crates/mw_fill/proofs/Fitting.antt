@@ -1,7 +1,7 @@
 -- The first location that fits, and what is held as one item more is put.
-use Rattle.std.proofs.Common.{◌≡◌, suc, ◌<◌, ◌&&◌, Bool, true, cond, List, [], ◌∷◌, ◌++◌, Option, Some, None, All, length, get_or, set, length-set, refl, sym, ap, ap₂, subst, ◌∙◌, inl, inr, arith}
+use Rattle.std.proofs.Common.{◌≡◌, ℕ, zero, suc, ◌<◌, ◌&&◌, Bool, true, cond, drop, List, [], ◌∷◌, ◌++◌, Option, Some, None, All, length, get_or, set, length-set, refl, sym, ap, ap₂, subst, ◌∙◌, inl, inr, arith}
 use Rattle.std.specs.Prelude.{find, is_none}
-use Rattle.std.proofs.lemmas.Bool.{cases_Bool, cases_eq, and_parts, cond-true, cond-false}
+use Rattle.std.proofs.lemmas.Bool.{cases_Bool, cases_eq, and_left, and_parts, cond-true, cond-false}
 use Rattle.std.proofs.lemmas.Bool.Decides.{Decides-eqb}
 use Rattle.std.proofs.lemmas.List.{get_or-set_same, get_or-set_other}
 use Rattle.std.proofs.lemmas.List.Elements.{All-push}
@@ -10,7 +10,7 @@ use Rattle.mw_multi.specs.Placement.{Put, PutKept, what_stands, AreStanding}
 use Rattle.mw_fill.specs.Openings.{Opening}
 use Rattle.mw_multi.proofs.WhatStands.{stands_more, stands_still, differ}
 use Rattle.mw_fill.specs.Fill.{is_fit, first_fit}
-use Rattle.mw_fill.specs.Kept.{IsHeldFor, is_open_in}
+use Rattle.mw_fill.specs.Kept.{IsHeldFor, AreTaken, is_open_in}
 
 -- ---- the first element that passes
 
@@ -33,6 +33,23 @@ find_passes f (y ∷ xs) x e = elim (cases_Bool (f y)) [
 ]
 
 -- ---- what is held
+
+-- the first free one is none of those that are taken
+pub past_taken : (test : Opening → Bool) (held : List (Option Put)) (openings : List Opening) (n : ℕ) → AreTaken held openings n → find (is_open_in test held) openings ≡ find (is_open_in test held) (drop n openings)
+past_taken test held openings zero taken = refl
+past_taken test held [] (suc n) taken = refl
+past_taken test held (s ∷ openings) (suc n) taken =
+    cond-false (is_open_in test held s) (Some s) (find (is_open_in test held) openings) (and_left (is_none (get_or held s.place None)) (test s) (taken 0 s (omega arith) (omega arith)))
+    ∙ past_taken test held openings n (λ k d h l. taken (suc k) d (omega arith) (omega arith))
+
+-- what is taken stays so where one more is put
+pub still_taken : (held : List (Option Put)) (openings : List Opening) (n place : ℕ) (put : Put) → place < length held → AreTaken held openings n → AreTaken (set held place (Some put)) openings n
+still_taken held openings n place put within taken k d h l =
+    let q = (get_or openings k d).place in
+    elim (cases_eq q place) [
+      | inl same ↦ ap (λ p. is_none (get_or (set held place (Some put)) p None)) same ∙ ap is_none (get_or-set_same held place (Some put) None within)
+      | inr other ↦ ap is_none (get_or-set_other held place q (Some put) None other) ∙ taken k d h l
+    ]
 
 -- the first that is open by the table is the first that fits
 pub held_first : (test : Opening → Bool) (puts : List Put) (held : List (Option Put)) (openings : List Opening) → AreStanding puts held → find (is_open_in test held) openings ≡ first_fit test puts openings

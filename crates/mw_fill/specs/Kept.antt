@@ -1,5 +1,5 @@
 -- For proofs alone: what copies and locations of a joint keep, and what is put in the midst of a fill.
-use Rattle.std.specs.Prelude.{◌≡◌, ◌<◌, List, [], ◌∷◌, Option, None, Bool, true, ◌&&◌, All, is_none, is_some, length, slice_index_or}
+use Rattle.std.specs.Prelude.{ℕ, ◌≡◌, ◌<◌, List, [], ◌∷◌, Option, None, Bool, true, false, ◌&&◌, All, is_none, is_some, length, slice_index_or}
 use Rattle.mw_multi.specs.Joint.{Slot, Joint, place_total, item_total}
 use Rattle.mw_multi.specs.Placement.{Put, PutKept, AreStanding, site_at, item_at, slot_at, numbers_of}
 use Rattle.mw_multi.specs.Events.{has_no_event}
@@ -32,6 +32,10 @@ pub record IsHeldFor (joint : Joint) (puts : List Put) (held : List (Option Put)
 -- nothing is held at the location, and it passes the test
 abbrev pub is_open_in : (Opening → Bool) → List (Option Put) → Opening → Bool
 is_open_in test held opening = is_none (slice_index_or held opening.place None) && test opening
+
+-- something is held at each of the first so many locations
+abbrev pub AreTaken : List (Option Put) → List Opening → ℕ → Type 0
+AreTaken held openings n = (k : ℕ) (d : Opening) → k < n → k < length openings → is_none (slice_index_or held (slice_index_or openings k d).place None) ≡ false
 
 -- what is held at the location, or else the filler
 abbrev pub end_held : List (Option Put) → Opening → Put

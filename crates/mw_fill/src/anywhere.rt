@@ -1,9 +1,10 @@
-ghost use Rattle.std.specs.Prelude.{◌≡◌, ◌<◌, List, All, IfSome, MatchResult, find, length};
+ghost use Rattle.std.specs.Prelude.{◌≡◌, ◌<◌, ◌≤◌, List, None, true, false, All, IfSome, MatchResult, find, is_none, length, slice_index_or};
 ghost use Rattle.mw_multi.specs.Joint.{Joint};
 ghost use Rattle.mw_multi.specs.Placement as plain;
+ghost use Rattle.mw_fill.specs.Openings as plain_opening;
 ghost use Rattle.mw_fill.specs.Openings.{accepts};
 ghost use Rattle.mw_fill.specs.Fill.{filled, stuck, placed_anywhere};
-ghost use Rattle.mw_fill.specs.Kept.{CopyKept, OpeningKept, IsHeldFor, is_open_in};
+ghost use Rattle.mw_fill.specs.Kept.{CopyKept, OpeningKept, IsHeldFor, AreTaken, is_open_in};
 ghost use Rattle.mw_fill.specs.Answer.{OnStuck};
 
 use crate::error::FillError;
@@ -11,12 +12,47 @@ use crate::item_copy::ItemCopy;
 use crate::opening::Opening;
 use mw_multi::Put;
 
-/// The first of the locations that is free and accepts the copy.
-fn first_accepting(copy: &ItemCopy, openings: &[Opening], held: &[Option<Put>]) -> Option<Opening>
+/// Whether there is a location at this number, from 0, where something is held.
+fn is_taken(openings: &[Opening], held: &[Option<Put>], at: usize) -> bool
     requires within { All (λ s. s.place < length held.now) openings.now }
+    ensures within { result ≡ true → at < length openings.now }
+    ensures taken { result ≡ true → (d : plain_opening.Opening)
+        → is_none (slice_index_or held.now (slice_index_or openings.now at d).place None) ≡ false }
+{
+    match openings.get(at) {
+        Some(opening) => held[opening.place as usize].is_some(),
+        None => false,
+    }
+}
+
+/// How many of the first locations are taken, where so many are known to be.
+fn past_taken(openings: &[Opening], held: &[Option<Put>], from: usize) -> usize
+    requires within { All (λ s. s.place < length held.now) openings.now }
+    requires from { from ≤ length openings.now }
+    requires taken { AreTaken held.now openings.now from }
+    ensures within { result ≤ length openings.now }
+    ensures taken { AreTaken held.now openings.now result }
+{
+    let mut from = from;
+    while is_taken(openings, held, from) {
+        from += 1;
+    }
+    from
+}
+
+/// The first of the locations that is free and accepts the copy. The first so many are taken.
+fn first_accepting(
+    copy: &ItemCopy,
+    openings: &[Opening],
+    from: usize,
+    held: &[Option<Put>],
+) -> Option<Opening>
+    requires within { All (λ s. s.place < length held.now) openings.now }
+    requires from { from ≤ length openings.now }
+    requires taken { AreTaken held.now openings.now from }
     ensures { result ≡ find (is_open_in (accepts copy.now) held.now) openings.now }
 {
-    for opening in openings {
+    for opening in &openings[from..] {
         if held[opening.place as usize].is_none() && opening.accepts(copy) {
             return Some(*opening);
         }
@@ -38,8 +74,10 @@ pub(crate) fn place_anywhere(
         (λ e. OnStuck e (λ slot item. placed_anywhere openings.now copies.now puts
         ≡ stuck slot item)) }
 {
+    let mut from = 0;
     for copy in copies {
-        match first_accepting(copy, openings, held) {
+        from = past_taken(openings, held, from);
+        match first_accepting(copy, openings, from, held) {
             None => return Err(copy.stuck()),
             Some(opening) => held[opening.place as usize] = Some(copy.put_at(&opening)),
         }

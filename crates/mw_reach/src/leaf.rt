@@ -14,6 +14,7 @@ use mw_rules::{Ruling, Steps};
 use std::sync::ledger::Ledger;
 
 /// Marks a leaf as done where it isn't yet, with what lies there, and asks the steps that name these items.
+#[inline(always)]
 fn take_leaf<R: Ruling, L: Ledger>(
     joint: &Joint,
     rules: &R,
@@ -58,6 +59,7 @@ fn take_leaf<R: Ruling, L: Ledger>(
 }
 
 /// Marks the leaves as done, with what lies there, and asks the steps that name these items.
+#[inline(always)]
 pub(crate) fn take_leaves<R: Ruling, L: Ledger>(
     joint: &Joint,
     rules: &R,

@@ -20,6 +20,7 @@ use mw_rules::{Ruling, Steps};
 use std::sync::ledger::Ledger;
 
 /// Counts each of the items once more.
+#[inline(always)]
 pub(crate) fn count_items(items: &[u32], counts: &mut [u32])
     requires items { All (λ i. i < length counts.old) items.now }
     requires room { (i : ℕ) → bag_of counts.old i + times_in i items.now < 2 ^ 32 }
@@ -31,6 +32,7 @@ pub(crate) fn count_items(items: &[u32], counts: &mut [u32])
 }
 
 /// Adds a place that isn't in the list, and what lies there.
+#[inline(always)]
 pub(crate) fn add(place: u32, placed: &Placed, done: &mut [bool], counts: &mut [u32])
     requires place { place < length done.old }
     requires placed { length placed.now ≡ length done.old }
@@ -46,6 +48,7 @@ pub(crate) fn add(place: u32, placed: &Placed, done: &mut [bool], counts: &mut [
 }
 
 /// Whether a rule of a slot holds for the slot's places that are done and for the counts of its items.
+#[inline(always)]
 pub(crate) fn holds<R: Ruling, L: Ledger>(
     joint: &Joint,
     rules: &R,
@@ -79,6 +82,7 @@ pub(crate) fn holds<R: Ruling, L: Ledger>(
 }
 
 /// Whether the step may be taken from the places that are done.
+#[inline(always)]
 fn is_open<R: Ruling, L: Ledger>(
     joint: &Joint,
     rules: &R,
@@ -103,6 +107,7 @@ fn is_open<R: Ruling, L: Ledger>(
 }
 
 /// Asks a step, lists the place that it leads to where it's open, and gives the queue's new length.
+#[inline(always)]
 fn ask<R: Ruling, L: Ledger>(
     joint: &Joint,
     rules: &R,
@@ -172,6 +177,7 @@ fn wake<R: Ruling, L: Ledger>(
 }
 
 /// Asks the steps that name these items, item by item.
+#[inline(always)]
 pub(crate) fn wake_items<R: Ruling, L: Ledger>(
     joint: &Joint,
     rules: &R,
@@ -242,6 +248,7 @@ pub(crate) fn begin(rows: &[Row], origins: &[u32], listed: &mut [bool], queue: &
 }
 
 /// Marks a place as done, with what lies there, and asks the steps that this may open. Its leaves are in the list.
+#[inline(always)]
 fn visit<R: Ruling, L: Ledger>(
     joint: &Joint,
     rules: &R,
@@ -288,6 +295,7 @@ fn visit<R: Ruling, L: Ledger>(
 }
 
 /// Takes the next place of the queue, with its leaves.
+#[inline(always)]
 pub(crate) fn take_next<R: Ruling, L: Ledger>(
     joint: &Joint,
     rules: &R,

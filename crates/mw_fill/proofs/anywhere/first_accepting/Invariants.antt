@@ -6,4 +6,4 @@ use Rattle.mw_fill.proofs.anywhere.first_accepting.Given as goal
 
 -- the locations that are left decide
 abbrev pub invariant-loop-opening : goal.invariant-loop-opening
-invariant-loop-opening l = find (is_open_in (accepts l.copy) l.held) l.openings ≡ find (is_open_in (accepts l.copy) l.held) (drop l.opening-index l.openings)
+invariant-loop-opening l = find (is_open_in (accepts l.copy) l.held) l.openings ≡ find (is_open_in (accepts l.copy) l.held) (drop l.opening-index (drop l.from l.openings))

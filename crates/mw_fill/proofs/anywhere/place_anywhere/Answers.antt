@@ -3,12 +3,12 @@ use Rattle.mw_fill.specs.Openings.{Opening, accepts}
 use Rattle.mw_fill.specs.Fill.{stuck, put_of, first_fit, placed_anywhere}
 use Rattle.mw_fill.specs.Kept.{CopyKept, IsHeldFor}
 use Rattle.mw_fill.specs.Answer.{OnStuck}
-use Rattle.mw_fill.proofs.Fitting.{find_all, held_first}
+use Rattle.mw_fill.proofs.Fitting.{find_all, held_first, still_taken}
 use Rattle.mw_fill.proofs.Stepping.{anywhere_stuck, anywhere_next, anywhere_end, held_next}
 use Rattle.mw_fill.proofs.anywhere.place_anywhere.Goals as goal
 
 pub loop-copy-init : goal.loop-copy-init
-loop-copy-init c = record { within = c.requires.within; so_far = λ joint puts copies openings held. (puts, held, refl) }
+loop-copy-init c = record { from = omega arith; taken = λ k d h l. absurd (omega arith); within = c.requires.within; so_far = λ joint puts copies openings held. (puts, held, refl) }
 
 pub returns-in-None : goal.returns-in-None
 returns-in-None c = λ joint puts copies openings held.
@@ -33,6 +33,8 @@ loop-copy-preserved c =
     let held = c.loop-copy.held in
     let entry : set held c.opening.inside.place (Some c.put_at.result) ≡ set held opening.place (Some (put_of copy opening)) = ap₂ (λ n p. set held n (Some p)) (ap (λ (s : Opening). s.place) c.opening.view_is) c.put_at.ensures in
     record {
+      from = c.past_taken-from.ensures.within;
+      taken = still_taken held a.openings.now c.past_taken-from.result c.opening.inside.place c.put_at.result (omega (arith, bounds-held-opening-inside c)) c.past_taken-from.ensures.taken;
       within = λ i d l. omega (arith, length-set held c.opening.inside.place (Some c.put_at.result), c.loop-copy.invariant.within i d l);
       so_far = λ joint puts copies openings first.
           let before = c.loop-copy.invariant.so_far joint puts copies openings first in
