@@ -1,6 +1,6 @@
 #!/usr/bin/env bash
-# Prints the time (passed, and of the processor) and memory of `generate` and `check` on worlds of 2,000 places with 400 progression items and of 10,000 with 2,000, and on chains of 1,000 and
-# 4,000 keys, each of which opens the way to the next region.
+# Prints the time (passed, and of the processor) and memory of `generate` and `check` on worlds of 2,000 places with 400 progression items and of 10,000 with 2,000; on chains of 1,000 and
+# 4,000 keys, each of which opens the way to the next region; on a chain of 1,000 regions of which the last alone has free locations; and for 5 and 20 players of the world of 10,000 places.
 # Run after `rt run` in crates/mw_cli, which leaves the program.
 set -eu
 cd "$(dirname "$0")/.."
@@ -13,7 +13,7 @@ python3 - "$program" "$work" <<'PY'
 import resource, subprocess, sys, time
 program, folder = sys.argv[1:]
 before = 0.0
-for name in ("small", "large", "chain", "long_chain"):
+for name in ("small", "large", "chain", "long_chain", "last", "huge", "limit"):
     for words in (["generate", "%s/%s.json" % (folder, name), "%s/%s_seed.json" % (folder, name), "--seed", "1"], ["check", "%s/%s.json" % (folder, name), "%s/%s_seed.json" % (folder, name)]):
         begin = time.time()
         run = subprocess.run([program] + words, stdout=subprocess.PIPE)

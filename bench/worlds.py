@@ -44,12 +44,27 @@ def chain_world(game, count):
     return world(game, names, keys(count), entrances, locations, one_each(count))
 
 
+def last_world(game, count):
+    """A chain of regions without a rule between them, in each of which a way with its own key leads on to a dead end: all free locations are in the last region of the chain, so each list walks the
+    whole chain."""
+    names = ["Menu"] + ["R%d" % r for r in range(1, count + 1)] + ["End %d" % r for r in range(1, count + 1)]
+    entrances = [{"name": "To R%d" % r, "from": names[r - 1], "to": names[r], "rule": {"can_reach": {"region": names[r - 1]}}} for r in range(1, count + 1)]
+    entrances += [{"name": "To End %d" % r, "from": names[r], "to": "End %d" % r, "rule": {"has": "Key %d" % r}} for r in range(1, count + 1)]
+    locations = [{"name": "L%d" % n, "id": n + 1, "region": names[count], "rule": True} for n in range(2 * count)]
+    return world(game, names, keys(count), entrances, locations, one_each(count))
+
+
 worlds = {
     "small": regions_world("small", 2000, 400),
     "large": regions_world("large", 10000, 2000),
     "chain": chain_world("chain", 1000),
     "long_chain": chain_world("long_chain", 4000),
+    "last": last_world("last", 1000),
 }
+# Lists of players: the name of each, the world of its players and how many they are.
+several = {"huge": ("large", 5), "limit": ("large", 20)}
 for name, value in worlds.items():
     write(name + "_world.json", value)
-    write(name + ".json", {"format": "mw-players-1", "players": [{"names": ["Ann"], "world": "%s/%s_world.json" % (folder, name)}]})
+    several[name] = (name, 1)
+for name, (of, players) in several.items():
+    write(name + ".json", {"format": "mw-players-1", "players": [{"names": ["P%d" % p], "world": "%s/%s_world.json" % (folder, of)} for p in range(1, players + 1)]})
