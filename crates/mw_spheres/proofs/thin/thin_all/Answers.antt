@@ -1,16 +1,29 @@
-use Rattle.std.proofs.Common.{◌≡◌, [], false, replicate, refl, subst, arith}
+use Rattle.std.proofs.Common.{◌≡◌, Bool, true, false, not, ◌&&◌, [], replicate, refl, sym, ap, subst, ◌∙◌, arith}
 use Rattle.std.proofs.lemmas.Grind.{common_steps}
 use Rattle.std.proofs.lemmas.List.{append-nil}
 use Rattle.std.proofs.lemmas.Result.{on_ok_weaker}
-use Rattle.mw_rules.specs.Holds.{bag_of}
+use Rattle.mw_rules.specs.Holds.{bag_of, places_of}
+use Rattle.mw_rules.specs.Names.{is_among}
 use Rattle.mw_multi.specs.Bags.{start_count}
 use Rattle.mw_multi.specs.Joint.{place_total}
 use Rattle.mw_multi.specs.Steps.{steps_of}
 use Rattle.mw_reach.specs.Reached.{counts_in, flags_in}
 use Rattle.mw_reach.proofs.Settling.{settled_alike}
+use Rattle.mw_reach.proofs.Walks.{replicate-false}
 use Rattle.mw_spheres.specs.Playthrough.{IsThinned}
 use Rattle.mw_spheres.proofs.Revealing.{nothing_shown}
 use Rattle.mw_spheres.proofs.thin.thin_all.Goals as goal
+
+never_both : (b : Bool) → (b && not b) ≡ false
+never_both true = refl
+never_both false = refl
+
+pub thin-requires-clause-shown : goal.thin-requires-clause-shown
+thin-requires-clause-shown c p =
+    let joint = c.args.joint.now in
+    let among = is_among c.args.places.now p in
+    let none : c.as_mut_slice-shown.result.now ≡ replicate (place_total joint.slots) false = grind (arith, common_steps) in
+    ap (λ flags. places_of flags p) none ∙ replicate-false (place_total joint.slots) p ∙ sym (ap (λ b. b && not among) (c.requires.kept p) ∙ never_both among)
 
 pub thin-requires-clause-table : goal.thin-requires-clause-table
 thin-requires-clause-table c =
