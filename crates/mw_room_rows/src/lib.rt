@@ -4,4 +4,6 @@
 #[cfg(test)]
 mod messages;
 #[cfg(test)]
+mod replays;
+#[cfg(test)]
 mod rooms;

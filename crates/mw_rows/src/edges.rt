@@ -38,101 +38,164 @@ fn length_of(read: Result<FileRead, FolderError>) -> Result<Option<usize>, Folde
     }
 }
 
+/// A source of three bytes whose call of this number fails.
+fn source_of(alloc: Global, planned: u64) -> Result<MemorySource, Memory> {
+    Ok(MemorySource::new(bytes_of(alloc, b"abc")?, failing_at(alloc, planned)?))
+}
+
+/// Whether of three takes of such a source just that fails.
+fn takes_fail_at(alloc: Global, planned: u64) -> Result<bool, Memory> {
+    let mut source = source_of(alloc, planned)?;
+    for call in 0..3u64 {
+        if source.take(&mut [0u8; 1]).is_err() != (call == planned) {
+            return Ok(false);
+        }
+    }
+    Ok(true)
+}
+
 #[test]
 fn planned_takes_fail(rt: HostRuntime) -> Result<(), Fail> {
     for planned in 0..3u64 {
-        let faults = failing_at(rt.alloc(), planned)?;
-        let mut source = MemorySource::new(bytes_of(rt.alloc(), b"abc")?, faults);
-        for call in 0..3u64 {
-            let mut into = [0u8; 1];
-            let taken = source.take(&mut into);
-            assert_eq!(rt; taken.is_err(), call == planned, "call {call} of {planned}");
-        }
-        assert!(rt; is_send(&source));
+        assert!(rt; takes_fail_at(rt.alloc(), planned)?, "call {planned}");
     }
+    assert!(rt; is_send(&source_of(rt.alloc(), 0)?));
     Ok(())
+}
+
+/// Whether of three puts of a sink just that fails, and the sink has the others.
+fn puts_fail_at(alloc: Global, planned: u64) -> Result<bool, Memory> {
+    let mut sink = MemorySink::new(alloc, failing_at(alloc, planned)?);
+    for call in 0..3u64 {
+        if (sink.put(b"ab") == Err(SinkError::Failed)) != (call == planned) {
+            return Ok(false);
+        }
+    }
+    Ok(sink.bytes() == b"abab".as_slice() && is_send(&sink))
 }
 
 #[test]
 fn planned_puts_fail(rt: HostRuntime) -> Result<(), Fail> {
     for planned in 0..3u64 {
-        let mut sink = MemorySink::new(rt.alloc(), failing_at(rt.alloc(), planned)?);
-        for call in 0..3u64 {
-            let failed = sink.put(b"ab") == Err(SinkError::Failed);
-            assert_eq!(rt; failed, call == planned, "call {call} of {planned}");
-        }
-        assert_eq!(rt; sink.bytes(), b"abab".as_slice());
-        assert!(rt; is_send(&sink));
+        assert!(rt; puts_fail_at(rt.alloc(), planned)?, "call {planned}");
     }
     Ok(())
+}
+
+/// Whether a read of a file within a limit gives this.
+fn reads<F: Folder>(
+    alloc: Global,
+    folder: &mut F,
+    name: &str,
+    limit: u64,
+    wanted: Result<Option<usize>, FolderError>,
+) -> bool {
+    match Text::of(alloc, name) {
+        Ok(name) => length_of(folder.read_file(alloc, &name, limit)) == wanted,
+        Err(_) => false,
+    }
+}
+
+/// A folder of one file whose call of this number fails.
+fn folder_of(alloc: Global, planned: u64) -> Result<MemoryFolder, Memory> {
+    Ok(MemoryFolder::new(one_file(alloc)?, failing_at(alloc, planned)?))
+}
+
+/// Whether of three reads of such a folder just that fails.
+fn fails_at(alloc: Global, planned: u64) -> Result<bool, Memory> {
+    let mut folder = folder_of(alloc, planned)?;
+    for call in 0..3u64 {
+        let wanted = if call == planned {
+            Err(FolderError::Failed)
+        } else {
+            Ok(Some(5))
+        };
+        if !reads(alloc, &mut folder, "five", 5, wanted) {
+            return Ok(false);
+        }
+    }
+    Ok(true)
 }
 
 #[test]
 fn planned_reads_fail(rt: HostRuntime) -> Result<(), Fail> {
-    let name = Text::of(rt.alloc(), "five")?;
     for planned in 0..3u64 {
-        let faults = failing_at(rt.alloc(), planned)?;
-        let mut folder = MemoryFolder::new(one_file(rt.alloc())?, faults);
-        for call in 0..3u64 {
-            let want = if call == planned {
-                Err(FolderError::Failed)
-            } else {
-                Ok(Some(5))
-            };
-            let read = length_of(folder.read_file(rt.alloc(), &name, 5));
-            assert_eq!(rt; read, want, "call {call} of {planned}");
-        }
-        assert!(rt; is_send(&folder));
+        assert!(rt; fails_at(rt.alloc(), planned)?, "call {planned}");
     }
+    assert!(rt; is_send(&folder_of(rt.alloc(), 0)?));
     Ok(())
+}
+
+/// Whether a write of a file is answered so.
+fn writes<F: Folder>(
+    alloc: Global,
+    folder: &mut F,
+    name: &str,
+    bytes: &[u8],
+    wanted: Result<(), FolderError>,
+) -> bool {
+    match Text::of(alloc, name) {
+        Ok(name) => folder.write_file(alloc, &name, bytes) == wanted,
+        Err(_) => false,
+    }
 }
 
 #[test]
 fn planned_writes_fail(rt: HostRuntime) -> Result<(), Fail> {
-    let name = Text::of(rt.alloc(), "new")?;
-    let faults = failing_at(rt.alloc(), 1)?;
-    let mut folder = MemoryFolder::new(one_file(rt.alloc())?, faults);
-    let first = folder.write_file(rt.alloc(), &name, b"first");
-    let second = folder.write_file(rt.alloc(), &name, b"second");
-    assert_eq!(rt; (first, second), (Ok(()), Err(FolderError::Failed)));
-    folder.write_file(rt.alloc(), &name, b"third one")?;
-    let read = length_of(folder.read_file(rt.alloc(), &name, 9));
-    assert_eq!(rt; read, Ok(Some(9)));
+    let mut folder = folder_of(rt.alloc(), 1)?;
+    for (bytes, wanted) in [
+        (b"first".as_slice(), Ok(())),
+        (b"second".as_slice(), Err(FolderError::Failed)),
+        (b"third one".as_slice(), Ok(())),
+    ] {
+        assert!(rt; writes(rt.alloc(), &mut folder, "new", bytes, wanted));
+    }
+    assert!(rt; reads(rt.alloc(), &mut folder, "new", 9, Ok(Some(9))));
     Ok(())
 }
 
 #[test]
 fn steady_folders_are_written(rt: HostRuntime) -> Result<(), Fail> {
-    let name = Text::of(rt.alloc(), "five")?;
     let mut folder = SteadyFolder::new(one_file(rt.alloc())?);
-    folder.write_file(rt.alloc(), &name, b"three")?;
-    folder.write_file(rt.alloc(), &name, b"to")?;
-    let read = length_of(folder.read_file(rt.alloc(), &name, 9));
-    assert_eq!(rt; read, Ok(Some(2)));
+    assert!(rt; writes(rt.alloc(), &mut folder, "five", b"three", Ok(())));
+    assert!(rt; writes(rt.alloc(), &mut folder, "five", b"to", Ok(())));
+    assert!(rt; reads(rt.alloc(), &mut folder, "five", 9, Ok(Some(2))));
     Ok(())
+}
+
+/// Whether a source of `abc` gives two bytes, then one, then none.
+fn source_works(alloc: Global) -> Result<bool, Memory> {
+    let mut source = SteadySource::new(bytes_of(alloc, b"abc")?);
+    let mut into = [0u8; 2];
+    if source.take(&mut into) != Ok(2) || into != *b"ab" {
+        return Ok(false);
+    }
+    Ok(source.take(&mut into) == Ok(1) && source.take(&mut into) == Ok(0))
+}
+
+/// Whether a sink has what is put.
+fn sink_works(alloc: Global) -> Result<bool, Fail> {
+    let mut sink = SteadySink::new(alloc);
+    sink.put(b"ab")?;
+    sink.put(b"c")?;
+    Ok(sink.bytes() == b"abc".as_slice())
+}
+
+/// Whether a folder of one file of five bytes is read within limits.
+fn folder_works(alloc: Global) -> Result<bool, Memory> {
+    let mut folder = SteadyFolder::new(one_file(alloc)?);
+    Ok(
+        reads(alloc, &mut folder, "five", 5, Ok(Some(5)))
+            && reads(alloc, &mut folder, "five", 4, Ok(None))
+            && reads(alloc, &mut folder, "none", 0, Ok(Some(0))),
+    )
 }
 
 #[test]
 fn steady_objects_work(rt: HostRuntime) -> Result<(), Fail> {
-    let mut source = SteadySource::new(bytes_of(rt.alloc(), b"abc")?);
-    let mut into = [0u8; 2];
-    assert_eq!(rt; source.take(&mut into), Ok(2));
-    assert_eq!(rt; into.as_slice(), b"ab".as_slice());
-    assert_eq!(rt; source.take(&mut into), Ok(1));
-    assert_eq!(rt; source.take(&mut into), Ok(0));
-    let mut sink = SteadySink::new(rt.alloc());
-    sink.put(b"ab")?;
-    sink.put(b"c")?;
-    assert_eq!(rt; sink.bytes(), b"abc".as_slice());
-    let mut folder = SteadyFolder::new(one_file(rt.alloc())?);
-    for (name, limit, want) in [
-        ("five", 5, Some(5)),
-        ("five", 4, None),
-        ("none", 0, Some(0)),
-    ] {
-        let read = folder.read_file(rt.alloc(), &Text::of(rt.alloc(), name)?, limit);
-        assert_eq!(rt; length_of(read), Ok(want), "{name} within {limit}");
-    }
+    assert!(rt; source_works(rt.alloc())?);
+    assert!(rt; sink_works(rt.alloc())?);
+    assert!(rt; folder_works(rt.alloc())?);
     Ok(())
 }
 
@@ -201,7 +264,7 @@ fn streams_pass_bytes_on(rt: HostRuntime) -> Result<(), Fail> {
 fn system_files_are_read(rt: HostRuntime) -> Result<(), Fail> {
     fs::write(&rt, "five_bytes", "bytes")?;
     let mut folder = SystemFolder::new(&rt, rt.alloc());
-    for (name, limit, want) in [
+    for (name, limit, wanted) in [
         ("five_bytes", 5, Ok(Some(5))),
         ("five_bytes", 6, Ok(Some(5))),
         ("five_bytes", 4, Ok(None)),
@@ -210,8 +273,10 @@ fn system_files_are_read(rt: HostRuntime) -> Result<(), Fail> {
         // It never ends, so a read stops past the limit.
         ("/dev/zero", 5, Ok(None)),
     ] {
-        let read = folder.read_file(rt.alloc(), &Text::of(rt.alloc(), name)?, limit);
-        assert_eq!(rt; length_of(read), want, "{name} within {limit}");
+        assert!(rt;
+            reads(rt.alloc(), &mut folder, name, limit, wanted),
+            "{name} within {limit}"
+        );
     }
     fs::remove_file(&rt, "five_bytes")?;
     Ok(())
@@ -220,15 +285,20 @@ fn system_files_are_read(rt: HostRuntime) -> Result<(), Fail> {
 #[test]
 fn system_files_are_written(rt: HostRuntime) -> Result<(), Fail> {
     let mut folder = SystemFolder::new(&rt, rt.alloc());
-    let name = Text::of(rt.alloc(), "written_bytes")?;
-    for bytes in [b"longer".as_slice(), b"short"] {
-        folder.write_file(rt.alloc(), &name, bytes)?;
-        let text = fs::read_to_string(&rt, "written_bytes")?;
-        assert!(rt; text.as_bytes() == bytes);
+    for text in ["longer", "short"] {
+        assert!(rt;
+            writes(
+                rt.alloc(),
+                &mut folder,
+                "written_bytes",
+                text.as_bytes(),
+                Ok(())
+            )
+        );
+        assert!(rt; fs::read_to_string(&rt, "written_bytes")?.as_str() == text);
     }
     fs::remove_file(&rt, "written_bytes")?;
-    let nowhere = Text::of(rt.alloc(), "no_such_folder/file")?;
-    let refused = folder.write_file(rt.alloc(), &nowhere, b"");
-    assert_eq!(rt; refused, Err(FolderError::Failed));
+    let failed = Err(FolderError::Failed);
+    assert!(rt; writes(rt.alloc(), &mut folder, "no_such_folder/file", b"", failed));
     Ok(())
 }

@@ -1,25 +1,15 @@
-//! Tests alone: the worked rows of the crates below the program, and what no clause says of
-//! them; those of the room stand in mw_room_rows.
+//! Tests alone: the worked rows of the generator, its files and the lock, and what no clause says
+//! of them.
 #![tactic(auto)]
 
 #[cfg(test)]
-mod chat;
-#[cfg(test)]
-mod checks;
-#[cfg(test)]
-mod client_members;
-#[cfg(test)]
-mod client_packets;
+mod cases;
 #[cfg(test)]
 mod disks;
 #[cfg(test)]
 mod draws;
 #[cfg(test)]
 mod edges;
-#[cfg(test)]
-mod game_names;
-#[cfg(test)]
-mod hints;
 #[cfg(test)]
 mod ids;
 #[cfg(test)]
@@ -35,15 +25,9 @@ mod native;
 #[cfg(test)]
 mod reaching;
 #[cfg(test)]
-mod records;
-#[cfg(test)]
 mod rules;
 #[cfg(test)]
 mod seed_files;
-#[cfg(test)]
-mod server_packets;
-#[cfg(test)]
-mod storage;
 #[cfg(test)]
 mod tables;
 #[cfg(test)]

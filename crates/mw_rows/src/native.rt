@@ -180,50 +180,80 @@ fn seed_by_pair(alloc: Global, joint: &Joint, second: &Joint, seed: u64) -> Resu
     }
 }
 
+/// The worlds of two files.
+fn both_worlds(alloc: Global) -> Result<List<World>, Fail> {
+    let mut worlds = world_of(alloc, SWORDS)?;
+    worlds.push(read_world(alloc, KEYS.as_bytes())?)?;
+    Ok(worlds)
+}
+
+/// The world of a file alone.
+fn world_of(alloc: Global, file: &str) -> Result<List<World>, Fail> {
+    let mut worlds = List::new(alloc);
+    worlds.push(read_world(alloc, file.as_bytes())?)?;
+    Ok(worlds)
+}
+
+/// Whether the first location has a placement's sword, and the second its coin.
+fn is_sword_first(placement: &[Put]) -> bool {
+    let sword = Put {
+        place: 1,
+        receiver: 1,
+        item: 0,
+    };
+    let coin = Put {
+        place: 2,
+        receiver: 1,
+        item: 1,
+    };
+    placement == [sword, coin].as_slice()
+}
+
+/// Whether that is so of a seed of Ann's alone.
+fn puts_sword_first(alloc: Global, joint: &Joint, seed: u64) -> Result<bool, Fail> {
+    let found = seed_by_closure(alloc, joint, seed)?;
+    Ok(is_sword_first(found.placement.as_slice()))
+}
+
 #[test]
 fn a_closure_answers_the_rules_of_one_sword(rt: HostRuntime) -> Result<(), Fail> {
-    let alloc = rt.alloc();
-    let players = read_players(alloc, ANN.as_bytes())?;
-    let mut worlds = List::new(alloc);
-    worlds.push(read_world(alloc, SWORDS.as_bytes())?)?;
-    let joint = joint_of(alloc, &worlds, &players)?;
+    let players = read_players(rt.alloc(), ANN.as_bytes())?;
+    let worlds = world_of(rt.alloc(), SWORDS)?;
+    let joint = joint_of(rt.alloc(), &worlds, &players)?;
     for seed in 0..10 {
-        let found = seed_by_closure(alloc, &joint, seed)?;
-        let [first, second] = found.placement.as_slice() else {
-            return Err(Fail::from("not two locations"));
-        };
-        let sword = Put {
-            place: 1,
-            receiver: 1,
-            item: 0,
-        };
-        let coin = Put {
-            place: 2,
-            receiver: 1,
-            item: 1,
-        };
-        assert!(rt; *first == sword && *second == coin);
+        assert!(rt; puts_sword_first(rt.alloc(), &joint, seed)?, "seed {seed}");
     }
     Ok(())
 }
 
+/// Whether a seed of both by the closure and trees is that by the trees of both.
+fn is_by_trees(alloc: Global, joint: &Joint, keys: &Joint, seed: u64) -> Result<bool, Fail> {
+    let found = seed_by_pair(alloc, joint, keys, seed)?;
+    let by_trees = generate(alloc, joint, seed, 10)?;
+    Ok(
+        found.stream == by_trees.stream
+            && found.placement.as_slice() == by_trees.placement.as_slice(),
+    )
+}
+
+/// Whether that is so of each of ten seeds.
+fn are_by_trees(alloc: Global, joint: &Joint) -> Result<bool, Fail> {
+    let bob = read_players(alloc, BOB.as_bytes())?;
+    let worlds = world_of(alloc, KEYS)?;
+    let keys = joint_of(alloc, &worlds, &bob)?;
+    for seed in 0..10 {
+        if !is_by_trees(alloc, joint, &keys, seed)? {
+            return Ok(false);
+        }
+    }
+    Ok(true)
+}
+
 #[test]
 fn a_closure_and_trees_answer_as_the_trees_of_both(rt: HostRuntime) -> Result<(), Fail> {
-    let alloc = rt.alloc();
-    let players = read_players(alloc, BOTH.as_bytes())?;
-    let mut worlds = List::new(alloc);
-    worlds.push(read_world(alloc, SWORDS.as_bytes())?)?;
-    worlds.push(read_world(alloc, KEYS.as_bytes())?)?;
-    let joint = joint_of(alloc, &worlds, &players)?;
-    let bob = read_players(alloc, BOB.as_bytes())?;
-    let mut keys = List::new(alloc);
-    keys.push(read_world(alloc, KEYS.as_bytes())?)?;
-    let second = joint_of(alloc, &keys, &bob)?;
-    for seed in 0..10 {
-        let found = seed_by_pair(alloc, &joint, &second, seed)?;
-        let by_trees = generate(alloc, &joint, seed, 10)?;
-        assert!(rt; found.stream == by_trees.stream);
-        assert!(rt; found.placement.as_slice() == by_trees.placement.as_slice());
-    }
+    let players = read_players(rt.alloc(), BOTH.as_bytes())?;
+    let worlds = both_worlds(rt.alloc())?;
+    let joint = joint_of(rt.alloc(), &worlds, &players)?;
+    assert!(rt; are_by_trees(rt.alloc(), &joint)?);
     Ok(())
 }

@@ -47,24 +47,61 @@ fn both(alloc: Global, first: Rule, second: Rule) -> Result<List<Rule>, Memory>
     Ok(List::from_vec(rules))
 }
 
+/// The answer of the rule that takes all of two items.
+#[tactic(auto, using(mw_rules::proofs::Views::view_of_has_all))]
+fn has_all(alloc: Global, first: u32, second: u32) -> Result<bool, Memory>
+    requires { (first < 3) × (second < 3) }
+{
+    let rule = Rule::HasAll(two(alloc, first, second)?);
+    Ok(answer(&rule))
+}
+
+/// The answer of the rule that takes any of two items.
+#[tactic(auto, using(mw_rules::proofs::Views::view_of_has_any))]
+fn has_any(alloc: Global, first: u32, second: u32) -> Result<bool, Memory>
+    requires { (first < 3) × (second < 3) }
+{
+    let rule = Rule::HasAny(two(alloc, first, second)?);
+    Ok(answer(&rule))
+}
+
+/// The answer of the rule that takes so many of the items 1 and 2.
+#[tactic(auto, using(mw_rules::proofs::Views::view_of_count))]
+fn has_count(alloc: Global, at_least: u32) -> Result<bool, Memory> {
+    let items = two(alloc, 1, 2)?;
+    Ok(answer(&Rule::Count { items, at_least }))
+}
+
 #[test]
-#[tactic(auto, using(mw_rules::proofs::Views::view_of_has_all, mw_rules::proofs::Views::view_of_has_any, mw_rules::proofs::Views::view_of_count))]
+#[tactic(auto, using(mw_rules::proofs::Views::view_of_has_all, mw_rules::proofs::Views::view_of_has_any))]
 fn forms_of_items_answer_at_their_edges(rt: HostRuntime) -> Result<(), Fail> {
     assert!(rt; answer(&Rule::HasAll(List::new(rt.alloc()))));
-    let all = Rule::HasAll(two(rt.alloc(), 1, 2)?);
-    assert!(rt; answer(&all));
-    let all = Rule::HasAll(two(rt.alloc(), 1, 0)?);
-    assert!(rt; !answer(&all));
+    assert!(rt; has_all(rt.alloc(), 1, 2)?);
+    assert!(rt; !has_all(rt.alloc(), 1, 0)?);
     assert!(rt; !answer(&Rule::HasAny(List::new(rt.alloc()))));
-    let any = Rule::HasAny(two(rt.alloc(), 0, 1)?);
-    assert!(rt; answer(&any));
-    let any = Rule::HasAny(two(rt.alloc(), 0, 0)?);
-    assert!(rt; !answer(&any));
-    let items = two(rt.alloc(), 1, 2)?;
-    assert!(rt; answer(&Rule::Count { items, at_least: 3 }));
-    let items = two(rt.alloc(), 1, 2)?;
-    assert!(rt; !answer(&Rule::Count { items, at_least: 4 }));
+    assert!(rt; has_any(rt.alloc(), 0, 1)?);
+    assert!(rt; !has_any(rt.alloc(), 0, 0)?);
+    assert!(rt; has_count(rt.alloc(), 3)?);
+    assert!(rt; !has_count(rt.alloc(), 4)?);
     Ok(())
+}
+
+/// The answer of the rule that takes both of two rules.
+#[tactic(auto, using(mw_rules::proofs::Views::view_of_and))]
+fn both_hold(alloc: Global, first: Rule, second: Rule) -> Result<bool, Memory>
+    requires { IsWithin 3 2 (view first) × IsWithin 3 2 (view second) }
+{
+    let rule = Rule::And(both(alloc, first, second)?);
+    Ok(answer(&rule))
+}
+
+/// The answer of the rule that takes one of two rules.
+#[tactic(auto, using(mw_rules::proofs::Views::view_of_or))]
+fn one_holds(alloc: Global, first: Rule, second: Rule) -> Result<bool, Memory>
+    requires { IsWithin 3 2 (view first) × IsWithin 3 2 (view second) }
+{
+    let rule = Rule::Or(both(alloc, first, second)?);
+    Ok(answer(&rule))
 }
 
 #[test]
@@ -72,14 +109,10 @@ fn forms_of_items_answer_at_their_edges(rt: HostRuntime) -> Result<(), Fail> {
 fn forms_of_rules_answer_at_their_edges(rt: HostRuntime) -> Result<(), Fail> {
     assert!(rt; answer(&Rule::And(List::new(rt.alloc()))));
     assert!(rt; !answer(&Rule::Or(List::new(rt.alloc()))));
-    let and = Rule::And(both(rt.alloc(), Rule::Always, Rule::Never)?);
-    assert!(rt; !answer(&and));
-    let and = Rule::And(both(rt.alloc(), Rule::Always, Rule::Always)?);
-    assert!(rt; answer(&and));
-    let or = Rule::Or(both(rt.alloc(), Rule::Never, Rule::Always)?);
-    assert!(rt; answer(&or));
-    let or = Rule::Or(both(rt.alloc(), Rule::Never, Rule::Never)?);
-    assert!(rt; !answer(&or));
+    assert!(rt; !both_hold(rt.alloc(), Rule::Always, Rule::Never)?);
+    assert!(rt; both_hold(rt.alloc(), Rule::Always, Rule::Always)?);
+    assert!(rt; one_holds(rt.alloc(), Rule::Never, Rule::Always)?);
+    assert!(rt; !one_holds(rt.alloc(), Rule::Never, Rule::Never)?);
     Ok(())
 }
 

@@ -1,19 +1,53 @@
-use mw_json::{kind_word, path_words};
+use crate::cases::{case_of, named, repeated};
 use mw_multidata::{DataRefusal, RoomTables, read, write};
 use mw_room_a::ROOM_A;
 use std::alloc::Global;
 use std::test::Fail;
+
+/// Changes of the room, and what the file is answered then.
+const CASES: &str = r#""teams":1} => "teams":1 => NoJson /
+"format":"mw-multidata-1" => "format":"mw-multidata-2" => OtherFormat /format
+"format": => "formal": => MissingField /format
+"teams":1} => "teams":1.0} => NotWhole /teams
+"spheres":[] => "spheres":[[]] => WrongKind /spheres/0
+"Map":9 => "Map":9,"Zed":9007199254740991 => accepted
+"Map":9 => "Map":8 => DuplicateId /games/G/item_name_to_id/Map
+"Bob" => "Ann" => DuplicateName /slots/1/names/0
+"Bob" => "Bob45678901234567" => NameTooLong /slots/1/names/0
+[2,201,9,1,2] => [2,201,6,3,2] => UnknownName /locations/2/3
+[2,201,9,1,2] => [1,102,9,1,2] => WrongOrder /locations/2"#;
+
+/// Changes that repeat a unit, at the edge of a limit.
+const LIMIT_CASES: &str = r#"[5,0] =>  | [5,0], | 255 |  | [5,0] => accepted
+[5,0] =>  | [5,0], | 256 |  | [5,0] => TooMany /slots/0/start"#;
 
 /// The kind and the path of a file's refusal, or `accepted`.
 fn answer(alloc: Global, text: &str) -> Result<String, Fail> {
     match read(alloc, text.as_bytes()) {
         Ok(_) => Ok(String::from_str(alloc, "accepted")?),
         Err(DataRefusal::Memory) => Ok(String::from_str(alloc, "memory")?),
-        Err(DataRefusal::Named { kind, path }) => {
-            let path = path_words(alloc, &path)?;
-            Ok(format!(in alloc; "{} {}", kind_word(kind), path.as_str())?)
-        }
+        Err(DataRefusal::Named { kind, path }) => named(alloc, kind, &path),
     }
+}
+
+/// Whether the room, changed so, is answered so.
+fn is_answered(alloc: Global, old: &str, new: &str, wanted: &str) -> Result<bool, Fail> {
+    let text = ROOM_A.replace(alloc, old, new)?;
+    let found = answer(alloc, text.as_str())?;
+    Ok(found.as_str() == wanted)
+}
+
+/// Whether a case is so.
+fn is_case(alloc: Global, line: &str) -> Result<bool, Fail> {
+    let (old, new, wanted) = case_of(line).ok_or("no case")?;
+    is_answered(alloc, old, new, wanted)
+}
+
+/// Whether a case that repeats a unit is so.
+fn is_limit_case(alloc: Global, line: &str) -> Result<bool, Fail> {
+    let (old, spelled, wanted) = case_of(line).ok_or("no case")?;
+    let new = repeated(alloc, spelled)?;
+    is_answered(alloc, old, new.as_str(), wanted)
 }
 
 #[test]
@@ -29,64 +63,16 @@ fn a_room_is_read_and_written(rt: HostRuntime) -> Result<(), Fail> {
 
 #[test]
 fn each_refusal_has_its_place(rt: HostRuntime) -> Result<(), Fail> {
-    let cases = [
-        (r#""teams":1}"#, r#""teams":1"#, "NoJson /"),
-        (
-            r#""format":"mw-multidata-1""#,
-            r#""format":"mw-multidata-2""#,
-            "OtherFormat /format",
-        ),
-        (r#""format":"#, r#""formal":"#, "MissingField /format"),
-        (r#""teams":1}"#, r#""teams":1.0}"#, "NotWhole /teams"),
-        (
-            r#""spheres":[]"#,
-            r#""spheres":[[]]"#,
-            "WrongKind /spheres/0",
-        ),
-        (
-            r#""Map":9"#,
-            r#""Map":9,"Zed":9007199254740991"#,
-            "accepted",
-        ),
-        (
-            r#""Map":9"#,
-            r#""Map":8"#,
-            "DuplicateId /games/G/item_name_to_id/Map",
-        ),
-        (r#""Bob""#, r#""Ann""#, "DuplicateName /slots/1/names/0"),
-        (
-            r#""Bob""#,
-            r#""Bob45678901234567""#,
-            "NameTooLong /slots/1/names/0",
-        ),
-        (
-            r#"[2,201,9,1,2]"#,
-            r#"[2,201,6,3,2]"#,
-            "UnknownName /locations/2/3",
-        ),
-        (
-            r#"[2,201,9,1,2]"#,
-            r#"[1,102,9,1,2]"#,
-            "WrongOrder /locations/2",
-        ),
-    ];
-    for (old, new, want) in cases {
-        let text = ROOM_A.replace(rt.alloc(), old, new)?;
-        let found = answer(rt.alloc(), text.as_str())?;
-        assert_eq!(rt; found.as_str(), want, "at {new}");
+    for line in CASES.split('\n') {
+        assert!(rt; is_case(rt.alloc(), line)?, "{line}");
     }
     Ok(())
 }
 
 #[test]
 fn limits_hold_at_their_edge(rt: HostRuntime) -> Result<(), Fail> {
-    let cases = [(255, "accepted"), (256, "TooMany /slots/0/start")];
-    for (count, want) in cases {
-        let more = "[5,0],".repeat(rt.alloc(), count)?;
-        let new = format!(in rt.alloc(); "{more}[5,0]")?;
-        let text = ROOM_A.replace(rt.alloc(), "[5,0]", new.as_str())?;
-        let found = answer(rt.alloc(), text.as_str())?;
-        assert_eq!(rt; found.as_str(), want);
+    for line in LIMIT_CASES.split('\n') {
+        assert!(rt; is_limit_case(rt.alloc(), line)?, "{line}");
     }
     Ok(())
 }

@@ -1,15 +1,14 @@
-use mw_base::{ItemId, LocId, Memory, NetItem, SlotId, TeamId, Text};
+use crate::logs::{ann, bob, new_log, tables_of, team};
+use mw_base::{ItemId, LocId, Memory, NetItem, Text};
+use mw_cases::part;
 use mw_chat::{
     Said, changed_tags, chatted, checked_text, collected, command_result, help_text, hint_print,
     item_send, joined, left, missing_text, name_of, no_such_name, nothing_to_hint, parse_say,
     part_item, part_location, part_player, part_text, players_text, points_text, reached_goal,
     released, remaining_text, too_dear_text,
 };
-use mw_checks::CheckLog;
 use mw_json::{Tree, can_write, compact};
-use mw_multidata::{RoomTables, read};
 use mw_packets_out::{ServerPacket, packet_text};
-use mw_room_a::ROOM_A;
 use std::alloc::Global;
 use std::test::Fail;
 
@@ -37,91 +36,91 @@ fn says(alloc: Global, text: &str, kind: &str, rest: &str) -> Result<bool, Fail>
     Ok(found == kind && name == rest)
 }
 
+/// Texts that are no commands.
+const CHATS: &str = "\nhi\n !help\na!\n\u{a0}!";
+
 #[test]
 fn a_text_that_is_no_command_is_chat(rt: HostRuntime) -> Result<(), Fail> {
-    for text in ["", "hi", " !help", "a!", "\u{a0}!"] {
+    for text in CHATS.split('\n') {
         assert!(rt; says(rt.alloc(), text, "chat", text)?, "at {text}");
     }
     Ok(())
 }
 
+/// Whether a case's text says the case's kind with the rest.
+fn is_said(alloc: Global, case: &str) -> Result<bool, Fail> {
+    says(alloc, part(case, 0), part(case, 1), part(case, 2))
+}
+
+/// Commands, and what each is.
+const COMMANDS: &str = "!help | help
+!help me | help
+!players | players
+!missing  | missing
+!checked | checked
+!remaining | remaining
+!release | release
+!collect now | collect
+! | unknown
+! help | unknown
+!Help | unknown
+!helping | unknown";
+
 #[test]
 fn commands_are_their_whole_first_word(rt: HostRuntime) -> Result<(), Fail> {
-    for (text, kind) in [
-        ("!help", "help"),
-        ("!help me", "help"),
-        ("!players", "players"),
-        ("!missing ", "missing"),
-        ("!checked", "checked"),
-        ("!remaining", "remaining"),
-        ("!release", "release"),
-        ("!collect now", "collect"),
-        ("!", "unknown"),
-        ("! help", "unknown"),
-        ("!Help", "unknown"),
-        ("!helping", "unknown"),
-        ("!help\n", "unknown"),
-    ] {
-        assert!(rt; says(rt.alloc(), text, kind, "")?, "at {text}");
+    for case in COMMANDS.split('\n') {
+        assert!(rt; is_said(rt.alloc(), case)?, "at {case}");
     }
+    assert!(rt; says(rt.alloc(), "!help\n", "unknown", "")?);
     Ok(())
 }
 
+/// Commands that ask for hints, and the name of what they ask for.
+const HINTS: &str = "!hint | hint
+!hint  | hint
+!hint Map | hint | Map
+!hint  Big Map  | hint |  Big Map \n!hint_location | hint_location
+!hint_location B1 | hint_location | B1";
+
 #[test]
 fn hints_have_the_rest_as_their_name(rt: HostRuntime) -> Result<(), Fail> {
-    for (text, kind, name) in [
-        ("!hint", "hint", ""),
-        ("!hint ", "hint", ""),
-        ("!hint Map", "hint", "Map"),
-        ("!hint  Big Map ", "hint", " Big Map "),
-        ("!hint_location", "hint_location", ""),
-        ("!hint_location B1", "hint_location", "B1"),
-    ] {
-        assert!(rt; says(rt.alloc(), text, kind, name)?, "at {text}");
+    for case in HINTS.split('\n') {
+        assert!(rt; is_said(rt.alloc(), case)?, "at {case}");
     }
     Ok(())
 }
 
 /// Whether a part has this text; a part has no number but in the ranges of their types.
-fn is_written(alloc: Global, part: &Tree, text: &str) -> Result<bool, Fail> {
-    if !can_write(part) {
+fn is_part(alloc: Global, part: Result<Tree, Memory>, text: &str) -> Result<bool, Fail> {
+    let part = part?;
+    if !can_write(&part) {
         return Ok(false);
     }
-    Ok(compact(alloc, part)?.as_slice() == text.as_bytes())
+    Ok(compact(alloc, &part)?.as_slice() == text.as_bytes())
+}
+
+/// Whether this is the part of a text.
+fn is_text_part(alloc: Global, text: &str, wanted: &str) -> Result<bool, Fail> {
+    is_part(alloc, part_text(alloc, &Text::of(alloc, text)?), wanted)
 }
 
 #[test]
 fn parts_of_a_print(rt: HostRuntime) -> Result<(), Fail> {
-    let alloc = rt.alloc();
-    let sent = part_text(alloc, &Text::of(alloc, " \"sent\" ")?)?;
-    assert!(rt; is_written(alloc, &sent, r#"{"text":" \"sent\" "}"#)?);
-    let player = part_player(alloc, 1024)?;
-    assert!(rt; is_written(alloc, &player, r#"{"text":"1024","type":"player_id"}"#)?);
+    assert!(rt; is_text_part(rt.alloc(), " \"sent\" ", r#"{"text":" \"sent\" "}"#)?);
+    let player = part_player(rt.alloc(), 1024);
+    assert!(rt; is_part(rt.alloc(), player, r#"{"text":"1024","type":"player_id"}"#)?);
     Ok(())
 }
 
 #[test]
 fn parts_that_name_an_item(rt: HostRuntime) -> Result<(), Fail> {
-    let alloc = rt.alloc();
-    let item = part_item(alloc, ItemId::new(7).ok_or("7 is an item")?, 2, 1)?;
+    let item = part_item(rt.alloc(), ItemId::new(7).unwrap(), 2, 1);
     let text = r#"{"flags":1,"player":2,"text":"7","type":"item_id"}"#;
-    assert!(rt; is_written(alloc, &item, text)?);
-    let location = part_location(alloc, LocId::new(101).ok_or("101 is a location")?, ann())?;
+    assert!(rt; is_part(rt.alloc(), item, text)?);
+    let location = part_location(rt.alloc(), LocId::new(101).unwrap(), ann());
     let text = r#"{"player":1,"text":"101","type":"location_id"}"#;
-    assert!(rt; is_written(alloc, &location, text)?);
+    assert!(rt; is_part(rt.alloc(), location, text)?);
     Ok(())
-}
-
-fn team() -> TeamId {
-    TeamId::new(0).unwrap()
-}
-
-fn ann() -> SlotId {
-    SlotId::new(1).unwrap()
-}
-
-fn bob() -> SlotId {
-    SlotId::new(2).unwrap()
 }
 
 /// Whether a print is this packet.
@@ -229,25 +228,23 @@ fn hints_are_printed(rt: HostRuntime) -> Result<(), Fail> {
     Ok(())
 }
 
-fn tables_of(alloc: Global) -> Result<RoomTables, Fail> {
-    Ok(RoomTables::of(alloc, read(alloc, ROOM_A.as_bytes())?)?)
-}
-
 /// Whether a text is this.
-fn is_text(text: Result<Text, Memory>, wanted: &str) -> Result<bool, Fail> {
-    Ok(text?.as_str() == wanted)
+fn is_text(text: Result<Text, Memory>, wanted: &str) -> bool {
+    match text {
+        Ok(text) => text.as_str() == wanted,
+        Err(_) => false,
+    }
 }
 
 #[test]
 fn commands_tell_of_a_slot(rt: HostRuntime) -> Result<(), Fail> {
-    let alloc = rt.alloc();
-    let log = CheckLog::new(alloc, tables_of(alloc)?)?;
-    let text = missing_text(alloc, &log, team(), ann());
-    assert!(rt; is_text(text, "2 missing: A1, A2")?);
-    let text = checked_text(alloc, &log, team(), ann());
-    assert!(rt; is_text(text, "0 checked: ")?);
-    let text = remaining_text(alloc, &log, team(), ann());
-    assert!(rt; is_text(text, "2 remaining: Coin, Map")?);
+    let log = new_log(rt.alloc())?;
+    let text = missing_text(rt.alloc(), &log, team(), ann());
+    assert!(rt; is_text(text, "2 missing: A1, A2"));
+    let text = checked_text(rt.alloc(), &log, team(), ann());
+    assert!(rt; is_text(text, "0 checked: "));
+    let text = remaining_text(rt.alloc(), &log, team(), ann());
+    assert!(rt; is_text(text, "2 remaining: Coin, Map"));
     Ok(())
 }
 
@@ -256,20 +253,19 @@ fn commands_tell_of_players(rt: HostRuntime) -> Result<(), Fail> {
     let tables = tables_of(rt.alloc())?;
     let members = [(team(), bob()), (team(), ann())];
     let text = players_text(rt.alloc(), &tables, team(), &members);
-    assert!(rt; is_text(text, "Connected: Ann, Bob")?);
+    assert!(rt; is_text(text, "Connected: Ann, Bob"));
     assert_eq!(rt; name_of(&tables, team(), bob()), "Bob");
     Ok(())
 }
 
 #[test]
-fn commands_tell_of_points(rt: HostRuntime) -> Result<(), Fail> {
+fn commands_tell_of_points(rt: HostRuntime) {
     let text = points_text(rt.alloc(), 2, 1);
-    assert!(rt; is_text(text, "2 points, a hint costs 1")?);
+    assert!(rt; is_text(text, "2 points, a hint costs 1"));
     let text = too_dear_text(rt.alloc(), 3, 2);
-    assert!(rt; is_text(text, "3 points needed, 2 there")?);
+    assert!(rt; is_text(text, "3 points needed, 2 there"));
     assert_eq!(rt; no_such_name(), "no such name");
     assert_eq!(rt; nothing_to_hint(), "nothing to hint");
     let all = "!help !players !missing !checked !remaining !release !collect !hint !hint_location";
     assert_eq!(rt; help_text(), all);
-    Ok(())
 }

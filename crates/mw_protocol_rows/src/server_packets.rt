@@ -2,6 +2,7 @@ ghost use Rattle.std.specs.Prelude.{◌≡◌, ◌∷◌, [], IfOk};
 
 use crate::client_packets::packets_in;
 use mw_base::{List, NetItem, Permission, SlotId, TeamId, Text};
+use mw_cases::part;
 use mw_json::{Member, Tree};
 use mw_packets_in::{Bounce, Inbound, Packet};
 use mw_packets_out::{
@@ -54,76 +55,122 @@ fn slot_of(alloc: Global, slot: SlotId, name: &str) -> Result<NetworkSlot, Fail>
     })
 }
 
-fn connected(alloc: Global) -> Result<Connected, Fail> {
-    let first = SlotId::new(1).unwrap();
-    let second = SlotId::new(2).unwrap();
-    let mut players = list(alloc, player(alloc, first, "Ann")?)?;
-    players.push(player(alloc, second, "Bob")?)?;
-    let mut slot_info = list(alloc, slot_of(alloc, first, "Ann")?)?;
-    slot_info.push(slot_of(alloc, second, "Bob")?)?;
-    let mut missing_locations = list(alloc, 101)?;
-    missing_locations.push(102)?;
-    Ok(Connected {
+fn first() -> SlotId {
+    SlotId::new(1).unwrap()
+}
+
+fn second() -> SlotId {
+    SlotId::new(2).unwrap()
+}
+
+fn players(alloc: Global) -> Result<List<NetworkPlayer>, Fail> {
+    let mut players = list(alloc, player(alloc, first(), "Ann")?)?;
+    players.push(player(alloc, second(), "Bob")?)?;
+    Ok(players)
+}
+
+fn slots(alloc: Global) -> Result<List<NetworkSlot>, Fail> {
+    let mut slots = list(alloc, slot_of(alloc, first(), "Ann")?)?;
+    slots.push(slot_of(alloc, second(), "Bob")?)?;
+    Ok(slots)
+}
+
+fn missing(alloc: Global) -> Result<List<i64>, Fail> {
+    let mut missing = list(alloc, 101)?;
+    missing.push(102)?;
+    Ok(missing)
+}
+
+fn connected_to(alloc: Global, slot_info: List<NetworkSlot>) -> Result<ServerPacket, Fail> {
+    let players = players(alloc)?;
+    Ok(ServerPacket::Connected(Connected {
         team: TeamId::new(0).unwrap(),
-        slot: first,
+        slot: first(),
         players,
-        missing_locations,
+        missing_locations: missing(alloc)?,
         checked_locations: List::new(alloc),
         slot_info,
         hint_points: 0,
-    })
+    }))
+}
+
+/// The text of the message of a room.
+fn presented(alloc: Global) -> Result<Text, Fail> {
+    let packets = list(alloc, ServerPacket::RoomInfo(room_info(alloc)?))?;
+    Ok(write_message(alloc, &packets)?)
 }
 
 #[test]
 fn a_room_presents_itself(rt: HostRuntime) -> Result<(), Fail> {
-    let packets = list(rt.alloc(), ServerPacket::RoomInfo(room_info(rt.alloc())?))?;
     assert_eq!(rt;
-        write_message(rt.alloc(), &packets)?.as_str(),
+        presented(rt.alloc())?.as_str(),
         r#"[{"cmd":"RoomInfo","datapackage_checksums":{"G":"H"},"games":["G"],"generator_version":{"build":0,"class":"Version","major":0,"minor":5},"hint_cost":10,"location_check_points":1,"password":false,"permissions":{"collect":2,"release":2,"remaining":2},"seed_name":"A","tags":[],"time":0,"version":{"build":0,"class":"Version","major":0,"minor":5}}]"#
     );
     Ok(())
 }
 
-#[test]
-fn a_session_is_connected(rt: HostRuntime) -> Result<(), Fail> {
+/// What a session has from its start.
+fn received(alloc: Global) -> Result<ServerPacket, Fail> {
     let boots = NetItem {
         item: 5,
         location: -2,
         player: 0,
         flags: 0,
     };
-    let mut packets = list(rt.alloc(), ServerPacket::Connected(connected(rt.alloc())?))?;
-    packets.push(ServerPacket::ReceivedItems {
+    Ok(ServerPacket::ReceivedItems {
         index: 0,
-        items: list(rt.alloc(), boots)?,
-    })?;
+        items: list(alloc, boots)?,
+    })
+}
+
+/// The text of the message to a session that is connected.
+fn welcome(alloc: Global) -> Result<Text, Fail> {
+    let mut packets = list(alloc, connected_to(alloc, slots(alloc)?)?)?;
+    packets.push(received(alloc)?)?;
+    Ok(write_message(alloc, &packets)?)
+}
+
+#[test]
+fn a_session_is_connected(rt: HostRuntime) -> Result<(), Fail> {
     assert_eq!(rt;
-        write_message(rt.alloc(), &packets)?.as_str(),
+        welcome(rt.alloc())?.as_str(),
         r#"[{"checked_locations":[],"cmd":"Connected","hint_points":0,"missing_locations":[101,102],"players":[{"alias":"Ann","class":"NetworkPlayer","name":"Ann","slot":1,"team":0},{"alias":"Bob","class":"NetworkPlayer","name":"Bob","slot":2,"team":0}],"slot":1,"slot_data":{},"slot_info":{"1":{"class":"NetworkSlot","game":"G","group_members":[],"name":"Ann","type":1},"2":{"class":"NetworkSlot","game":"G","group_members":[],"name":"Bob","type":1}},"team":0},{"cmd":"ReceivedItems","index":0,"items":[{"class":"NetworkItem","flags":0,"item":5,"location":-2,"player":0}]}]"#
     );
     Ok(())
 }
 
+/// The text of a message of one packet.
+fn sole_text(alloc: Global, packet: ServerPacket) -> Result<Text, Fail> {
+    Ok(write_message(alloc, &list(alloc, packet)?)?)
+}
+
+/// What a session is told of a check.
+fn update(alloc: Global) -> Result<ServerPacket, Fail> {
+    Ok(ServerPacket::RoomUpdate {
+        checked_locations: list(alloc, 101)?,
+        hint_points: 1,
+    })
+}
+
 #[test]
 fn a_location_is_checked(rt: HostRuntime) -> Result<(), Fail> {
-    let update = ServerPacket::RoomUpdate {
-        checked_locations: list(rt.alloc(), 101)?,
-        hint_points: 1,
-    };
     assert_eq!(rt;
-        write_message(rt.alloc(), &list(rt.alloc(), update)?)?.as_str(),
+        sole_text(rt.alloc(), update(rt.alloc())?)?.as_str(),
         r#"[{"checked_locations":[101],"cmd":"RoomUpdate","hint_points":1}]"#
     );
     Ok(())
 }
 
+/// The text of the message to a session that is connected where a tenth slot plays.
+fn welcome_of_ten(alloc: Global) -> Result<Text, Fail> {
+    let mut slots = slots(alloc)?;
+    slots.push(slot_of(alloc, SlotId::new(10).unwrap(), "Cy")?)?;
+    sole_text(alloc, connected_to(alloc, slots)?)
+}
+
 #[test]
 fn slots_stand_in_byte_order(rt: HostRuntime) -> Result<(), Fail> {
-    let mut it = connected(rt.alloc())?;
-    it.slot_info
-        .push(slot_of(rt.alloc(), SlotId::new(10).unwrap(), "Cy")?)?;
-    let packets = list(rt.alloc(), ServerPacket::Connected(it))?;
-    let text = write_message(rt.alloc(), &packets)?;
+    let text = welcome_of_ten(rt.alloc())?;
     let first = text.as_str().find(r#""1":{"#);
     let tenth = text.as_str().find(r#""10":{"#);
     let second = text.as_str().find(r#""2":{"#);
@@ -131,31 +178,50 @@ fn slots_stand_in_byte_order(rt: HostRuntime) -> Result<(), Fail> {
     Ok(())
 }
 
-#[test]
-fn refusals_are_told(rt: HostRuntime) -> Result<(), Fail> {
-    let alloc = rt.alloc();
+/// A refused Connect.
+fn refusal(alloc: Global) -> Result<ServerPacket, Fail> {
     let mut errors = list(alloc, Text::of(alloc, "InvalidPassword")?)?;
     errors.push(Text::of(alloc, "InvalidSlot")?)?;
-    let mut packets = list(alloc, ServerPacket::ConnectionRefused { errors })?;
-    packets.push(ServerPacket::InvalidPacket {
+    Ok(ServerPacket::ConnectionRefused { errors })
+}
+
+/// A packet whose arguments are wrong.
+fn bad_arguments(alloc: Global) -> Result<ServerPacket, Fail> {
+    Ok(ServerPacket::InvalidPacket {
         kind: InvalidKind::Arguments,
         original_cmd: Some(Text::of(alloc, "LocationChecks")?),
         text: Text::of(alloc, "arguments: locations")?,
-    })?;
-    packets.push(ServerPacket::InvalidPacket {
+    })
+}
+
+/// What is no packet.
+fn no_packet(alloc: Global) -> Result<ServerPacket, Fail> {
+    Ok(ServerPacket::InvalidPacket {
         kind: InvalidKind::Cmd,
         original_cmd: None,
         text: Text::of(alloc, "no JSON list")?,
-    })?;
+    })
+}
+
+/// The text of a message of refusals.
+fn refusals(alloc: Global) -> Result<Text, Fail> {
+    let mut packets = list(alloc, refusal(alloc)?)?;
+    packets.push(bad_arguments(alloc)?)?;
+    packets.push(no_packet(alloc)?)?;
+    Ok(write_message(alloc, &packets)?)
+}
+
+#[test]
+fn refusals_are_told(rt: HostRuntime) -> Result<(), Fail> {
     assert_eq!(rt;
-        write_message(alloc, &packets)?.as_str(),
+        refusals(rt.alloc())?.as_str(),
         r#"[{"cmd":"ConnectionRefused","errors":["InvalidPassword","InvalidSlot"]},{"cmd":"InvalidPacket","original_cmd":"LocationChecks","text":"arguments: locations","type":"arguments"},{"cmd":"InvalidPacket","original_cmd":null,"text":"no JSON list","type":"cmd"}]"#
     );
     Ok(())
 }
 
-#[test]
-fn what_stands_there_is_told(rt: HostRuntime) -> Result<(), Fail> {
+/// The text of a message that tells what stands at a location.
+fn scouted(alloc: Global) -> Result<Text, Fail> {
     let sword = NetItem {
         item: 7,
         location: 101,
@@ -163,10 +229,15 @@ fn what_stands_there_is_told(rt: HostRuntime) -> Result<(), Fail> {
         flags: 1,
     };
     let info = ServerPacket::LocationInfo {
-        locations: list(rt.alloc(), sword)?,
+        locations: list(alloc, sword)?,
     };
+    Ok(write_both(alloc, &[], list(alloc, info)?.as_slice())?)
+}
+
+#[test]
+fn what_stands_there_is_told(rt: HostRuntime) -> Result<(), Fail> {
     assert_eq!(rt;
-        write_both(rt.alloc(), &[], list(rt.alloc(), info)?.as_slice())?.as_str(),
+        scouted(rt.alloc())?.as_str(),
         r#"[{"cmd":"LocationInfo","locations":[{"class":"NetworkItem","flags":1,"item":7,"location":101,"player":2}]}]"#
     );
     Ok(())
@@ -246,19 +317,15 @@ fn passes(alloc: Global, message: &str, wanted: &str) -> Result<bool, Fail> {
     Ok(text.as_str() == wanted)
 }
 
+/// Messages of a Bounce, and what is told of each.
+const BOUNCES: &str =
+    r#"[{"tags":["DeathLink"],"data":{"time":1712345678,"source":"Ann","cause":""},"cmd":"Bounce"}] | {"cmd":"Bounced","data":{"cause":"","source":"Ann","time":1712345678},"tags":["DeathLink"]}
+[{"games":["G"],"cmd":"Bounce","zeal":[],"at":null}] | {"at":null,"cmd":"Bounced","games":["G"],"zeal":[]}"#;
+
 #[test]
 fn a_message_passes_through(rt: HostRuntime) -> Result<(), Fail> {
-    for (message, wanted) in [
-        (
-            r#"[{"tags":["DeathLink"],"data":{"time":1712345678,"source":"Ann","cause":""},"cmd":"Bounce"}]"#,
-            r#"{"cmd":"Bounced","data":{"cause":"","source":"Ann","time":1712345678},"tags":["DeathLink"]}"#,
-        ),
-        (
-            r#"[{"games":["G"],"cmd":"Bounce","zeal":[],"at":null}]"#,
-            r#"{"at":null,"cmd":"Bounced","games":["G"],"zeal":[]}"#,
-        ),
-    ] {
-        assert!(rt; passes(rt.alloc(), message, wanted)?, "{message}");
+    for case in BOUNCES.split('\n') {
+        assert!(rt; passes(rt.alloc(), part(case, 0), part(case, 1))?, "{case}");
     }
     Ok(())
 }

@@ -1,0 +1,7 @@
+//! Cases of rows: a table is one text, a line for each case, and marks stand between a case's parts.
+#![tactic(auto)]
+
+/// The part of a case that stands behind so many marks ` | `, nothing where there are fewer.
+pub fn part(case: &str, place: usize) -> &str {
+    case.split(" | ").nth(place).unwrap_or("")
+}
