@@ -6,9 +6,10 @@ use Rattle.std.specs.Str.{bytes_eq}
 use Rattle.std.specs.Borrow.{Bor}
 use Rattle.clap.specs.Walk.{texts}
 use Rattle.mw_offline.specs.Checking.{Asked}
+use Rattle.mw_offline.specs.Driving.{DriveFiles}
 use Rattle.mw_offline.specs.Generating.{Wanted}
 use Rattle.mw_offline.specs.NewRooms.{RoomFiles}
-use Rattle.mw_cli.specs.Words.{IsGenerate, IsCheck, IsNewRoom}
+use Rattle.mw_cli.specs.Words.{IsGenerate, IsCheck, IsNewRoom, IsDrive}
 use Rattle.mw_cli.specs.Lines.{AsksFor, HasOneMeaning, HasTries}
 use Rattle.mw_cli.specs.declared.command_line.CommandLine.{CommandLine}
 use Rattle.mw_cli.specs.declared.command_line.CommandLine.TheVariants.{Generate, Check, Reach, NewRoom, Drive}
@@ -60,6 +61,11 @@ pub only_new_room : (words : List (List ℕ)) (line : CommandLine) → slice_get
 only_new_room words (NewRoom w) first none asks = none _ asks
 only_new_room words line first none asks = apart (slice_get words 0) (codes "new-room") (name_of line) refl first (named words line asks)
 
+-- the same of `drive`
+pub only_drive : (words : List (List ℕ)) (line : CommandLine) → slice_get words 0 ≡ Some (codes "drive") → ((files : DriveFiles) → IsDrive words files → ⊥) → AsksFor words line → ⊥
+only_drive words (Drive w) first none asks = none _ asks
+only_drive words line first none asks = apart (slice_get words 0) (codes "drive") (name_of line) refl first (named words line asks)
+
 number_one : (o : Option (List ℕ)) (m n : ℕ) → m < 2 ^ 64 → n < 2 ^ 64 → o ≡ Some (decimal m) → o ≡ Some (decimal n) → m ≡ n
 number_one o m n m_small n_small first second = decimal_injective m n m_small n_small (given_one o (decimal m) (decimal n) first second)
 
@@ -82,8 +88,9 @@ asks_one words (NewRoom v) (NewRoom w) p q =
     let journal = given_one _ v.journal w.journal p.journal q.journal in
     λ i. NewRoom (record { multidata = multidata i; journal = journal i })
 asks_one words (Drive v) (Drive w) p q =
-    let multidata = given_one _ v.multidata w.multidata p.multidata_given q.multidata_given in
-    λ i. Drive (record { multidata = multidata i })
+    let multidata = given_one _ v.multidata w.multidata p.multidata q.multidata in
+    let journal = sym p.journal ∙ q.journal in
+    λ i. Drive (record { multidata = multidata i; journal = journal i })
 asks_one words a b p q =
     absurd (apart (slice_get words 0) (name_of a) (name_of b) refl (named words a p) (named words b q))
 

@@ -1,7 +1,7 @@
 -- How a run ends.
 use Rattle.std.specs.Prelude.{◌≡◌, ◌⊎◌, ℕ, List, Option, codes}
 use Rattle.mw_offline.specs.Ends.{Told, IsTold}
-use Rattle.mw_offline.specs.Driving.{DriveEnds}
+use Rattle.mw_offline.specs.Driving.{DriveEnds, drive_files}
 use Rattle.mw_offline.specs.Reaching.{ReachEnds}
 use Rattle.mw_offline.specs.Generating.{Wrote, wanted_in, GenerateEnds}
 use Rattle.mw_offline.specs.Checking.{asked_in, CheckEnds}
@@ -11,8 +11,9 @@ use Rattle.mw_cli.specs.Words.{bad_words}
 use Rattle.mw_cli.specs.declared.command_line.CommandLine.{CommandLine}
 use Rattle.mw_cli.specs.declared.command_line.CommandLine.TheVariants.{Generate, Check, Reach, NewRoom, Drive}
 
--- what the folder's files were and are and what a crash may leave of them, the input before and after with what it tells is left, what
--- the out sink held before and after and how often it failed, and what the error sink was told
+-- what the folder's files were and are and what a crash may leave of them, the input before and
+-- after with what it tells is left, what the out sink held before and after and how often it failed,
+-- and what the error sink was told
 pub record Around (S : Type 0) : Type 1 where
   pub wrote : Wrote
   pub files : FilesAround
@@ -43,8 +44,7 @@ LineEnds (Reach w) status a =
     ReachEnds status a.wrote.before a.wrote.may_fail w.players a.out a.told
 LineEnds (NewRoom w) status a = NewRoomEnds status a.files (room_in w) a.out a.told
 LineEnds (Drive w) status a =
-    DriveEnds a.left status (a.wrote.before w.multidata) a.wrote.may_fail a.input a.input_after a.out
-    a.told
+    DriveEnds a.left status a.files (drive_files w) a.input a.input_after a.out a.told
 
 -- words that are no command are told of as such, but where memory runs out before that is seen
 abbrev pub RefusalEnds : ℕ → Told → Type 0

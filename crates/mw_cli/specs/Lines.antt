@@ -1,6 +1,7 @@
 -- A command line, and the words that ask for it.
 use Rattle.std.specs.Prelude.{◌≡◌, ◌≤◌, ℕ, List, ⊤}
 use Rattle.mw_offline.specs.Checking.{Asked}
+use Rattle.mw_offline.specs.Driving.{DriveFiles}
 use Rattle.mw_offline.specs.Generating.{Wanted}
 use Rattle.mw_offline.specs.NewRooms.{RoomFiles}
 use Rattle.mw_cli.specs.Words.{IsGenerate, IsCheck, IsReach, IsNewRoom, IsDrive}
@@ -19,8 +20,8 @@ reach_line players = Reach (record { players = players })
 abbrev pub new_room_line : RoomFiles → CommandLine
 new_room_line room = NewRoom (record { multidata = room.multidata; journal = room.journal })
 
-abbrev pub drive_line : List ℕ → CommandLine
-drive_line multidata = Drive (record { multidata = multidata })
+abbrev pub drive_line : DriveFiles → CommandLine
+drive_line files = Drive (record { multidata = files.multidata; journal = files.journal })
 
 -- the words ask for this
 abbrev pub AsksFor : List (List ℕ) → CommandLine → Type 0
@@ -28,7 +29,7 @@ AsksFor words (Generate w) = IsGenerate words (record { players = w.players; out
 AsksFor words (Check w) = IsCheck words (record { players = w.players; multidata = w.multidata })
 AsksFor words (Reach w) = IsReach words w.players
 AsksFor words (NewRoom w) = IsNewRoom words (record { multidata = w.multidata; journal = w.journal })
-AsksFor words (Drive w) = IsDrive words w.multidata
+AsksFor words (Drive w) = IsDrive words (record { multidata = w.multidata; journal = w.journal })
 
 -- they ask for nothing
 abbrev pub IsNoCommand : List (List ℕ) → Type 0

@@ -3,6 +3,7 @@ use Rattle.std.specs.Prelude.{◌≡◌, ◌<◌, ◌≤◌, ◌^◌, ℕ, true,
 use Rattle.clap.specs.Words.{App, Kinds, Rule, fault_of, first_of, matches_of, new_rule}
 use Rattle.clap.specs.Simple.{new_shape}
 use Rattle.mw_offline.specs.Checking.{Asked}
+use Rattle.mw_offline.specs.Driving.{DriveFiles}
 use Rattle.mw_offline.specs.Generating.{Wanted}
 use Rattle.mw_offline.specs.NewRooms.{RoomFiles}
 
@@ -18,6 +19,10 @@ command_app name rules = record {
 -- a word that is required, and known by its place
 abbrev pub word_rule : List ℕ → Rule
 word_rule id = record (new_rule id) { required = true }
+
+-- a word that may be missing, and is known by its place
+abbrev pub last_rule : List ℕ → Rule
+last_rule id = new_rule id
 
 -- an option with one value, `--id VALUE` or `--id=VALUE`
 abbrev pub option_rule : List ℕ → Rule
@@ -47,9 +52,9 @@ reach_app = command_app (codes "reach") (word_rule (codes "players") ∷ [])
 abbrev pub new_room_app : App
 new_room_app = command_app (codes "new-room") (word_rule (codes "multidata") ∷ word_rule (codes "journal") ∷ [])
 
--- `drive MULTIDATA`
+-- `drive MULTIDATA [JOURNAL]`
 abbrev pub drive_app : App
-drive_app = command_app (codes "drive") (word_rule (codes "multidata") ∷ [])
+drive_app = command_app (codes "drive") (word_rule (codes "multidata") ∷ last_rule (codes "journal") ∷ [])
 
 -- ---- what words ask for
 
@@ -93,10 +98,11 @@ pub record IsNewRoom (words : List (List ℕ)) (room : RoomFiles) : Type 0 where
   pub multidata : given new_room_app words (codes "multidata") ≡ Some room.multidata
   pub journal : given new_room_app words (codes "journal") ≡ Some room.journal
 
--- `drive` of a seed file
-pub record IsDrive (words : List (List ℕ)) (multidata : List ℕ) : Type 0 where
+-- `drive` of a seed file, and of a journal where one is named
+pub record IsDrive (words : List (List ℕ)) (files : DriveFiles) : Type 0 where
   pub taken : IsTaken drive_app words
-  pub multidata_given : given drive_app words (codes "multidata") ≡ Some multidata
+  pub multidata : given drive_app words (codes "multidata") ≡ Some files.multidata
+  pub journal : given drive_app words (codes "journal") ≡ files.journal
 
 -- ---- the line for words that are no command
 

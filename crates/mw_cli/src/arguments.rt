@@ -45,6 +45,21 @@ pub(crate) fn text(alloc: Global, matches: &ArgMatches, id: &str) -> Result<Text
     }
 }
 
+/// What was given for an argument that may be missing.
+pub(crate) fn text_or_none(
+    alloc: Global,
+    matches: &ArgMatches,
+    id: &str,
+) -> Result<Option<Text>, WordsError>
+    ensures ok { IfOk result (λ t. first_value (found_of matches.now) id.now ≡ t) }
+    ensures bad { result ≢ Err WordsError.BadWords }
+{
+    match matches.get_str(id) {
+        Some(value) => Ok(Some(Text::of(alloc, value)?)),
+        None => Ok(None),
+    }
+}
+
 /// The number from `least` to `most` that was given for an argument.
 pub(crate) fn number(
     matches: &ArgMatches,

@@ -2,6 +2,7 @@
 ghost use Rattle.std.specs.Prelude.{◌≡◌, [], ◌∷◌, IfOk, false, true};
 ghost use Rattle.clap.specs.Words.{app_of, new_rule, rule_of};
 ghost use Rattle.mw_cli.specs.Words.{command_app, word_rule, option_rule, seed_rule, tries_rule, generate_app, check_app, reach_app, new_room_app, drive_app};
+ghost use Rattle.mw_cli.specs.Words.{last_rule};
 
 use clap::{Arg, Command};
 use std::alloc::{AllocError, Global};
@@ -21,6 +22,14 @@ fn word<'a>(alloc: Global, id: &'a str) -> Arg<'a>
     ensures local { result.global ≡ false }
 {
     Arg::new(alloc, id).required(true)
+}
+
+/// A word that may be missing, and is known by its place.
+fn last_word<'a>(alloc: Global, id: &'a str) -> Arg<'a>
+    ensures rule { rule_of result ≡ last_rule id.entry.now }
+    ensures local { result.global ≡ false }
+{
+    Arg::new(alloc, id)
 }
 
 /// An option with one value.
@@ -83,9 +92,11 @@ pub(crate) fn new_room_command<'a>(alloc: Global) -> Result<Command<'a>, AllocEr
         .arg(word(alloc, "journal"))
 }
 
-/// `drive MULTIDATA`
+/// `drive MULTIDATA [JOURNAL]`
 pub(crate) fn drive_command<'a>(alloc: Global) -> Result<Command<'a>, AllocError>
     ensures { IfOk result (λ c. app_of c ≡ drive_app) }
 {
-    bare_command(alloc, "drive").arg(word(alloc, "multidata"))
+    bare_command(alloc, "drive")
+        .arg(word(alloc, "multidata"))?
+        .arg(last_word(alloc, "journal"))
 }

@@ -62,6 +62,8 @@ mod generate_tests;
 #[cfg(test)]
 mod harness;
 #[cfg(test)]
+mod kept_room_tests;
+#[cfg(test)]
 mod large_tests;
 #[cfg(test)]
 mod new_room_tests;

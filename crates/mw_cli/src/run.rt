@@ -1,7 +1,7 @@
 ghost use Rattle.std.specs.Prelude.{◌≡◌, ◌⊎◌, ℕ, List};
 ghost use Rattle.mw_edges.specs.Causes.{Rose};
 ghost use Rattle.mw_offline.specs.Ends.{told_by};
-ghost use Rattle.mw_offline.specs.Driving.{DriveEnds};
+ghost use Rattle.mw_offline.specs.Driving.{DriveFiles, DriveEnds};
 ghost use Rattle.mw_offline.specs.Reaching.{ReachEnds};
 ghost use Rattle.mw_offline.specs.Generating.{Wanted, wrote_by, GenerateEnds};
 ghost use Rattle.mw_offline.specs.Checking.{Asked, CheckEnds};
@@ -36,13 +36,14 @@ fn run_line<F: Folder, S: Source, O: Sink, E: Sink>(
         (files_around F.holds F.images F.is_open F.may_fail F.faults folder.old folder.new)
         S.left input.old input.new (told_by O.held O.faults out.old out.new)
         (told_by E.held E.refusals err.old err.new)) }
-    ensures input { ((multidata : List ℕ) → line.now ≡ drive_line multidata → ⊥) → input.new
+    ensures input { ((files : DriveFiles) → line.now ≡ drive_line files → ⊥) → input.new
         ≡ input.old }
     ensures fault { result ≡ 5 → Rose (F.faults folder.old) (F.faults folder.new)
         ⊎ (Rose (S.faults input.old) (S.faults input.new)
         ⊎ Rose (O.faults out.old) (O.faults out.new)) }
     ensures same { ((wanted : Wanted) → line.now ≡ generate_line wanted → ⊥)
-        → ((room : RoomFiles) → line.now ≡ new_room_line room → ⊥) → (name : List ℕ)
+        → ((room : RoomFiles) → line.now ≡ new_room_line room → ⊥)
+        → ((files : DriveFiles) → line.now ≡ drive_line files → ⊥) → (name : List ℕ)
         → F.holds folder.new name ≡ F.holds folder.old name }
 {
     match line {
@@ -60,13 +61,21 @@ fn run_line<F: Folder, S: Source, O: Sink, E: Sink>(
 /// right. 2: the words are no command. 3: a players file, a world file or their joint is refused,
 /// or no fill is tried, since a goal can't be met or there are more items than locations. 4: each
 /// try is stuck. 5: the folder, the input or the out sink failed. 6: memory ran out. 7: the seed
-/// file or the script is refused, or a byte stands where a journal was to be made. With a status
+/// file, the journal or the script is refused, or a byte stands where a journal was to be made. 8:
+/// the next batch would pass the journal's limit, or the room has had 2^63 calls. With a status
 /// other than 0 the error sink gets that status's line, or a front of it where it refuses.
 ///
 /// Of the folder's files `generate` changes one, the seed file that its words name: with 0 it is
 /// written; with 5 or 6 it is as it was or is written, or the folder refused to write it; and else
 /// it isn't touched. `new-room` changes one, the journal that its words name, and only where no
-/// byte stands in it and the seed file is accepted. The others change none. `drive` alone reads the input, and not where the seed file is refused.
+/// byte stands in it and the seed file is accepted. `drive` changes one, the journal that its words
+/// name, and not where the seed file is refused. The others change none. `drive` alone reads the
+/// input, and not where the seed file or the journal is refused.
+///
+/// Whatever the status of `drive` is, what a crash may then leave of its journal is settled for a
+/// life that goes on from the one for which it was settled before; each ReceivedItems that was put
+/// is the tail from its index of its slot's list in that life, and each check that was shown is in
+/// that life's journal.
 #[tactic(auto, using(crate::proofs::Asking::has_tries))]
 pub fn run<F: Folder, S: Source, O: Sink, E: Sink>(
     alloc: Global,
@@ -89,21 +98,24 @@ pub fn run<F: Folder, S: Source, O: Sink, E: Sink>(
         → NewRoomEnds result
         (files_around F.holds F.images F.is_open F.may_fail F.faults folder.old folder.new) room
         (told_by O.held O.faults out.old out.new) (told_by E.held E.refusals err.old err.new) }
-    ensures drive { (name : List ℕ) → IsDrive words.now name
-        → DriveEnds S.left result (F.holds folder.old name) (F.may_fail folder.old) input.old
-        input.new (told_by O.held O.faults out.old out.new)
+    ensures drive { (files : DriveFiles) → IsDrive words.now files
+        → DriveEnds S.left result
+        (files_around F.holds F.images F.is_open F.may_fail F.faults folder.old folder.new) files
+        input.old input.new (told_by O.held O.faults out.old out.new)
         (told_by E.held E.refusals err.old err.new) }
 
     // Memory may run out before words are seen to be no command.
     ensures other { IsNoCommand words.now → (out.new ≡ out.old) × (folder.new ≡ folder.old)
         × RefusalEnds result (told_by E.held E.refusals err.old err.new) }
 
-    ensures input { ((name : List ℕ) → IsDrive words.now name → ⊥) → input.new ≡ input.old }
+    ensures input { ((files : DriveFiles) → IsDrive words.now files → ⊥)
+        → input.new ≡ input.old }
     ensures fault { result ≡ 5 → Rose (F.faults folder.old) (F.faults folder.new)
         ⊎ (Rose (S.faults input.old) (S.faults input.new)
         ⊎ Rose (O.faults out.old) (O.faults out.new)) }
     ensures same { ((wanted : Wanted) → IsGenerate words.now wanted → ⊥)
-        → ((room : RoomFiles) → IsNewRoom words.now room → ⊥) → (name : List ℕ)
+        → ((room : RoomFiles) → IsNewRoom words.now room → ⊥)
+        → ((files : DriveFiles) → IsDrive words.now files → ⊥) → (name : List ℕ)
         → F.holds folder.new name ≡ F.holds folder.old name }
 {
     match read_words(alloc, words) {

@@ -1,4 +1,4 @@
-use crate::session_harness::{driven, marked};
+use crate::session_harness::marked;
 use crate::tests::ROOM_A;
 use std::alloc::Global;
 use std::test::Fail;
@@ -325,20 +325,5 @@ take 3
 3 [{"checked_locations":[101],"cmd":"RoomUpdate","hint_points":1}]
 "#;
     assert_eq!(rt; text.as_str(), expected);
-    Ok(())
-}
-
-/// What is told of one line after a session was opened.
-fn told_of_line(alloc: Global, line: &str) -> Result<String, Fail> {
-    let script = format!(in alloc; "open\n{line}\n")?;
-    driven(alloc, ROOM_A, script.as_str())
-}
-
-#[test]
-fn lines_that_are_not_built(rt: HostRuntime) -> Result<(), Fail> {
-    for line in ["commit", "crash"] {
-        let told = told_of_line(rt.alloc(), line)?;
-        assert_eq!(rt; told.as_str(), "7 not built: line 2\n", "{line}");
-    }
     Ok(())
 }

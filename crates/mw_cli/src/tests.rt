@@ -232,15 +232,15 @@ fn each_status_has_its_line(rt: HostRuntime) -> Result<(), Fail> {
             7,
             "script refused: line 3\n",
         ),
+        ("drive A", ROOM_A, "open\ncommit\ncrash\n", none, 0, ""),
         (
             "drive A",
             ROOM_A,
-            "open\nlost 1\ncommit\n",
+            "open\ncommit\ncrash \n",
             none,
             7,
-            "not built: line 3\n",
+            "script refused: line 3\n",
         ),
-        ("drive A", ROOM_A, "crash\n", none, 7, "not built: line 1\n"),
     ];
     for (name, file, script, failing, status, line) in cases {
         let outcome = run_words(
@@ -262,7 +262,7 @@ fn bad_words(rt: HostRuntime) -> Result<(), Fail> {
     let one = run_words(rt.alloc(), "fly", b"", b"", none)?;
     assert_eq!(rt; one.status, 2);
     assert_eq!(rt; one.err.bytes(), b"bad words\n".as_slice());
-    let three = run_words(rt.alloc(), "drive A B", b"", b"", none)?;
+    let three = run_words(rt.alloc(), "drive A B C", b"", b"", none)?;
     assert_eq!(rt; three.status, 2);
     assert_eq!(rt; three.out.bytes(), b"".as_slice());
     Ok(())

@@ -1,12 +1,13 @@
 ghost use Rattle.std.specs.Prelude.{◌≡◌, ℕ, List, Some, IfOk, codes, slice_get};
 ghost use Rattle.clap.specs.Walk.{texts};
 ghost use Rattle.mw_offline.specs.Checking.{Asked};
+ghost use Rattle.mw_offline.specs.Driving.{DriveFiles};
 ghost use Rattle.mw_offline.specs.Generating.{Wanted};
 ghost use Rattle.mw_offline.specs.NewRooms.{RoomFiles};
 ghost use Rattle.mw_cli.specs.Words.{IsGenerate, IsCheck, IsReach, IsNewRoom, IsDrive};
 ghost use Rattle.mw_cli.specs.Lines.{AsksFor, IsNoCommand, HasOneMeaning};
 
-use crate::arguments::{number, parse, text};
+use crate::arguments::{number, parse, text, text_or_none};
 use crate::command_line::CommandLine;
 use crate::commands::{
     check_command, drive_command, generate_command, new_room_command, reach_command,
@@ -93,13 +94,16 @@ fn read_new_room(alloc: Global, words: &[&str]) -> Result<NewRoomWords, WordsErr
 /// The words of `drive`.
 fn read_drive(alloc: Global, words: &[&str]) -> Result<DriveWords, WordsError>
     requires { slice_get (texts words.now) 0 ≡ Some (codes "drive") }
-    ensures ok { IfOk result (λ w. IsDrive (texts words.now) w.multidata) }
-    ensures bad { result ≡ Err WordsError.BadWords → (multidata : List ℕ)
-        → IsDrive (texts words.now) multidata → ⊥ }
+    ensures ok { IfOk result
+        (λ w. IsDrive (texts words.now)
+        record { multidata = w.multidata; journal = w.journal }) }
+    ensures bad { result ≡ Err WordsError.BadWords → (files : DriveFiles)
+        → IsDrive (texts words.now) files → ⊥ }
 {
     let matches = parse(drive_command(alloc)?, words)?;
     Ok(DriveWords {
         multidata: text(alloc, &matches, "multidata")?,
+        journal: text_or_none(alloc, &matches, "journal")?,
     })
 }
 

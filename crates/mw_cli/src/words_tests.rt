@@ -36,11 +36,18 @@ fn told(alloc: Global, words: &str) -> Result<String, Fail> {
             w.multidata.as_str(),
             w.journal.as_str()
         )?,
-        CommandLine::Drive(w) => format!(in alloc; "drive <{}>", w.multidata.as_str())?,
+        CommandLine::Drive(w) => match w.journal {
+            Some(journal) => format!(in alloc;
+                "drive <{}> <{}>",
+                w.multidata.as_str(),
+                journal.as_str()
+            )?,
+            None => format!(in alloc; "drive <{}>", w.multidata.as_str())?,
+        },
     })
 }
 
-const ROWS: [(&str, &str); 50] = [
+const ROWS: [(&str, &str); 51] = [
     ("fly", "bad words"),
     ("", "bad words"),
     ("generate", "bad words"),
@@ -104,7 +111,8 @@ const ROWS: [(&str, &str); 50] = [
     ("drive", "bad words"),
     ("drive A", "drive <A>"),
     ("drive -- A", "drive <A>"),
-    ("drive A B", "bad words"),
+    ("drive A J", "drive <A> <J>"),
+    ("drive A J K", "bad words"),
     ("serve A", "bad words"),
 ];
 

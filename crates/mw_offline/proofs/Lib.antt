@@ -1,13 +1,4 @@
 pub mod Endings
-pub mod Causes
-pub mod Digits
-pub mod Front
-pub mod Judged
-pub mod Puts
-pub mod Calls
-pub mod Steps
-pub mod Texts
-pub mod Walks
 pub mod Unread
 pub mod Reading
 pub mod TableCauses
@@ -15,6 +6,7 @@ pub mod Counted
 pub mod Generated
 pub mod SeedReading
 pub mod FirstGates
+pub mod Driving
 pub mod NewRooms
 pub mod Checked
 pub mod OneRun

@@ -1,119 +1,225 @@
 -- How `drive` ends.
-use Rattle.std.specs.Prelude.{◌≡◌, ◌≤◌, ◌⊎◌, ◌++◌, ℕ, List, length, Option, Ok, Err, Bool, codes, decimal, ⊤}
-use Rattle.std.specs.Io.KnownBytes.{Consumes, IsAtEnd, Keeps, Appends}
-use Rattle.mw_edges.specs.Causes.{PutsFront, Rose}
-use Rattle.mw_edges.specs.Folders.{MayBeUnread}
+use Rattle.std.specs.Prelude.{◌≡◌, ◌⊎◌, ◌++◌, ℕ, List, [], Option, Some, None, Ok, IsTrue, is_some, codes, decimal}
+use Rattle.std.specs.Io.KnownBytes.{Keeps}
+use Rattle.mw_edges.specs.Folders.{opened_bytes}
 use Rattle.mw_model.specs.Seed.{Seed}
-use Rattle.mw_protocol.specs.Rooms.{empty_room}
+use Rattle.mw_multidata.specs.Digest.{digest_of}
 use Rattle.mw_multidata.specs.SeedOf.{SeedOf}
-use Rattle.mw_offline.specs.Commands.{Command}
-use Rattle.mw_offline.specs.Drive.{drive_text}
-use Rattle.mw_offline.specs.Ends.{Told, Ends}
-use Rattle.mw_offline.specs.SeedFiles.{IsFile, SeedIn, IsSeedStopped, seed_line}
-use Rattle.mw_offline.specs.Script.{ScriptRefusal, script_of, max_script, refused, not_built}
-use Rattle.mw_offline.specs.declared.drive.Halt.{Halt}
-use Rattle.mw_offline.specs.declared.drive.Halt.TheVariants as halted
-use Rattle.mw_offline.specs.declared.script.ScriptError.{ScriptError}
-use Rattle.mw_offline.specs.declared.script.ScriptError.TheVariants as error
+use Rattle.mw_protocol.specs.Lives.{Step, life_after_all}
+use Rattle.mw_protocol.specs.Records.{Record}
+use Rattle.mw_drive.specs.Ends.{IsFound, Refuses, StaysSettled, Drives, StopsWith, IsOfJournal}
+use Rattle.mw_drive.specs.Left.{IsLeft, KeepsShown}
+use Rattle.mw_drive.specs.declared.error.DriveError.{DriveError}
+use Rattle.mw_drive.specs.declared.error.DriveError.TheVariants as error
+use Rattle.mw_drive.specs.declared.error.JournalRefusal.{JournalRefusal}
+use Rattle.mw_drive.specs.declared.error.JournalRefusal.TheVariants.{NotJournal, OtherSeed, BadRecord}
+use Rattle.mw_offline.specs.Ends.{Told, Ended, stop_with}
+use Rattle.mw_offline.specs.FilesAround.{FilesAround, IsUntouched}
+use Rattle.mw_offline.specs.SeedFiles.{IsFile, IsSeedStopped, seed_line}
+use Rattle.mw_offline.specs.declared.seed_cause.SeedCause.{SeedCause}
 use Rattle.mw_offline.specs.declared.stop.Stop.{Stop}
 use Rattle.mw_offline.specs.declared.stop.Stop.TheVariants.{Fault, Memory, Refused}
+use Rattle.mw_offline.specs.declared.drive_command.DriveWords.{DriveWords}
 use Rattle.mw_offline.specs.declared.drive_cause.DriveCause.{DriveCause}
-use Rattle.mw_offline.specs.declared.drive_cause.DriveCause.TheVariants.{SeedFile, Script, LineNotBuilt}
+use Rattle.mw_offline.specs.declared.drive_cause.DriveCause.TheVariants.{SeedFile, Journal, Script, Full}
 
--- ---- what was read
+-- the seed file, and the file that keeps the room, which is else kept in memory
+pub record DriveFiles : Type 0 where
+  pub multidata : List ℕ
+  pub journal : Option (List ℕ)
 
--- these bytes were taken from the source, to its end unless they pass a script's limit
-pub record IsRead (before after : Option (List ℕ)) (script : List ℕ) : Type 0 where
-  pub taken : Consumes before after script
-  pub ended : length script ≤ max_script → IsAtEnd after
-
--- what was read gives these commands
-pub record IsReady (file : Option (Option (List ℕ))) (before after : Option (List ℕ)) (seed : Seed) (commands : List Command) : Type 0 where
-  pub seed_in : SeedIn file seed
-  pub script : List ℕ
-  pub is_read : IsRead before after script
-  pub judged : script_of script ≡ Ok commands
-
--- a script is refused, over a seed file that isn't
-pub record IsBadScript (file : Option (Option (List ℕ))) (before after : Option (List ℕ)) (refusal : ScriptRefusal) : Type 0 where
-  pub seed : Seed
-  pub seed_in : SeedIn file seed
-  pub script : List ℕ
-  pub is_read : IsRead before after script
-  pub judged : script_of script ≡ Err refusal
-
--- ---- DriveText: what `drive` prints of a seed file and a script
-
-pub record DriveText (bytes script text : List ℕ) : Type 0 where
-  pub seed : Seed
-  pub file : SeedOf bytes (Ok seed)
-  pub commands : List Command
-  pub judged : script_of script ≡ Ok commands
-  pub printed : text ≡ drive_text (empty_room seed) commands
-
--- the same of what was read
-pub record TextRead (file : Option (Option (List ℕ))) (before after : Option (List ℕ)) (text : List ℕ) : Type 0 where
-  pub bytes : List ℕ
-  pub script : List ℕ
-  pub is_file : IsFile file bytes
-  pub is_read : IsRead before after script
-  pub at_end : IsAtEnd after
-  pub drive : DriveText bytes script text
+-- the same of the words of `drive`
+abbrev pub drive_files : DriveWords → DriveFiles
+drive_files words = record { multidata = words.multidata; journal = words.journal }
 
 -- ---- causes
 
--- what stops the commands of a script
-abbrev pub halt_stop : Halt → Stop DriveCause
-halt_stop halted.Fault = Fault
-halt_stop halted.Memory = Memory
+abbrev pub refusal_word : JournalRefusal → List ℕ
+refusal_word (NotJournal at) = codes "NotJournal"
+refusal_word (OtherSeed found) = codes "OtherSeed"
+refusal_word (BadRecord at) = codes "BadRecord"
 
--- why a script gives no commands
-abbrev pub script_stop : ScriptError → Stop DriveCause
-script_stop error.Memory = Memory
-script_stop (error.Refused line) = Refused (Script line)
-script_stop (error.NotBuilt line) = Refused (LineNotBuilt line)
-
--- why nothing is run, the source being this one before and after, and telling what is left so: where
--- the seed file gives no seed it isn't touched
-abbrev pub HasDriveCause : {S : Type 0} → (S → Option (List ℕ)) → Option (Option (List ℕ)) → Bool
-    → S → S → Stop DriveCause → Type 0
-HasDriveCause left file may_fail before after Fault =
-    (MayBeUnread file may_fail × (after ≡ before)) ⊎ ((seed : Seed) × SeedIn file seed)
-HasDriveCause left file may_fail before after Memory = ⊤
-HasDriveCause left file may_fail before after (Refused (SeedFile cause)) =
-    IsSeedStopped file may_fail (Refused cause) × (after ≡ before)
-HasDriveCause left file may_fail before after (Refused (Script line)) =
-    IsBadScript file (left before) (left after) (refused line)
-HasDriveCause left file may_fail before after (Refused (LineNotBuilt line)) =
-    IsBadScript file (left before) (left after) (not_built line)
+-- the stop for an error of the run
+abbrev pub drive_stop : DriveError → Stop DriveCause
+drive_stop error.Fault = Fault
+drive_stop error.Memory = Memory
+drive_stop error.Full = Refused Full
+drive_stop (error.Journal refusal) = Refused (Journal refusal)
+drive_stop (error.Script line) = Refused (Script line)
 
 abbrev pub drive_status : DriveCause → ℕ
-drive_status cause = 7
+drive_status (SeedFile cause) = 7
+drive_status (Journal refusal) = 7
+drive_status (Script line) = 7
+drive_status Full = 8
 
 abbrev pub drive_line : DriveCause → List ℕ
 drive_line (SeedFile cause) = seed_line cause
+drive_line (Journal refusal) =
+    codes "journal refused: " ++ refusal_word refusal ++ codes "\n"
 drive_line (Script line) = codes "script refused: line " ++ decimal line ++ codes "\n"
-drive_line (LineNotBuilt line) = codes "not built: line " ++ decimal line ++ codes "\n"
+drive_line Full = codes "journal full\n"
+
+-- ---- the journal
+
+-- what is told of the bytes of the journal; one in memory is told
+abbrev pub journal_told : FilesAround → Option (List ℕ) → Option (List ℕ)
+journal_told files None = Some []
+journal_told files (Some name) = opened_bytes (files.before name)
+
+-- what a crash may leave of a journal in memory: nothing
+abbrev pub NoImages : List ℕ → Type 0
+NoImages c = ⊥
+
+-- what it may leave of the journal, of files of which it may leave this
+abbrev pub journal_images : (List ℕ → List ℕ → Type 0) → Option (List ℕ) → List ℕ → Type 0
+journal_images images None = NoImages
+journal_images images (Some name) = images name
+
+-- a new journal holds no records, and its first gate stands behind the header
+abbrev pub IsNewJournal : List Record → ℕ → Type 0
+IsNewJournal journal place = (journal ≡ []) × (place ≡ 40)
+
+-- the records for which the journal stood, with the place of its first gate that isn't open; one in
+-- memory is new
+abbrev pub JournalHeld : FilesAround → Option (List ℕ) → List ℕ → Seed → List Record → ℕ → Type 0
+JournalHeld files None digest seed = IsNewJournal
+JournalHeld files (Some name) digest seed =
+    IsFound (opened_bytes (files.before name)) (files.might_leave name) digest seed
+
+-- why it is refused; one in memory isn't
+abbrev pub JournalRefused : FilesAround → Option (List ℕ) → List ℕ → Seed → JournalRefusal
+    → Type 0
+JournalRefused files None digest seed refusal = ⊥
+JournalRefused files (Some name) digest seed refusal =
+    Refuses (opened_bytes (files.before name)) digest seed refusal
+
+-- what a crash may leave of it is settled as before
+abbrev pub JournalStays : FilesAround → Option (List ℕ) → List ℕ → Type 0
+JournalStays files journal digest =
+    StaysSettled (journal_images files.might_leave journal)
+    (journal_images files.may_leave journal) digest
+
+-- the files but the journal's are as they were, and just those are open as disks that were
+pub record JournalLeaves (files : FilesAround) (journal : Option (List ℕ)) : Type 0 where
+  pub others : (n : List ℕ) → (journal ≡ Some n → ⊥) → IsUntouched files n
+  pub opened : (n : List ℕ) → files.is_open n ≡ files.was_open n
+
+-- what was put is kept: where the journal is told, and what a crash might leave of it was settled for
+-- the life to which a run of lives comes, then it is settled for a life that goes on from that one,
+-- and what was put keeps to that life; with a journal in memory, to a life that goes on from the
+-- first one
+abbrev pub JournalKeeps : FilesAround → Option (List ℕ) → List ℕ → Seed → Option (List ℕ)
+    → Option (List ℕ) → Type 0
+JournalKeeps files None digest seed old new = KeepsShown NoImages digest seed [] old new
+JournalKeeps files (Some name) digest seed old new = (steps : List Step)
+    → IsTrue (is_some (opened_bytes (files.before name)))
+    → IsLeft (files.might_leave name) digest (life_after_all seed steps)
+    → KeepsShown (files.may_leave name) digest seed steps old new
+
+-- ---- the run of a script on it
+
+-- the bytes of a seed file, its seed, the input before and after, and what the out sink held before
+-- and after
+pub record ScriptRun (S : Type 0) : Type 0 where
+  pub bytes : List ℕ
+  pub seed : Seed
+  pub before : S
+  pub after : S
+  pub old : Option (List ℕ)
+  pub new : Option (List ℕ)
+
+abbrev pub run_of : {S : Type 0} → List ℕ → Seed → S → S → Option (List ℕ) → Option (List ℕ)
+    → ScriptRun S
+run_of bytes seed before after old new = record {
+  bytes = bytes;
+  seed = seed;
+  before = before;
+  after = after;
+  old = old;
+  new = new;
+}
+
+-- the script was read to its end and run to its end, on the room that the journal keeps
+abbrev pub RunsToEnd : {S : Type 0} → (S → Option (List ℕ)) → FilesAround → Option (List ℕ)
+    → ScriptRun S → Type 0
+RunsToEnd source files journal run =
+    Drives (JournalHeld files journal (digest_of run.bytes) run.seed)
+    (journal_told files journal) (journal_images files.may_leave journal)
+    (digest_of run.bytes) run.seed (source run.before) (source run.after) run.old run.new
+
+-- the journal, the script or its run was stopped; the journal is refused only where what a crash
+-- might leave of it isn't settled for a life to which a run of lives comes
+pub record RunsShort {S : Type 0} (source : S → Option (List ℕ)) (files : FilesAround)
+    (journal : Option (List ℕ)) (run : ScriptRun S) (why : DriveError) : Type 0 where
+  pub stops : StopsWith source (JournalHeld files journal (digest_of run.bytes) run.seed)
+      (JournalRefused files journal (digest_of run.bytes) run.seed)
+      (JournalStays files journal (digest_of run.bytes))
+      (journal_told files journal) (journal_images files.may_leave journal)
+      (digest_of run.bytes) run.seed run.before run.after run.old run.new why
+  pub accepted : (steps : List Step) → IsTrue (is_some (journal_told files journal))
+      → IsLeft (journal_images files.might_leave journal) (digest_of run.bytes)
+      (life_after_all run.seed steps) → IsOfJournal why → ⊥
 
 -- ---- ends
 
--- the script was read to its end, and just its text was put
-pub record Drives (file : Option (Option (List ℕ))) (before after old new : Option (List ℕ)) : Type 0 where
-  pub text : List ℕ
-  pub read : TextRead file before after text
-  pub put : Appends old new text
+-- the seed file was read, and gives this seed
+pub record SeedWas (files : FilesAround) (name bytes : List ℕ) (seed : Seed) : Type 0 where
+  pub is_file : IsFile (files.before name) bytes
+  pub is : SeedOf bytes (Ok seed)
 
--- the same, but a front of the text was put
-pub record PutsSome (file : Option (Option (List ℕ))) (before after old new : Option (List ℕ)) : Type 0 where
-  pub text : List ℕ
-  pub read : TextRead file before after text
-  pub put : PutsFront old new text
+-- all was done
+pub record DriveDone {S : Type 0} (source : S → Option (List ℕ)) (files : FilesAround)
+    (named : DriveFiles) (before after : S) (old new : Option (List ℕ)) : Type 0 where
+  pub bytes : List ℕ
+  pub seed : Seed
+  pub seed_was : SeedWas files named.multidata bytes seed
+  pub runs : RunsToEnd source files named.journal (run_of bytes seed before after old new)
 
--- how `drive` ended with a status, the source being this one before and after, and telling what is
--- left so, with what the out sink held and how often it failed
-abbrev pub DriveEnds : {S : Type 0} → (S → Option (List ℕ)) → ℕ → Option (Option (List ℕ)) → Bool
-    → S → S → Told → Told → Type 0
-DriveEnds left status file may_fail before after out told =
-    Ends drive_status drive_line (HasDriveCause left file may_fail before after)
-    (Keeps out.old out.new) (PutsSome file (left before) (left after) out.old out.new)
-    (Rose out.before out.now) (Drives file (left before) (left after) out.old out.new) status told
+-- the seed file gave no seed: nothing else was touched
+pub record SeedStopped {S : Type 0} (files : FilesAround) (named : DriveFiles) (before after : S)
+    (old new : Option (List ℕ)) (stop : Stop DriveCause) : Type 0 where
+  pub seed_stop : Stop SeedCause
+  pub is : stop ≡ stop_with SeedFile seed_stop
+  pub cause : IsSeedStopped (files.before named.multidata) files.may_fail seed_stop
+  pub untouched : after ≡ before
+  pub quiet : Keeps old new
+  pub files_stay : (n : List ℕ) → IsUntouched files n
+
+-- or it gave one, and what came after it was stopped
+pub record RunStopped {S : Type 0} (source : S → Option (List ℕ)) (files : FilesAround)
+    (named : DriveFiles) (before after : S) (old new : Option (List ℕ)) (stop : Stop DriveCause)
+    : Type 0 where
+  pub bytes : List ℕ
+  pub seed : Seed
+  pub seed_was : SeedWas files named.multidata bytes seed
+  pub why : DriveError
+  pub is : stop ≡ drive_stop why
+  pub short : RunsShort source files named.journal
+      (run_of bytes seed before after old new) why
+
+abbrev pub DriveStopped : {S : Type 0} → (S → Option (List ℕ)) → FilesAround → DriveFiles → S → S
+    → Option (List ℕ) → Option (List ℕ) → Stop DriveCause → Type 0
+DriveStopped source files named before after old new stop =
+    SeedStopped files named before after old new stop
+    ⊎ RunStopped source files named before after old new stop
+
+-- what was put is kept, where the seed file is told
+abbrev pub DriveKeeps : FilesAround → DriveFiles → Option (List ℕ) → Option (List ℕ) → Type 0
+DriveKeeps files named old new = (bytes : List ℕ) (seed : Seed)
+    → files.before named.multidata ≡ Some (Some bytes) → SeedOf bytes (Ok seed)
+    → JournalKeeps files named.journal (digest_of bytes) seed old new
+
+-- how `drive` ended with a status, the source telling so what is left of it, with what the out sink
+-- held: all was done, or a stop was told, or want of memory for its line
+pub record DriveEnds {S : Type 0} (source : S → Option (List ℕ)) (status : ℕ)
+    (files : FilesAround) (named : DriveFiles) (before after : S) (out told : Told)
+    : Type 0 where
+  pub ends : ((status ≡ 0) × DriveDone source files named before after out.old out.new
+      × Keeps told.old told.new)
+      ⊎ ((stop : Stop DriveCause)
+      × DriveStopped source files named before after out.old out.new stop
+      × Ended drive_status drive_line stop status told)
+  pub leaves : JournalLeaves files named.journal
+  -- whatever the status is
+  pub kept : DriveKeeps files named out.old out.new

@@ -1,11 +1,6 @@
 pub mod Ends
-pub mod Commands
-pub mod Drive
 pub mod SeedFiles
 pub mod Driving
-pub mod Gives
-pub mod Lines
-pub mod Script
 pub mod Tables
 pub mod Reaching
 pub mod Generating
@@ -13,4 +8,3 @@ pub mod Checking
 pub mod FilesAround
 pub mod NewRooms
 pub mod Laws
-pub mod Examples

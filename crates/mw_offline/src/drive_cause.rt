@@ -1,14 +1,14 @@
-//! Why `drive` refuses what it read.
-ghost use Rattle.std.specs.Prelude.{◌≡◌};
+//! Why `drive` doesn't do all.
+ghost use Rattle.std.specs.Prelude.{◌≡◌, IfOk, string_bytes};
+ghost use Rattle.mw_offline.specs.Driving.{refusal_word as refusal_word_lem};
 
-use crate::drive::Halt;
-use crate::script::ScriptError;
 use crate::seed_cause::SeedCause;
 use crate::stop::{Cause, Stop};
 use mw_base::Memory;
+use mw_drive::{DriveError, JournalRefusal};
 use std::alloc::Global;
 
-/// Why `drive` refuses what it read.
+/// Why `drive` refuses what it read, or goes no further.
 #[derive(Debug, Drop)]
 pub enum DriveCause {
     /// The seed file is refused.
@@ -16,16 +16,29 @@ pub enum DriveCause {
         /// The cause.
         cause: SeedCause,
     },
+    /// The journal is refused.
+    Journal {
+        /// Why.
+        refusal: JournalRefusal,
+    },
     /// The script is refused at a line.
     Script {
         /// The line, counted from 1.
         line: u64,
     },
-    /// A line of the script isn't built.
-    LineNotBuilt {
-        /// The line, counted from 1.
-        line: u64,
-    },
+    /// The journal is full.
+    Full,
+}
+
+/// The word for why a journal is refused.
+fn refusal_word(refusal: JournalRefusal) -> &'static str
+    ensures { result.now ≡ refusal_word_lem refusal }
+{
+    match refusal {
+        JournalRefusal::NotJournal { .. } => "NotJournal",
+        JournalRefusal::OtherSeed { .. } => "OtherSeed",
+        JournalRefusal::BadRecord { .. } => "BadRecord",
+    }
 }
 
 impl Cause for DriveCause {
@@ -36,14 +49,22 @@ impl Cause for DriveCause {
     ghost line_of = { drive_line };
 
     fn status(&self) -> u8 {
-        7
+        match self {
+            DriveCause::Full => 8,
+            DriveCause::SeedFile { .. } | DriveCause::Journal { .. } | DriveCause::Script { .. } =>
+                7,
+        }
     }
 
     fn line(&self, alloc: Global) -> Result<String, Memory> {
         match self {
             DriveCause::SeedFile { cause } => cause.line(alloc),
+            DriveCause::Journal { refusal } => {
+                let word = refusal_word(*refusal);
+                Ok(format!(in alloc; "journal refused: {word}\n")?)
+            }
             DriveCause::Script { line } => Ok(format!(in alloc; "script refused: line {line}\n")?),
-            DriveCause::LineNotBuilt { line } => Ok(format!(in alloc; "not built: line {line}\n")?),
+            DriveCause::Full => Ok(String::from_str(alloc, "journal full\n")?),
         }
     }
 }
@@ -65,33 +86,24 @@ impl From<Stop<SeedCause>> for Stop<DriveCause> {
     }
 }
 
-impl From<ScriptError> for Stop<DriveCause> {
-    ghost use Rattle.mw_offline.specs.Driving.{script_stop};
+impl From<DriveError> for Stop<DriveCause> {
+    ghost use Rattle.mw_offline.specs.Driving.{drive_stop};
 
-    ghost from_gives = { λ error e. e ≡ script_stop error };
+    ghost from_gives = { λ error e. e ≡ drive_stop error };
 
-    fn from(error: ScriptError) -> Self {
+    fn from(error: DriveError) -> Self {
         match error {
-            ScriptError::Memory => Stop::Memory,
-            ScriptError::Refused { line } => Stop::Refused {
+            DriveError::Fault => Stop::Fault,
+            DriveError::Memory => Stop::Memory,
+            DriveError::Full => Stop::Refused {
+                cause: DriveCause::Full,
+            },
+            DriveError::Journal { refusal } => Stop::Refused {
+                cause: DriveCause::Journal { refusal },
+            },
+            DriveError::Script { line } => Stop::Refused {
                 cause: DriveCause::Script { line },
             },
-            ScriptError::NotBuilt { line } => Stop::Refused {
-                cause: DriveCause::LineNotBuilt { line },
-            },
-        }
-    }
-}
-
-impl From<Halt> for Stop<DriveCause> {
-    ghost use Rattle.mw_offline.specs.Driving.{halt_stop};
-
-    ghost from_gives = { λ halt e. e ≡ halt_stop halt };
-
-    fn from(halt: Halt) -> Self {
-        match halt {
-            Halt::Fault => Stop::Fault,
-            Halt::Memory => Stop::Memory,
         }
     }
 }

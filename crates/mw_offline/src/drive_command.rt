@@ -1,25 +1,25 @@
 //! The command `drive`.
-ghost use Rattle.std.specs.Prelude.{◌≡◌, ◌≤◌, ◌⊎◌, IfOk, IfErr, OnOk, ℕ, List, map};
-ghost use Rattle.std.specs.Io.KnownBytes.{Keeps};
+ghost use Rattle.std.specs.Prelude.{◌≡◌, ◌≤◌, ◌⊎◌, [], Some, Ok, IfErr, OnOk};
 ghost use Rattle.mw_edges.specs.Causes.{Rose};
-ghost use Rattle.mw_protocol.specs.Rooms.{empty_room};
-ghost use Rattle.mw_model.specs.Seed.{Seed};
-ghost use Rattle.mw_room.specs.Stands.{Stands};
-ghost use Rattle.mw_offline.specs.Commands.{command_view};
-ghost use Rattle.mw_offline.specs.Ends.{HasLeft, told_by};
-ghost use Rattle.mw_offline.specs.Driving.{IsReady, HasDriveCause, PutsSome, Drives, DriveEnds};
+ghost use Rattle.mw_multidata.specs.Digest.{digest_of};
+ghost use Rattle.mw_multidata.specs.SeedOf.{SeedOf};
+ghost use Rattle.mw_drive.specs.Ends.{Drives, IsOfJournal, StaysSettled, StopsWith};
+ghost use Rattle.mw_drive.specs.Left.{KeepsShown};
+ghost use Rattle.mw_offline.specs.Ends.{told_by};
+ghost use Rattle.mw_offline.specs.FilesAround.{files_around};
+ghost use Rattle.mw_offline.specs.Driving.{NoImages, IsNewJournal, JournalLeaves, JournalKeeps};
+ghost use Rattle.mw_offline.specs.Driving.{drive_files, run_of, RunsToEnd, RunsShort};
+ghost use Rattle.mw_offline.specs.Driving.{DriveDone, DriveStopped, DriveEnds, DriveKeeps};
 
-use crate::command::Command;
-use crate::drive::run_commands;
+use crate::creating::create_on;
 use crate::drive_cause::DriveCause;
-use crate::input::read_script;
-use crate::script::judge_script;
-use crate::seed::read_seed;
+use crate::seed::{SeedBytes, read_seed_bytes};
 use crate::stop::{Stop, end};
-use mw_base::{List, Memory, Text};
-use mw_edges::{Folder, Sink, Source};
-use mw_multidata::{Multidata, RoomTables};
-use mw_room::Room;
+use mw_base::{Bytes, Text};
+use mw_disk::SteadyDisk;
+use mw_drive::{DriveError, drive_on};
+use mw_edges::{Folder, FolderError, Sink, Source};
+use mw_multidata::digest;
 use std::alloc::Global;
 
 /// The words of `drive`.
@@ -27,48 +27,116 @@ use std::alloc::Global;
 pub struct DriveWords {
     /// The seed file's name.
     pub multidata: Text,
+    /// The journal's name; without one the room is kept in a new journal in memory.
+    pub journal: Option<Text>,
 }
 
-/// What `drive` needs to run.
-struct Prepared {
-    room: Room,
-    commands: List<Command>,
-}
-
-/// A room that nobody has entered.
-fn room_of(alloc: Global, multidata: Multidata) -> Result<Room, Memory>
-    ensures { IfOk result (λ r. Stands r (empty_room multidata)) }
-{
-    let tables = RoomTables::of(alloc, multidata)?;
-    Room::new(alloc, tables)
-}
-
-/// Reads the seed file and the script, and judges both.
-#[tactic(auto, using(crate::proofs::Causes::seed_exit, crate::proofs::Causes::halt_cause))]
-fn prepare<F: Folder, S: Source>(
+/// Runs the script on a room that is kept in memory.
+fn drive_in_memory<S: Source, O: Sink>(
     alloc: Global,
-    words: &DriveWords,
+    seed: SeedBytes,
+    input: &mut S,
+    out: &mut O,
+) -> Result<(), DriveError>
+    requires { SeedOf seed.bytes (Ok seed.multidata) }
+    ensures done { OnOk result (Drives IsNewJournal (Some []) NoImages (digest_of seed.bytes)
+        seed.multidata (S.left input.old) (S.left input.new) (O.held out.old) (O.held out.new)) }
+    ensures stopped { IfErr result (StopsWith S.left IsNewJournal (λ _. ⊥)
+        (StaysSettled NoImages NoImages (digest_of seed.bytes)) (Some []) NoImages
+        (digest_of seed.bytes) seed.multidata input.old input.new
+        (O.held out.old) (O.held out.new)) }
+    ensures accepted { IfErr result (λ error. IsOfJournal error → ⊥) }
+    ensures kept { KeepsShown NoImages (digest_of seed.bytes) seed.multidata []
+        (O.held out.old) (O.held out.new) }
+    ensures fault { result ≡ Err DriveError.Fault
+        → Rose (S.faults input.old) (S.faults input.new)
+        ⊎ Rose (O.faults out.old) (O.faults out.new) }
+{
+    let SeedBytes { bytes, multidata } = seed;
+    let disk = SteadyDisk::new(alloc, Bytes::new(alloc))?;
+    let (disk, created) = create_on(alloc, disk, &digest(bytes.as_slice()));
+    match created {
+        Ok(()) => drive_on(alloc, disk, multidata, bytes.as_slice(), input, out).1,
+        // A disk in memory without bytes refuses nothing but for want of memory.
+        Err(_) => Err(DriveError::Memory),
+    }
+}
+
+/// Runs the script on the room that a file keeps. Its disk is closed again.
+fn drive_on_file<F: Folder, S: Source, O: Sink>(
+    alloc: Global,
+    seed: SeedBytes,
+    name: &Text,
     folder: &mut F,
     input: &mut S,
-) -> Result<Prepared, Stop<DriveCause>>
-    ensures ok { IfOk result (λ r. (seed : Seed) × Stands r.room (empty_room seed)
-        × IsReady (F.holds folder.old words.now.multidata) (S.left input.old)
-        (S.left input.new) seed (map command_view r.commands)) }
-    ensures err { IfErr result
-        (HasDriveCause S.left (F.holds folder.old words.now.multidata) (F.may_fail folder.old)
-        input.old input.new) }
-    ensures fault { result ≡ Err Stop.Fault
+    out: &mut O,
+) -> Result<(), DriveError>
+    requires { SeedOf seed.bytes (Ok seed.multidata) }
+    ensures done { OnOk result (RunsToEnd S.left
+        (files_around F.holds F.images F.is_open F.may_fail F.faults folder.old folder.new)
+        (Some name.now) (run_of seed.bytes seed.multidata input.old input.new
+        (O.held out.old) (O.held out.new))) }
+    ensures short { IfErr result (RunsShort S.left
+        (files_around F.holds F.images F.is_open F.may_fail F.faults folder.old folder.new)
+        (Some name.now) (run_of seed.bytes seed.multidata input.old input.new
+        (O.held out.old) (O.held out.new))) }
+    ensures kept { JournalKeeps
+        (files_around F.holds F.images F.is_open F.may_fail F.faults folder.old folder.new)
+        (Some name.now) (digest_of seed.bytes) seed.multidata (O.held out.old) (O.held out.new) }
+    ensures leaves { JournalLeaves
+        (files_around F.holds F.images F.is_open F.may_fail F.faults folder.old folder.new)
+        (Some name.now) }
+    ensures fault { result ≡ Err DriveError.Fault
         → Rose (F.faults folder.old) (F.faults folder.new)
-        ⊎ Rose (S.faults input.old) (S.faults input.new) }
-    ensures later { (F.faults folder.old ≤ F.faults folder.new)
-        × (S.faults input.old ≤ S.faults input.new) }
-    ensures same { (n : List ℕ) → F.holds folder.new n ≡ F.holds folder.old n }
+        ⊎ (Rose (S.faults input.old) (S.faults input.new)
+        ⊎ Rose (O.faults out.old) (O.faults out.new)) }
+    ensures later { F.faults folder.old ≤ F.faults folder.new }
 {
-    let multidata = read_seed(alloc, folder, &words.multidata)?;
-    let script = read_script(alloc, input)?;
-    let commands = judge_script(alloc, &script)?;
-    let room = room_of(alloc, multidata)?;
-    Ok(Prepared { room, commands })
+    let SeedBytes { bytes, multidata } = seed;
+    let disk = match folder.open_disk(alloc, name) {
+        Ok(disk) => disk,
+        Err(FolderError::Failed) => return Err(DriveError::Fault),
+        Err(FolderError::Memory) => return Err(DriveError::Memory),
+    };
+    let (disk, outcome) = drive_on(alloc, disk, multidata, bytes.as_slice(), input, out);
+    folder.close_disk(name, disk);
+    outcome
+}
+
+/// Runs the script on the room of a seed.
+fn drive_room<F: Folder, S: Source, O: Sink>(
+    alloc: Global,
+    seed: SeedBytes,
+    journal: &Option<Text>,
+    folder: &mut F,
+    input: &mut S,
+    out: &mut O,
+) -> Result<(), DriveError>
+    requires { SeedOf seed.bytes (Ok seed.multidata) }
+    ensures done { OnOk result (RunsToEnd S.left
+        (files_around F.holds F.images F.is_open F.may_fail F.faults folder.old folder.new)
+        journal.now (run_of seed.bytes seed.multidata input.old input.new
+        (O.held out.old) (O.held out.new))) }
+    ensures short { IfErr result (RunsShort S.left
+        (files_around F.holds F.images F.is_open F.may_fail F.faults folder.old folder.new)
+        journal.now (run_of seed.bytes seed.multidata input.old input.new
+        (O.held out.old) (O.held out.new))) }
+    ensures kept { JournalKeeps
+        (files_around F.holds F.images F.is_open F.may_fail F.faults folder.old folder.new)
+        journal.now (digest_of seed.bytes) seed.multidata (O.held out.old) (O.held out.new) }
+    ensures leaves { JournalLeaves
+        (files_around F.holds F.images F.is_open F.may_fail F.faults folder.old folder.new)
+        journal.now }
+    ensures fault { result ≡ Err DriveError.Fault
+        → Rose (F.faults folder.old) (F.faults folder.new)
+        ⊎ (Rose (S.faults input.old) (S.faults input.new)
+        ⊎ Rose (O.faults out.old) (O.faults out.new)) }
+    ensures later { F.faults folder.old ≤ F.faults folder.new }
+{
+    match journal {
+        None => drive_in_memory(alloc, seed, input, out),
+        Some(name) => drive_on_file(alloc, seed, name, folder, input, out),
+    }
 }
 
 /// Does all that `drive` does but for its error line.
@@ -79,31 +147,42 @@ fn drive<F: Folder, S: Source, O: Sink>(
     input: &mut S,
     out: &mut O,
 ) -> Result<(), Stop<DriveCause>>
-    ensures done { OnOk result (Drives (F.holds folder.old words.now.multidata) (S.left input.old)
-        (S.left input.new) (O.held out.old) (O.held out.new)) }
-    ensures left { IfErr result
-        (HasLeft (HasDriveCause S.left (F.holds folder.old words.now.multidata)
-        (F.may_fail folder.old) input.old input.new)
-        (Keeps (O.held out.old) (O.held out.new))
-        (PutsSome (F.holds folder.old words.now.multidata) (S.left input.old) (S.left input.new)
-        (O.held out.old) (O.held out.new))
-        (Rose (O.faults out.old) (O.faults out.new))) }
-    ensures fault { result ≡ Err Stop.Fault → Rose (F.faults folder.old) (F.faults folder.new)
+    ensures done { OnOk result (DriveDone S.left
+        (files_around F.holds F.images F.is_open F.may_fail F.faults folder.old folder.new)
+        (drive_files words.now) input.old input.new (O.held out.old) (O.held out.new)) }
+    ensures stopped { IfErr result (DriveStopped S.left
+        (files_around F.holds F.images F.is_open F.may_fail F.faults folder.old folder.new)
+        (drive_files words.now) input.old input.new (O.held out.old) (O.held out.new)) }
+    ensures kept { DriveKeeps
+        (files_around F.holds F.images F.is_open F.may_fail F.faults folder.old folder.new)
+        (drive_files words.now) (O.held out.old) (O.held out.new) }
+    ensures leaves { JournalLeaves
+        (files_around F.holds F.images F.is_open F.may_fail F.faults folder.old folder.new)
+        words.now.journal }
+    ensures fault { result ≡ Err Stop.Fault
+        → Rose (F.faults folder.old) (F.faults folder.new)
         ⊎ (Rose (S.faults input.old) (S.faults input.new)
         ⊎ Rose (O.faults out.old) (O.faults out.new)) }
-    ensures same { (n : List ℕ) → F.holds folder.new n ≡ F.holds folder.old n }
 {
-    let prepared = prepare(alloc, words, folder, input)?;
-    let Prepared { mut room, commands } = prepared;
-    Ok(run_commands(alloc, &mut room, commands, out)?)
+    let seed = read_seed_bytes(alloc, folder, &words.multidata)?;
+    Ok(drive_room(alloc, seed, &words.journal, folder, input, out)?)
 }
 
 /// Runs the script of the input on the room of a seed file, and prints the messages that are taken.
+/// The room is kept in a journal: in that of a file, or in a new one in memory.
 ///
-/// The status is 0 where all is done and the input read to its end; 5 where the folder, the input or
-/// the out sink failed; 6 where memory ran out; 7 where the seed file or the script is refused; where
-/// the seed file is, the input isn't touched. With a status other than 0 the error sink gets that
-/// status's line, or a front of it where it refuses.
+/// The seed file is judged first, then the journal, and then the script, which is judged whole
+/// before its first line runs. A journal is judged after its first gate that isn't open was written
+/// 0.
+///
+/// The status is 0 where all is done and the input read to its end; 5 where the folder, the journal's
+/// disk, the input or the out sink failed; 6 where memory ran out; 7 where the seed file, the journal
+/// or the script is refused; 8 where the next batch would pass the journal's limit, or the room has
+/// had 2^63 calls. With a status other than 0 the error sink gets that status's line, or a front of
+/// it where it refuses.
+///
+/// Whatever the status is, what a crash may leave of the journal's file stays settled, and keeps all
+/// that was shown by what was put.
 pub fn cmd_drive<F: Folder, S: Source, O: Sink, E: Sink>(
     alloc: Global,
     words: &DriveWords,
@@ -113,12 +192,13 @@ pub fn cmd_drive<F: Folder, S: Source, O: Sink, E: Sink>(
     err: &mut E,
 ) -> u8
     ensures ends { DriveEnds S.left result
-        (F.holds folder.old words.now.multidata) (F.may_fail folder.old) input.old input.new
-        (told_by O.held O.faults out.old out.new) (told_by E.held E.refusals err.old err.new) }
-    ensures fault { result ≡ 5 → Rose (F.faults folder.old) (F.faults folder.new)
+        (files_around F.holds F.images F.is_open F.may_fail F.faults folder.old folder.new)
+        (drive_files words.now) input.old input.new (told_by O.held O.faults out.old out.new)
+        (told_by E.held E.refusals err.old err.new) }
+    ensures fault { result ≡ 5
+        → Rose (F.faults folder.old) (F.faults folder.new)
         ⊎ (Rose (S.faults input.old) (S.faults input.new)
         ⊎ Rose (O.faults out.old) (O.faults out.new)) }
-    ensures same { (n : List ℕ) → F.holds folder.new n ≡ F.holds folder.old n }
 {
     let outcome = drive(alloc, words, folder, input, out);
     end(alloc, err, outcome)

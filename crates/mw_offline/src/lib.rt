@@ -1,26 +1,19 @@
 //! The commands that don't wait, each with its statuses.
 #![tactic(auto)]
 
-mod built;
 mod check_cause;
 mod check_command;
-mod command;
-mod drive;
+mod creating;
 mod drive_cause;
 mod drive_command;
 mod generate_cause;
 mod generate_command;
 mod generating;
-mod input;
 mod laws;
-mod line;
-mod lines;
 mod new_room;
-mod numbers;
 mod reach;
 mod reaching;
 mod room_cause;
-mod script;
 mod seed;
 mod seed_cause;
 mod stop;
@@ -30,7 +23,6 @@ mod telling;
 
 pub use check_cause::CheckCause;
 pub use check_command::{CheckWords, cmd_check};
-pub use command::Command;
 pub use drive_cause::DriveCause;
 pub use drive_command::{DriveWords, cmd_drive};
 pub use generate_cause::GenerateCause;
@@ -40,7 +32,6 @@ pub use mw_seeds::seed_file;
 pub use new_room::{NewRoomWords, cmd_new_room};
 pub use reach::{ReachWords, cmd_reach};
 pub use room_cause::RoomCause;
-pub use script::{ScriptError, judge_script};
 pub use seed_cause::SeedCause;
 pub use stop::Stop;
 pub use table_cause::TableCause;

@@ -1,22 +1,19 @@
 //! The command `new-room`.
-ghost use Rattle.std.specs.Prelude.{◌≡◌, ◌≢◌, ◌≤◌, ◌⊎◌, ℕ, List, [], Some, IfErr, OnOk};
+ghost use Rattle.std.specs.Prelude.{◌≡◌, ◌≤◌, ◌⊎◌, ℕ, List, [], IfErr, OnOk};
 ghost use Rattle.mw_edges.specs.Causes.{Rose};
-ghost use Rattle.mw_journal.specs.Opening.{RefusesCreate};
-ghost use Rattle.mw_journal.specs.Reads.{OnlyReads};
 ghost use Rattle.mw_journal.specs.Settled.{AllShut};
 ghost use Rattle.mw_offline.specs.Ends.{HasLeft, told_by};
 ghost use Rattle.mw_offline.specs.FilesAround.{files_around, OthersStay, IsOnlyRead};
 ghost use Rattle.mw_offline.specs.NewRooms.{IsEmpty, ShowsByte, HasJournalCause, HasRoomCause};
 ghost use Rattle.mw_offline.specs.NewRooms.{room_in, NoRoom, MakesSome, MakesRoom, NewRoomEnds};
 
+use crate::creating::create_on;
 use crate::room_cause::{RoomCause, room_stop};
 use crate::seed::read_digest;
 use crate::stop::{Stop, end};
 use crate::telling::put_text;
 use mw_base::Text;
-use mw_disk::Disk;
 use mw_edges::{Folder, FolderError, Sink};
-use mw_journal::{OpenError, create};
 use std::alloc::Global;
 
 /// The words of `new-room`.
@@ -26,25 +23,6 @@ pub struct NewRoomWords {
     pub multidata: Text,
     /// The journal's name.
     pub journal: Text,
-}
-
-/// Makes an empty journal on a disk, and gives the disk back.
-#[tactic(auto, using(crate::proofs::FirstGates::all_first))]
-fn create_on<D: Disk>(alloc: Global, disk: D, digest: &[u8; 32]) -> (D, Result<(), OpenError>)
-    ensures ok { OnOk result.1 (AllShut (D.may_leave result.0) digest.now [] 40) }
-    ensures empty { OnOk result.1 ((f : List ℕ) → D.told disk ≡ Some f → f ≡ []) }
-    ensures refused { IfErr result.1
-        (RefusesCreate (D.told disk) (D.faults disk) (D.faults result.0)) }
-    ensures count { D.faults disk ≤ D.faults result.0 }
-    ensures kept { result.1 ≡ Err OpenError.NotEmpty → OnlyReads D.told D.may_leave D.moment
-        D.left_since D.faults disk result.0 }
-    ensures bytes { (f : List ℕ) → D.told disk ≡ Some f → f ≢ [] → OnlyReads D.told D.may_leave
-        D.moment D.left_since D.faults disk result.0 }
-{
-    match create(alloc, disk, digest) {
-        Ok(journal) => (journal.into_disk(), Ok(())),
-        Err((disk, error)) => (disk, Err(error)),
-    }
 }
 
 /// Makes an empty journal in a file without bytes, or in one that isn't there. Its disk is closed

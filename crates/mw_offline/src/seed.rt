@@ -57,8 +57,37 @@ fn seed_of(alloc: Global, bytes: &[u8]) -> Result<Multidata, Stop<SeedCause>>
     }
 }
 
-/// Reads a seed file.
+/// The bytes of a seed file, and what they hold.
+pub(crate) struct SeedBytes {
+    /// The bytes.
+    pub(crate) bytes: Bytes,
+    /// What they hold.
+    pub(crate) multidata: Multidata,
+}
+
+/// Reads and judges a seed file.
 #[tactic(auto, using(crate::proofs::SeedReading::unread_seed))]
+pub(crate) fn read_seed_bytes<F: Folder>(
+    alloc: Global,
+    folder: &mut F,
+    name: &Text,
+) -> Result<SeedBytes, Stop<SeedCause>>
+    ensures ok { IfOk result
+        (λ s. IsFile (F.holds folder.old name.now) s.bytes × SeedOf s.bytes (Ok s.multidata)) }
+    ensures err { IfErr result
+        (IsSeedStopped (F.holds folder.old name.now) (F.may_fail folder.old)) }
+    ensures fault { result ≡ Err Stop.Fault → Rose (F.faults folder.old) (F.faults folder.new) }
+    ensures later { F.faults folder.old ≤ F.faults folder.new }
+    ensures same { (n : List ℕ) → F.holds folder.new n ≡ F.holds folder.old n }
+    ensures crash { (n : List ℕ) → SameImages (F.images folder.old n) (F.images folder.new n) }
+    ensures opened { (n : List ℕ) → F.is_open folder.new n ≡ F.is_open folder.old n }
+{
+    let bytes = read_bytes(alloc, folder, name)?;
+    let multidata = seed_of(alloc, bytes.as_slice())?;
+    Ok(SeedBytes { bytes, multidata })
+}
+
+/// Reads and judges a seed file, and gives what it holds alone.
 pub(crate) fn read_seed<F: Folder>(
     alloc: Global,
     folder: &mut F,
@@ -71,42 +100,11 @@ pub(crate) fn read_seed<F: Folder>(
     ensures later { F.faults folder.old ≤ F.faults folder.new }
     ensures same { (n : List ℕ) → F.holds folder.new n ≡ F.holds folder.old n }
 {
-    let bytes = read_bytes(alloc, folder, name)?;
-    seed_of(alloc, bytes.as_slice())
-}
-
-/// What a seed file holds, and the SHA-256 of its bytes.
-#[derive(Drop)]
-pub(crate) struct DigestedSeed {
-    /// What it holds.
-    pub(crate) multidata: Multidata,
-    /// The digest.
-    pub(crate) digest: [u8; 32],
-}
-
-/// Reads a seed file, and takes the digest of its bytes.
-#[tactic(auto, using(crate::proofs::SeedReading::unread_seed))]
-pub(crate) fn read_digested<F: Folder>(
-    alloc: Global,
-    folder: &mut F,
-    name: &Text,
-) -> Result<DigestedSeed, Stop<SeedCause>>
-    ensures ok { IfOk result
-        (λ s. DigestedIn (F.holds folder.old name.now) s.multidata s.digest) }
-    ensures err { IfErr result
-        (IsSeedStopped (F.holds folder.old name.now) (F.may_fail folder.old)) }
-    ensures fault { result ≡ Err Stop.Fault → Rose (F.faults folder.old) (F.faults folder.new) }
-    ensures later { F.faults folder.old ≤ F.faults folder.new }
-    ensures same { (n : List ℕ) → F.holds folder.new n ≡ F.holds folder.old n }
-    ensures crash { (n : List ℕ) → SameImages (F.images folder.old n) (F.images folder.new n) }
-    ensures opened { (n : List ℕ) → F.is_open folder.new n ≡ F.is_open folder.old n }
-{
-    let bytes = read_bytes(alloc, folder, name)?;
-    let multidata = seed_of(alloc, bytes.as_slice())?;
-    Ok(DigestedSeed {
+    let SeedBytes {
+        bytes: _,
         multidata,
-        digest: digest(bytes.as_slice()),
-    })
+    } = read_seed_bytes(alloc, folder, name)?;
+    Ok(multidata)
 }
 
 /// Reads and judges a seed file, and gives the SHA-256 of its bytes alone.
@@ -125,6 +123,9 @@ pub(crate) fn read_digest<F: Folder>(
     ensures crash { (n : List ℕ) → SameImages (F.images folder.old n) (F.images folder.new n) }
     ensures opened { (n : List ℕ) → F.is_open folder.new n ≡ F.is_open folder.old n }
 {
-    let seed = read_digested(alloc, folder, name)?;
-    Ok(seed.digest)
+    let SeedBytes {
+        bytes,
+        multidata: _,
+    } = read_seed_bytes(alloc, folder, name)?;
+    Ok(digest(bytes.as_slice()))
 }

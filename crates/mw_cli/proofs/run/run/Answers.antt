@@ -2,6 +2,7 @@ use Rattle.std.proofs.Common.{Err, ap, refl, subst, inl, inr}
 use Rattle.std.proofs.KnownBytes.{Keeps-refl}
 use Rattle.mw_offline.specs.declared.stop.Stop.TheVariants.{Memory}
 use Rattle.mw_cli.specs.Lines.{AsksFor, generate_line, check_line, reach_line, new_room_line, drive_line}
+use Rattle.mw_offline.proofs.Driving.{unstarted}
 use Rattle.mw_cli.proofs.Asking.{asks_one}
 use Rattle.mw_cli.proofs.run.run.Goals as goal
 
@@ -18,7 +19,7 @@ pub returns-in-Ok-clause-new_room : goal.returns-in-Ok-clause-new_room
 returns-in-Ok-clause-new_room g c = λ room is. rw (asks_one c.args.words.now c.in-Ok.line (new_room_line room) c.in-Ok.ensures.ok is) at c.run_line.ensures.ends
 
 pub returns-in-Ok-clause-drive : goal.returns-in-Ok-clause-drive
-returns-in-Ok-clause-drive g c = λ name is. rw (asks_one c.args.words.now c.in-Ok.line (drive_line name) c.in-Ok.ensures.ok is) at c.run_line.ensures.ends
+returns-in-Ok-clause-drive g c = λ files is. rw (asks_one c.args.words.now c.in-Ok.line (drive_line files) c.in-Ok.ensures.ok is) at c.run_line.ensures.ends
 
 pub returns-in-Err-BadWords-clause-generate : goal.returns-in-Err-BadWords-clause-generate
 returns-in-Err-BadWords-clause-generate g c = λ wanted is. absurd (c.in-Err-BadWords.ensures.bad (ap Err c.in-Err-BadWords.field-0-is) (generate_line wanted) is)
@@ -33,7 +34,7 @@ pub returns-in-Err-BadWords-clause-new_room : goal.returns-in-Err-BadWords-claus
 returns-in-Err-BadWords-clause-new_room g c = λ room is. absurd (c.in-Err-BadWords.ensures.bad (ap Err c.in-Err-BadWords.field-0-is) (new_room_line room) is)
 
 pub returns-in-Err-BadWords-clause-drive : goal.returns-in-Err-BadWords-clause-drive
-returns-in-Err-BadWords-clause-drive g c = λ name is. absurd (c.in-Err-BadWords.ensures.bad (ap Err c.in-Err-BadWords.field-0-is) (drive_line name) is)
+returns-in-Err-BadWords-clause-drive g c = λ files is. absurd (c.in-Err-BadWords.ensures.bad (ap Err c.in-Err-BadWords.field-0-is) (drive_line files) is)
 
 pub returns-in-Err-Memory-clause-generate : goal.returns-in-Err-Memory-clause-generate
 returns-in-Err-Memory-clause-generate g c = λ _ _.
@@ -48,14 +49,17 @@ returns-in-Err-Memory-clause-reach g c = λ _ _.
     inr (Memory, record { is_status = c.end_without_memory.ensures.status; left = inl (Keeps-refl _); line = c.end_without_memory.ensures.line })
 
 pub returns-in-Err-Memory-clause-drive : goal.returns-in-Err-Memory-clause-drive
-returns-in-Err-Memory-clause-drive g c = λ _ _.
-    inr (Memory, record { is_status = c.end_without_memory.ensures.status; left = inl (Keeps-refl _); line = c.end_without_memory.ensures.line })
+returns-in-Err-Memory-clause-drive g c = λ files _.
+    let F = g.F.Folder in
+    unstarted F.holds F.images F.is_open F.may_fail F.faults g.S.Source.left c.args.folder.now files c.args.input.now (g.O.Sink.held c.args.out.now) (g.O.Sink.faults c.args.out.now) _ c.end_without_memory.result
+    c.end_without_memory.ensures.status c.end_without_memory.ensures.line
 
 pub returns-in-Err-BadWords-clause-other : goal.returns-in-Err-BadWords-clause-other
 returns-in-Err-BadWords-clause-other g c = λ _. (refl, refl, inl (refl, c.tell.ensures))
 
--- a line of another command is neither of the two that change a file
+-- a line of another command is none of the three that change a file
 pub returns-in-Ok-clause-same : goal.returns-in-Ok-clause-same
-returns-in-Ok-clause-same g c = λ no_seed no_room.
+returns-in-Ok-clause-same g c = λ no_seed no_room no_drive.
     let asks = c.in-Ok.ensures.ok in
     c.run_line.ensures.same (λ wanted is. no_seed wanted (subst (AsksFor c.args.words.now) is asks)) (λ room is. no_room room (subst (AsksFor c.args.words.now) is asks))
+    (λ files is. no_drive files (subst (AsksFor c.args.words.now) is asks))

@@ -1,45 +1,156 @@
-use Rattle.std.proofs.Common.{Err, ap, map, inr}
-use Rattle.std.proofs.KnownBytes.{Keeps-refl}
-use Rattle.std.specs.Io.KnownBytes.{Keeps}
-use Rattle.mw_edges.specs.Causes.{Rose}
-use Rattle.mw_protocol.specs.Rooms.{empty_room}
-use Rattle.mw_offline.specs.Commands.{command_view}
-use Rattle.mw_offline.specs.Driving.{HasDriveCause, PutsSome}
-use Rattle.mw_offline.proofs.Causes.{halt_fault, halt_left, drives, puts_some}
-use Rattle.mw_offline.proofs.Endings.{fault_passed, left_exit}
+use Rattle.std.proofs.Common.{Err, ap, inl}
+use Rattle.mw_multidata.specs.Digest.{digest_of}
+use Rattle.mw_offline.specs.Driving.{drive_files, run_of}
+use Rattle.mw_offline.specs.FilesAround.{files_around}
+use Rattle.mw_offline.specs.declared.drive_cause.DriveCause.TheVariants.{SeedFile}
+use Rattle.mw_offline.proofs.Driving.{AreUnmoved, keeps_since, leaves_since, read_keeps, rose_since, run_exit, run_fault, runs_since, seed_exit, short_since, unmoved_all, unmoved_leaves}
+use Rattle.mw_offline.proofs.Endings.{fault_exit}
 use Rattle.mw_offline.proofs.drive_command.drive.Goals as goal
 
-pub returns-in_err-prepared-clause-left : goal.returns-in_err-prepared-clause-left
-returns-in_err-prepared-clause-left g c =
-    let file = g.F.Folder.holds c.args.folder.now c.args.words.now.multidata in
-    let left = g.S.Source.left in
-    let before = c.args.input.now in
-    let after = c.prepare.new.input in
-    let held = g.O.Sink.held c.args.out.now in
-    left_exit (HasDriveCause left file (g.F.Folder.may_fail c.args.folder.now) before after) (Keeps held held) (PutsSome file (left before) (left after) held held) (Rose (g.O.Sink.faults c.args.out.now) (g.O.Sink.faults c.args.out.now)) c.from_residual.result _ c.in_err-prepared.ensures.err (Keeps-refl held) c.from_residual.ensures.1
+pub returns-in_err-seed-clause-stopped : goal.returns-in_err-seed-clause-stopped
+returns-in_err-seed-clause-stopped g c =
+    let F = g.F.Folder in
+    let first = c.args.folder.now in
+    let second = c.read_seed_bytes.new.folder in
+    let files = files_around F.holds F.images F.is_open F.may_fail F.faults first second in
+    let read = c.in_err-seed.ensures in
+    let unmoved : AreUnmoved files = record { each = λ n. record { told = read.same n; crash = read.crash n }; opened = read.opened } in
+    seed_exit g.S.Source.left files (drive_files c.args.words.now) c.args.input.now (g.O.Sink.held c.args.out.now) c.from_residual.result _ read.err unmoved c.from_residual.ensures.1
 
-pub returns-in_err-run_commands-clause-left : goal.returns-in_err-run_commands-clause-left
-returns-in_err-run_commands-clause-left g c =
-    let file = g.F.Folder.holds c.args.folder.now c.args.words.now.multidata in
-    let left = g.S.Source.left in
-    let before = c.args.input.now in
-    let after = c.prepare.new.input in
+pub returns-in_err-seed-clause-kept : goal.returns-in_err-seed-clause-kept
+returns-in_err-seed-clause-kept g c =
+    let F = g.F.Folder in
+    let first = c.args.folder.now in
+    let second = c.read_seed_bytes.new.folder in
+    let files = files_around F.holds F.images F.is_open F.may_fail F.faults first second in
+    let read = c.in_err-seed.ensures in
+    let unmoved : AreUnmoved files = record { each = λ n. record { told = read.same n; crash = read.crash n }; opened = read.opened } in
+    unmoved_all files unmoved (drive_files c.args.words.now) (g.O.Sink.held c.args.out.now)
+
+pub returns-in_err-seed-clause-leaves : goal.returns-in_err-seed-clause-leaves
+returns-in_err-seed-clause-leaves g c =
+    let F = g.F.Folder in
+    let first = c.args.folder.now in
+    let second = c.read_seed_bytes.new.folder in
+    let files = files_around F.holds F.images F.is_open F.may_fail F.faults first second in
+    let read = c.in_err-seed.ensures in
+    let unmoved : AreUnmoved files = record { each = λ n. record { told = read.same n; crash = read.crash n }; opened = read.opened } in
+    unmoved_leaves files unmoved c.args.words.now.journal
+
+pub returns-in_err-seed-clause-fault : goal.returns-in_err-seed-clause-fault
+returns-in_err-seed-clause-fault g c = λ e. inl (c.in_err-seed.ensures.fault (ap Err (fault_exit SeedFile c.from_residual.result _ c.from_residual.ensures.1 e)))
+
+pub returns-in_err-drive_room-clause-stopped : goal.returns-in_err-drive_room-clause-stopped
+returns-in_err-drive_room-clause-stopped g c =
+    let F = g.F.Folder in
+    let first = c.args.folder.now in
+    let second = c.read_seed_bytes.new.folder in
+    let last = c.drive_room.new.folder in
+    let named = drive_files c.args.words.now in
     let old = g.O.Sink.held c.args.out.now in
-    let new = g.O.Sink.held c.run_commands.new.out in
-    let ready = c.in_ok-prepared.ensures.ok in
-    let cs = map command_view c.in_ok-prepared.prepared.commands in
-    let r = c.from_residual-in_err-run_commands in
-    halt_left (HasDriveCause left file (g.F.Folder.may_fail c.args.folder.now) before after) (Keeps old new) (PutsSome file (left before) (left after) old new) (Rose (g.O.Sink.faults c.args.out.now) (g.O.Sink.faults c.run_commands.new.out)) r.result _
-    (puts_some file (left before) (left after) old new ready.0 cs ready.2 (c.in_err-run_commands.ensures.stopped (empty_room ready.0) ready.1)) (λ e. c.in_err-run_commands.ensures.fault (ap Err e)) r.ensures.1
+    let new = g.O.Sink.held c.drive_room.new.out in
+    let from = c.args.input.now in
+    let to = c.drive_room.new.input in
+    let files = files_around F.holds F.images F.is_open F.may_fail F.faults first last in
+    let bytes = c.in_ok-seed.seed.bytes in
+    let seed = c.in_ok-seed.seed.multidata in
+    let read = c.in_ok-seed.ensures in
+    let r = c.from_residual-in_err-drive_room in
+    run_exit g.S.Source.left files named bytes seed from to old new r.result _ read.ok.0 read.ok.1
+    (short_since F.holds F.images F.is_open F.may_fail F.faults first second last read.same read.crash g.S.Source.left (run_of bytes seed from to old new) named.journal _ c.in_err-drive_room.ensures.short) r.ensures.1
 
-pub returns-in_err-run_commands-clause-fault : goal.returns-in_err-run_commands-clause-fault
-returns-in_err-run_commands-clause-fault g c =
-    let r = c.from_residual-in_err-run_commands in
-    λ e. inr (inr (c.in_err-run_commands.ensures.fault (ap Err (halt_fault _ (fault_passed r.result _ r.ensures.1 e)))))
+pub returns-in_err-drive_room-clause-kept : goal.returns-in_err-drive_room-clause-kept
+returns-in_err-drive_room-clause-kept g c =
+    let F = g.F.Folder in
+    let first = c.args.folder.now in
+    let second = c.read_seed_bytes.new.folder in
+    let last = c.drive_room.new.folder in
+    let named = drive_files c.args.words.now in
+    let old = g.O.Sink.held c.args.out.now in
+    let new = g.O.Sink.held c.drive_room.new.out in
+    let from = c.args.input.now in
+    let to = c.drive_room.new.input in
+    let files = files_around F.holds F.images F.is_open F.may_fail F.faults first last in
+    let bytes = c.in_ok-seed.seed.bytes in
+    let seed = c.in_ok-seed.seed.multidata in
+    let read = c.in_ok-seed.ensures in
+    read_keeps files named bytes seed old new read.ok.0 read.ok.1 (keeps_since F.holds F.images F.is_open F.may_fail F.faults first second last read.same read.crash named.journal (digest_of bytes) seed old new c.in_err-drive_room.ensures.kept)
+
+pub returns-in_err-drive_room-clause-leaves : goal.returns-in_err-drive_room-clause-leaves
+returns-in_err-drive_room-clause-leaves g c =
+    let F = g.F.Folder in
+    let first = c.args.folder.now in
+    let second = c.read_seed_bytes.new.folder in
+    let last = c.drive_room.new.folder in
+    let named = drive_files c.args.words.now in
+    let old = g.O.Sink.held c.args.out.now in
+    let new = g.O.Sink.held c.drive_room.new.out in
+    let from = c.args.input.now in
+    let to = c.drive_room.new.input in
+    let files = files_around F.holds F.images F.is_open F.may_fail F.faults first last in
+    let bytes = c.in_ok-seed.seed.bytes in
+    let seed = c.in_ok-seed.seed.multidata in
+    let read = c.in_ok-seed.ensures in
+    leaves_since F.holds F.images F.is_open F.may_fail F.faults first second last read.same read.crash named.journal read.opened c.in_err-drive_room.ensures.leaves
+
+pub returns-in_err-drive_room-clause-fault : goal.returns-in_err-drive_room-clause-fault
+returns-in_err-drive_room-clause-fault g c =
+    let r = c.from_residual-in_err-drive_room in
+    λ e. rose_since (g.F.Folder.faults c.args.folder.now) (g.F.Folder.faults c.read_seed_bytes.new.folder) (g.F.Folder.faults c.drive_room.new.folder) c.in_ok-seed.ensures.later
+    (c.in_err-drive_room.ensures.fault (ap Err (run_fault r.result _ r.ensures.1 e)))
 
 pub returns-clause-done : goal.returns-clause-done
 returns-clause-done g c =
-    let file = g.F.Folder.holds c.args.folder.now c.args.words.now.multidata in
-    let ready = c.in_ok-prepared.ensures.ok in
-    drives file (g.S.Source.left c.args.input.now) (g.S.Source.left c.prepare.new.input) (g.O.Sink.held c.args.out.now) (g.O.Sink.held c.run_commands.new.out) ready.0
-    (map command_view c.in_ok-prepared.prepared.commands) ready.2 (c.in_ok-run_commands.ensures.done (empty_room ready.0) ready.1)
+    let F = g.F.Folder in
+    let first = c.args.folder.now in
+    let second = c.read_seed_bytes.new.folder in
+    let last = c.drive_room.new.folder in
+    let named = drive_files c.args.words.now in
+    let old = g.O.Sink.held c.args.out.now in
+    let new = g.O.Sink.held c.drive_room.new.out in
+    let from = c.args.input.now in
+    let to = c.drive_room.new.input in
+    let files = files_around F.holds F.images F.is_open F.may_fail F.faults first last in
+    let bytes = c.in_ok-seed.seed.bytes in
+    let seed = c.in_ok-seed.seed.multidata in
+    let read = c.in_ok-seed.ensures in
+    record {
+      bytes = bytes;
+      seed = seed;
+      seed_was = record { is_file = read.ok.0; is = read.ok.1 };
+      runs = runs_since F.holds F.images F.is_open F.may_fail F.faults first second last read.same read.crash g.S.Source.left (run_of bytes seed from to old new) named.journal c.in_ok-drive_room.ensures.done;
+    }
+
+pub returns-clause-kept : goal.returns-clause-kept
+returns-clause-kept g c =
+    let F = g.F.Folder in
+    let first = c.args.folder.now in
+    let second = c.read_seed_bytes.new.folder in
+    let last = c.drive_room.new.folder in
+    let named = drive_files c.args.words.now in
+    let old = g.O.Sink.held c.args.out.now in
+    let new = g.O.Sink.held c.drive_room.new.out in
+    let from = c.args.input.now in
+    let to = c.drive_room.new.input in
+    let files = files_around F.holds F.images F.is_open F.may_fail F.faults first last in
+    let bytes = c.in_ok-seed.seed.bytes in
+    let seed = c.in_ok-seed.seed.multidata in
+    let read = c.in_ok-seed.ensures in
+    read_keeps files named bytes seed old new read.ok.0 read.ok.1 (keeps_since F.holds F.images F.is_open F.may_fail F.faults first second last read.same read.crash named.journal (digest_of bytes) seed old new c.in_ok-drive_room.ensures.kept)
+
+pub returns-clause-leaves : goal.returns-clause-leaves
+returns-clause-leaves g c =
+    let F = g.F.Folder in
+    let first = c.args.folder.now in
+    let second = c.read_seed_bytes.new.folder in
+    let last = c.drive_room.new.folder in
+    let named = drive_files c.args.words.now in
+    let old = g.O.Sink.held c.args.out.now in
+    let new = g.O.Sink.held c.drive_room.new.out in
+    let from = c.args.input.now in
+    let to = c.drive_room.new.input in
+    let files = files_around F.holds F.images F.is_open F.may_fail F.faults first last in
+    let bytes = c.in_ok-seed.seed.bytes in
+    let seed = c.in_ok-seed.seed.multidata in
+    let read = c.in_ok-seed.ensures in
+    leaves_since F.holds F.images F.is_open F.may_fail F.faults first second last read.same read.crash named.journal read.opened c.in_ok-drive_room.ensures.leaves

@@ -1,0 +1,116 @@
+#!/usr/bin/env bash
+# Prints the time (passed, and of the processor) and memory of `drive` on a journal with 1,000,000 checks and an empty script, which recovers it; of 2,000 checks on a journal,
+# each made safe by two syncs, and of the same in memory; of one check on a journal that is full; and counts what comes back where a run is killed at a random moment: each run of a script of checks, each followed by a
+# take, is killed, and the next one must find every check that a taken message showed. How many runs is the first argument, 1,000 without one.
+# Run after `rt run` in crates/mw_cli, which leaves the program.
+set -eu
+cd "$(dirname "$0")/.."
+program=$PWD/crates/mw_cli/out/mw_cli
+[ -x "$program" ] || { echo "build it first: (cd crates/mw_cli && rt run)" >&2; exit 1; }
+room=$(mktemp -d)
+trap 'rm -rf "$room"' EXIT
+python3 - "$program" "$room" "${1:-1000}" <<'PY'
+import hashlib, json, os, random, re, resource, struct, subprocess, sys, time
+program, folder, kills = sys.argv[1], sys.argv[2], int(sys.argv[3])
+
+def path(name):
+    return folder + "/" + name
+
+def write_seed(name, slots, per):
+    """A seed file of so many slots with so many locations each."""
+    games = {"G": {"item_name_to_id": {"Item": 1}, "location_name_to_id": {"L%d" % n: n for n in range(1, per + 1)}}}
+    server = {"collect": "goal", "hint_cost": 10, "location_check_points": 1, "password": "", "release": "goal", "remaining": "goal"}
+    people = [{"names": ["P%d" % s], "game": "G", "start": []} for s in range(1, slots + 1)]
+    locations = [[s, n, 1, s % slots + 1, 0] for s in range(1, slots + 1) for n in range(1, per + 1)]
+    seed = {"format": "mw-multidata-1", "seed_name": "bench", "teams": 1, "spheres": [], "server": server, "games": games, "slots": people, "locations": locations}
+    with open(path(name), "w") as f:
+        json.dump(seed, f, separators=(",", ":"))
+
+def write_journal(name, seed, checks):
+    """A journal of a seed file: one batch for each of these checks, of a slot and its location."""
+    with open(path(seed), "rb") as f:
+        digest = hashlib.sha256(f.read()).digest()
+    with open(path(name), "wb") as f:
+        f.write(b"MWJRNL1\n" + digest)
+        for slot, location in checks:
+            body = struct.pack(">BBHIQ", 1, 0, slot, 1, location)
+            f.write(b"\x01" + struct.pack(">I", len(body)) + body)
+        f.write(b"\x00")
+
+before = 0.0
+def drive(words, script):
+    """One run to its end, with its figures."""
+    global before
+    begin = time.time()
+    done = subprocess.run([program, "drive"] + [path(w) for w in words], input=script.encode(), stdout=subprocess.DEVNULL)
+    passed = time.time() - begin
+    used = resource.getrusage(resource.RUSAGE_CHILDREN)
+    spent, before = used.ru_utime + used.ru_stime - before, used.ru_utime + used.ru_stime
+    return "status %d, %.2f s passed, %.2f s of the processor, at most %d MB so far" % (done.returncode, passed, spent, used.ru_maxrss // 1024)
+
+connect = '[{"cmd":"Connect","game":"G","items_handling":7,"name":"P1","tags":["NoText"],"version":{"build":0,"class":"Version","major":0,"minor":5}}]'
+check = 'text 1 [{"cmd":"LocationChecks","locations":[%d]}]\n'
+
+write_seed("small.json", 2, 2000)
+script = "open\ntext 1 %s\n" % connect + "".join(check % n for n in range(1, 2001)) + "take 1\n"
+print("2,000 checks in memory:", drive(["small.json"], script))
+subprocess.run([program, "new-room", path("small.json"), path("small.journal")], check=True, stdout=subprocess.DEVNULL)
+print("2,000 checks on a journal:", drive(["small.json", "small.journal"], script))
+write_seed("large.json", 100, 10000)
+print("a seed file of %d MB, in memory:" % (os.path.getsize(path("large.json")) // 1000000), drive(["large.json"], ""))
+write_journal("large.journal", "large.json", ((s, n) for s in range(1, 101) for n in range(1, 10001)))
+print("a journal with 1,000,000 checks of it:", drive(["large.json", "large.journal"], ""))
+
+def write_full_journal(name, seed):
+    """A journal that has room for no record: batches that store a long text under one key, the last one of which ends ten bytes before the limit."""
+    with open(path(seed), "rb") as f:
+        digest = hashlib.sha256(f.read()).digest()
+    with open(path(name), "wb") as f:
+        f.write(b"MWJRNL1\n" + digest)
+        place, limit = 40, 1 << 30
+        while place < limit - 10:
+            left = limit - 10 - place
+            size = 500000 if left > 1000000 else left if left < 600000 else 400000
+            text = b'"' + b"a" * (size - 5 - 10 - 2) + b'"'
+            body = b"\x07" + struct.pack(">I", 1) + b"k" + struct.pack(">I", len(text)) + text
+            f.write(b"\x01" + struct.pack(">I", len(body)) + body)
+            place += 5 + len(body)
+        f.write(b"\x00")
+
+write_full_journal("full.journal", "small.json")
+print("a full journal of %d bytes:" % os.path.getsize(path("full.journal")), drive(["small.json", "full.journal"], "open\ntext 1 %s\n" % connect + check % 1))
+os.remove(path("full.journal"))
+
+found_first = re.compile(r'"checked_locations":\[([0-9,]*)\],"cmd":"Connected"')
+shown_later = re.compile(r'"checked_locations":\[([0-9,]*)\],"cmd":"RoomUpdate"')
+random.seed(1)
+shown, next_check, losses, extra = set(), 1, 0, 0
+write_seed("killed.json", 2, 10000)
+subprocess.run([program, "new-room", path("killed.json"), path("killed.journal")], check=True, stdout=subprocess.DEVNULL)
+for run in range(kills):
+    lines = "open\ntext 1 %s\ntake 1\n" % connect + "".join(check % n + "take 1\n" for n in range(next_check, min(next_check + 400, 10001)))
+    with open(path("script"), "w") as f:
+        f.write(lines)
+    with open(path("output"), "wb") as out, open(path("script")) as given:
+        child = subprocess.Popen([program, "drive", path("killed.json"), path("killed.journal")], stdin=given, stdout=out)
+        time.sleep(random.uniform(0.0, 0.05))
+        child.kill()
+        child.wait()
+    with open(path("output")) as f:
+        text = f.read()
+    whole = text[:text.rfind("\n") + 1]
+    first = found_first.search(whole)
+    if first:
+        found = set(map(int, filter(None, first.group(1).split(","))))
+        losses += len(shown - found)
+        extra += len(found - shown)
+        shown |= found
+    for more in shown_later.finditer(whole):
+        shown |= set(map(int, filter(None, more.group(1).split(","))))
+    next_check = max(shown, default=0) + 1
+    if next_check > 9000:
+        shown, next_check = set(), 1
+        os.remove(path("killed.journal"))
+        subprocess.run([program, "new-room", path("killed.json"), path("killed.journal")], check=True, stdout=subprocess.DEVNULL)
+print("%d runs that were killed: %d checks that were shown are missing, %d came back that were not shown yet" % (kills, losses, extra))
+PY
