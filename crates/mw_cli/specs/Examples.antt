@@ -1,18 +1,23 @@
 -- Rows of words beside the definitions.
-use Rattle.std.specs.Prelude.{◌≡◌, List, ℕ, [], ◌∷◌, Some, codes, refl}
+use Rattle.std.specs.Prelude.{◌≡◌, List, ℕ, [], ◌∷◌, Some, None, codes, refl}
 use Rattle.clap.specs.declared.error.kind.ErrorKind.TheVariants.{UnknownArgument, ArgumentConflict}
 use Rattle.clap.proofs.OnLiterals.{clap_on_literals}
-use Rattle.mw_cli.specs.Words.{IsReach, reach_app, faults, generate_app, given}
+use Rattle.mw_cli.specs.Words.{IsDrive, drive_app, faults, generate_app, given}
 
 -- a file's name
-pub reach_one : IsReach (codes "reach" ∷ codes "A" ∷ []) (codes "A")
+pub drive_one : IsDrive (codes "drive" ∷ codes "A" ∷ []) (record { multidata = codes "A"; journal = None })
 unfolding faults given clap_on_literals
-reach_one = record { taken = record { named = refl; faultless = refl }; players_given = refl }
+drive_one = record { taken = record { named = refl; faultless = refl }; multidata = refl; journal = refl }
+
+-- two files' names
+pub drive_two : IsDrive (codes "drive" ∷ codes "A" ∷ codes "J" ∷ []) (record { multidata = codes "A"; journal = Some (codes "J") })
+unfolding faults given clap_on_literals
+drive_two = record { taken = record { named = refl; faultless = refl }; multidata = refl; journal = refl }
 
 -- a word too many
-pub reach_two : faults reach_app (codes "reach" ∷ codes "A" ∷ codes "B" ∷ []) ≡ UnknownArgument ∷ []
+pub drive_three : faults drive_app (codes "drive" ∷ codes "A" ∷ codes "J" ∷ codes "K" ∷ []) ≡ UnknownArgument ∷ []
 unfolding faults clap_on_literals
-reach_two = refl
+drive_three = refl
 
 abbrev pub made : List (List ℕ)
 made = codes "generate" ∷ codes "--seed=5" ∷ codes "p.json" ∷ codes "o" ∷ []

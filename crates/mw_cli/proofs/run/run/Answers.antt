@@ -63,3 +63,8 @@ returns-in-Ok-clause-same g c = λ no_seed no_room no_drive.
     let asks = c.in-Ok.ensures.ok in
     c.run_line.ensures.same (λ wanted is. no_seed wanted (subst (AsksFor c.args.words.now) is asks)) (λ room is. no_room room (subst (AsksFor c.args.words.now) is asks))
     (λ files is. no_drive files (subst (AsksFor c.args.words.now) is asks))
+
+-- and but for `drive` none reads the input
+pub returns-in-Ok-clause-input : goal.returns-in-Ok-clause-input
+returns-in-Ok-clause-input g c = λ no_drive.
+    c.run_line.ensures.input (λ files is. no_drive files (subst (AsksFor c.args.words.now) is c.in-Ok.ensures.ok))
