@@ -128,11 +128,15 @@ fn closed_and_open_gate(rt: HostRuntime) -> Result<(), Fail> {
     Ok(())
 }
 
+/// An open gate before a check of 101 by slot 3, which Room A hasn't, as a batch.
+const STRANGER: [u8; 22] = [
+    1, 0, 0, 0, 16, 1, 0, 0, 3, 0, 0, 0, 1, 0, 0, 0, 0, 0, 0, 0, 101, 0,
+];
+
 #[test]
 fn refused_journals(rt: HostRuntime) -> Result<(), Fail> {
     let none = journal_of(rt.alloc(), &[])?;
-    let mut stranger = batch_behind(rt.alloc(), 1)?;
-    stranger[48] = 3;
+    let stranger = journal_of(rt.alloc(), &STRANGER)?;
     let cases = [
         (none.as_slice(), "7 journal refused: NotJournal\n"),
         (stranger.as_slice(), "7 journal refused: BadRecord\n"),
@@ -174,17 +178,15 @@ fn shown_and_found(alloc: Global, failing: u64) -> Result<(u8, bool, bool), Fail
 
 #[test]
 fn disk_fails_at_each_call(rt: HostRuntime) -> Result<(), Fail> {
-    let mut faults = 0;
+    // Opening syncs and reads, and a commit writes, syncs, writes and syncs: six calls at least.
     for failing in 0..12 {
         let (status, shown, found) = shown_and_found(rt.alloc(), failing)?;
-        assert!(rt; status == b'0' || status == b'5', "at {failing}");
+        assert!(rt;
+            status == b'5' || (status == b'0' && failing >= 6),
+            "at {failing}"
+        );
         assert_eq!(rt; shown, status == b'0', "at {failing}");
         assert!(rt; found || !shown, "at {failing}");
-        if status == b'5' {
-            faults += 1;
-        }
     }
-    // Opening syncs and reads, and a commit writes, syncs, writes and syncs.
-    assert!(rt; faults >= 6);
     Ok(())
 }

@@ -3,8 +3,21 @@ use crate::command_line::CommandLine;
 use crate::error::WordsError;
 use crate::words::read_words;
 use mw_base::Text;
+use mw_offline::DriveWords;
 use std::alloc::Global;
 use std::test::Fail;
+
+/// What the words of `drive` ask for.
+fn told_drive(alloc: Global, words: &DriveWords) -> Result<String, Fail> {
+    let multidata = words.multidata.as_str();
+    match &words.journal {
+        Some(journal) => {
+            let journal = journal.as_str();
+            Ok(format!(in alloc; "drive <{multidata}> <{journal}>")?)
+        }
+        None => Ok(format!(in alloc; "drive <{multidata}>")?),
+    }
+}
 
 /// What words with a blank between them ask for, told in one line.
 fn told(alloc: Global, words: &str) -> Result<String, Fail> {
@@ -36,14 +49,7 @@ fn told(alloc: Global, words: &str) -> Result<String, Fail> {
             w.multidata.as_str(),
             w.journal.as_str()
         )?,
-        CommandLine::Drive(w) => match w.journal {
-            Some(journal) => format!(in alloc;
-                "drive <{}> <{}>",
-                w.multidata.as_str(),
-                journal.as_str()
-            )?,
-            None => format!(in alloc; "drive <{}>", w.multidata.as_str())?,
-        },
+        CommandLine::Drive(w) => told_drive(alloc, &w)?,
     })
 }
 

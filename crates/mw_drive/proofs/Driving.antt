@@ -20,7 +20,7 @@ use Rattle.mw_protocol.specs.Named.{are_named}
 use Rattle.mw_keep.specs.Holds.{IsAmong}
 use Rattle.mw_keep.specs.Keeps.{kept_disk}
 use Rattle.mw_keep.specs.Entered.{AreSound}
-use Rattle.mw_keep.specs.Recovers.{Resumes, RefusesResume}
+use Rattle.mw_keep.specs.Recovers.{IsNoJournal, Resumes, RefusesResume}
 use Rattle.mw_keep.specs.Recovers.{IsOutside as KeepOutside}
 use Rattle.mw_keep.specs.declared.error.KeepError.{KeepError}
 use Rattle.mw_keep.specs.declared.error.KeepError.TheVariants as keep
@@ -30,7 +30,7 @@ use Rattle.mw_drive.specs.Commands.{Command}
 use Rattle.mw_drive.specs.Crashes.{error_of}
 use Rattle.mw_drive.specs.declared.error.JournalRefusal.{JournalRefusal}
 use Rattle.mw_drive.specs.declared.error.JournalRefusal.TheVariants.{NotJournal, OtherSeed, BadRecord}
-use Rattle.mw_drive.specs.Ends.{IsFound, Refuses, Drives, IsUnread, IsStopped, IsOfJournal}
+use Rattle.mw_drive.specs.Ends.{IsFound, IsForeign, Refuses, Drives, IsUnread, IsStopped, IsOfJournal}
 use Rattle.mw_drive.specs.Input.{HasNoScript}
 use Rattle.mw_drive.specs.Left.{FindsItself, IsKept, IsLeft, KeepsShown}
 use Rattle.mw_drive.specs.Runs.{IsKeptIn, RunsScript, HaltsScript}
@@ -216,6 +216,18 @@ pub cause_of : (told : Option (List ℕ)) (digest : List ℕ) (seed : Seed) (bef
     → (result ≡ Fault) ⊎ (result ≡ Memory) ⊎ ((refusal : JournalRefusal) × (result ≡ Journal refusal) × Refuses told digest seed refusal)
 cause_of told digest seed before after error result is h =
     subst (λ e. (e ≡ Fault) ⊎ (e ≡ Memory) ⊎ ((refusal : JournalRefusal) × (e ≡ Journal refusal) × Refuses told digest seed refusal)) (sym is) (unopened_cause told digest seed before after error h)
+
+-- what is no journal for the one is none for the other
+foreign_of : (error : KeepError) → IsForeign (error_of error) → IsNoJournal error
+foreign_of (keep.BadSeed kind path) h = absurd h
+foreign_of keep.DiskFault h = absurd h
+foreign_of (keep.NotJournal at) h = h
+foreign_of (keep.OtherSeed found) h = h
+foreign_of (keep.BadRecord at) h = absurd h
+foreign_of keep.Memory h = absurd h
+
+pub foreign_error : (error : KeepError) (result : DriveError) → result ≡ error_of error → IsForeign result → IsNoJournal error
+foreign_error error result is h = foreign_of error (subst IsForeign is h)
 
 outside_none : (error : KeepError) → KeepOutside error → IsOfJournal (error_of error) → ⊥
 outside_none (keep.BadSeed kind path) h of = of

@@ -1,6 +1,7 @@
 -- How the run of a script on a disk ends.
 use Rattle.std.specs.Prelude.{◌≡◌, ◌⊎◌, ℕ, ◌++◌, List, Option, Some}
 use Rattle.std.specs.Io.KnownBytes.{Keeps}
+use Rattle.mw_disk.specs.Crash.{Stays}
 use Rattle.mw_model.specs.Seed.{Seed}
 use Rattle.mw_protocol.specs.Lives.{Life, new_life}
 use Rattle.mw_protocol.specs.Records.{Record}
@@ -55,11 +56,22 @@ pub record Drives (found : List Record → ℕ → Type 0) (told : Option (List 
   pub ready : IsReady found seed before after life commands
   pub driven : FindsItself told commands → HasDriven left digest life commands old new
 
+-- the bytes are no journal of the seed's
+abbrev pub IsForeign : DriveError → Type 0
+IsForeign Fault = ⊥
+IsForeign Memory = ⊥
+IsForeign Full = ⊥
+IsForeign (Journal (NotJournal at)) = Unit {0}
+IsForeign (Journal (OtherSeed found)) = Unit {0}
+IsForeign (Journal (BadRecord at)) = ⊥
+IsForeign (Script line) = ⊥
+
 -- no room was recovered: the input wasn't touched, nothing was put, and what a crash may leave is as
--- settled as it was
-pub record IsUnopened {S : Type 0} (refuses : JournalRefusal → Type 0) (settled : Type 0) (before after : S) (old new : Option (List ℕ)) (error : DriveError)
+-- settled as it was; what is no journal of the seed's was only read
+pub record IsUnopened {S : Type 0} (refuses : JournalRefusal → Type 0) (settled only_read : Type 0) (before after : S) (old new : Option (List ℕ)) (error : DriveError)
     : Type 0 where
   pub as_settled : settled
+  pub read : IsForeign error → only_read
   pub untouched : after ≡ before
   pub quiet : Keeps old new
   pub cause : (error ≡ Fault) ⊎ (error ≡ Memory) ⊎ ((refusal : JournalRefusal) × (error ≡ Journal refusal) × refuses refusal)
@@ -85,10 +97,10 @@ pub record IsStopped (found : List Record → ℕ → Type 0) (told : Option (Li
   pub halted : FindsItself told commands → HasHalted left digest seed life commands old new error
 
 -- the source tells so what is left of it
-abbrev pub StopsWith : {S : Type 0} → (S → Option (List ℕ)) → (List Record → ℕ → Type 0) → (JournalRefusal → Type 0) → Type 0 → Option (List ℕ) → (List ℕ → Type 0)
-    → List ℕ → Seed → S → S → Option (List ℕ) → Option (List ℕ) → DriveError → Type 0
-StopsWith source found refuses settled told left digest seed before after old new error =
-    IsUnopened refuses settled before after old new error
+abbrev pub StopsWith : {S : Type 0} → (S → Option (List ℕ)) → (List Record → ℕ → Type 0) → (JournalRefusal → Type 0) → Type 0 → Type 0 → Option (List ℕ)
+    → (List ℕ → Type 0) → List ℕ → Seed → S → S → Option (List ℕ) → Option (List ℕ) → DriveError → Type 0
+StopsWith source found refuses settled only_read told left digest seed before after old new error =
+    IsUnopened refuses settled only_read before after old new error
     ⊎ IsUnread found left digest (source before) (source after) old new error
     ⊎ IsStopped found told left digest seed (source before) (source after) old new error
 
@@ -99,6 +111,10 @@ IsOfJournal Memory = ⊥
 IsOfJournal Full = ⊥
 IsOfJournal (Journal refusal) = Unit {0}
 IsOfJournal (Script line) = ⊥
+
+-- what is told is as before, and a crash leaves only what it might have left
+abbrev pub IsAsRead : Option (List ℕ) → Option (List ℕ) → (List ℕ → Type 0) → (List ℕ → Type 0) → Type 0
+IsAsRead before after images left = (after ≡ before) × Stays images left
 
 -- what a crash may leave is settled as before
 abbrev pub StaysSettled : (List ℕ → Type 0) → (List ℕ → Type 0) → List ℕ → Type 0

@@ -6,7 +6,8 @@ ghost use Rattle.mw_protocol.specs.Lives.{Step, life_after_all};
 ghost use Rattle.mw_keep.specs.Keeps.{kept_disk};
 ghost use Rattle.mw_laws.specs.Naming.{NamesFit};
 ghost use Rattle.mw_drive.specs.Commands.{command_view};
-ghost use Rattle.mw_drive.specs.Ends.{Drives, IsFound, IsOfJournal, Refuses, StaysSettled, StopsWith};
+ghost use Rattle.mw_drive.specs.Ends.{Drives, IsAsRead, IsFound, IsOfJournal, Refuses};
+ghost use Rattle.mw_drive.specs.Ends.{StaysSettled, StopsWith};
 ghost use Rattle.mw_drive.specs.Input.{HasScript, HasNoScript};
 ghost use Rattle.mw_drive.specs.Left.{IsLeft, KeepsShown};
 ghost use Rattle.mw_drive.specs.Runs.{HasLife, RunsScript, HaltsScript};
@@ -74,7 +75,8 @@ fn names_fit(multidata: &Multidata)
 /// prints the messages that are taken. The disk is handed back. `file` is the bytes that the seed
 /// was read from.
 ///
-/// The journal is judged first, and the input isn't touched where it is refused. The script is read
+/// The journal is judged first, and the input isn't touched where it is refused; what is no journal
+/// of the seed's is only read. The script is read
 /// to its end and judged whole before its first line runs. A `crash` drops the room with its
 /// sessions, and recovers it from its journal.
 ///
@@ -103,6 +105,7 @@ pub fn drive_on<D: Disk, S: Source, O: Sink>(
         (IsFound (D.told disk) (D.may_leave disk) (digest_of file.now) multidata)
         (Refuses (D.told disk) (digest_of file.now) multidata)
         (StaysSettled (D.may_leave disk) (D.may_leave result.0) (digest_of file.now))
+        (IsAsRead (D.told disk) (D.told result.0) (D.may_leave disk) (D.may_leave result.0))
         (D.told disk) (D.may_leave result.0) (digest_of file.now) multidata
         input.old input.new (O.held out.old) (O.held out.new)) }
     ensures fault { result.1 ≡ Err DriveError.Fault → (D.faults disk < D.faults result.0)

@@ -6,9 +6,10 @@ use Rattle.std.proofs.lemmas.Slice.Eq.{bytes_eq-Decides}
 use Rattle.std.specs.Option.{is_some}
 use Rattle.std.specs.Str.{bytes_eq}
 use Rattle.std.specs.Io.KnownBytes.{Keeps as WasKept}
-use Rattle.std.specs.Prelude.{IfErr, IsErrAnd, OnOk}
+use Rattle.std.specs.Prelude.{IfErr, IsErrAnd, OnOk, ⊤}
 use Rattle.mw_edges.specs.Causes.{PutsFront, Rose}
-use Rattle.mw_edges.specs.Folders.{SameImages, opened_bytes}
+use Rattle.mw_edges.specs.Files.{open_file}
+use Rattle.mw_edges.specs.Folders.{SameImages, StaysOrIsMade, opened_bytes}
 use Rattle.mw_model.specs.Seed.{Seed}
 use Rattle.mw_multidata.specs.Digest.{digest_of}
 use Rattle.mw_multidata.specs.SeedOf.{SeedOf}
@@ -18,14 +19,14 @@ use Rattle.mw_protocol.specs.Records.{Record}
 use Rattle.mw_protocol.specs.Spelled.{records_bytes}
 use Rattle.mw_journal.specs.Settled.{AllSettled, AllShut}
 use Rattle.mw_drive.specs.Commands.{Command}
-use Rattle.mw_drive.specs.Ends.{IsFound, IsReady, Refuses, StaysSettled, Drives, StopsWith, IsOfJournal}
+use Rattle.mw_drive.specs.Ends.{IsFound, IsForeign, IsReady, Refuses, StaysSettled, Drives, StopsWith, IsOfJournal}
 use Rattle.mw_drive.specs.Left.{FindsItself, HasDriven, IsKept, IsLeft, KeepsShown}
 use Rattle.mw_drive.specs.Runs.{HasHalted}
 use Rattle.mw_drive.specs.declared.error.DriveError.{DriveError}
 use Rattle.mw_drive.specs.declared.error.DriveError.TheVariants.{Fault, Memory, Full, Journal, Script}
 use Rattle.mw_drive.specs.declared.error.JournalRefusal.{JournalRefusal}
 use Rattle.mw_drive.proofs.Crashing.{left_by_shut, one_journal, one_place, settled_of}
-use Rattle.mw_offline.specs.Driving.{DriveFiles, DriveEnds, DriveKeeps, DriveStopped, drive_line, drive_status, drive_stop, IsNewJournal, JournalKeeps, JournalLeaves, NoImages, ScriptRun, run_of, RunsToEnd, RunsShort}
+use Rattle.mw_offline.specs.Driving.{DriveFiles, DriveEnds, DriveKeeps, DriveStopped, drive_line, drive_status, drive_stop, IsNewJournal, JournalKeeps, JournalLeaves, JournalRead, NoImages, ScriptRun, run_of, RunsToEnd, RunsShort}
 use Rattle.mw_offline.specs.SeedFiles.{IsFile, IsSeedStopped}
 use Rattle.mw_offline.specs.Ends.{Ended, IsTold, Told, stop_with}
 use Rattle.mw_offline.specs.FilesAround.{FilesAround, IsUntouched, files_around}
@@ -75,7 +76,7 @@ module _ (found held : List Record → ℕ → Type 0) (eased : (j : List Record
       driven = λ finds. fewer_driven left later fewer digest d.life d.commands old new (d.driven (telling d.commands finds));
     }
 
-    module _ {S : Type 0} (source : S → Option (List ℕ)) (refuses refused : JournalRefusal → Type 0) (settled still : Type 0) (stays : settled → still) (before after : S) (old new : Option (List ℕ))
+    module _ {S : Type 0} (source : S → Option (List ℕ)) (refuses refused : JournalRefusal → Type 0) (settled still : Type 0) (stays : settled → still) (read seen : Type 0) (reads : read → seen) (before after : S) (old new : Option (List ℕ))
         (error : DriveError) (refusing : (refusal : JournalRefusal) → error ≡ Journal refusal → refuses refusal → refused refusal)
       where
         cause_for : (error ≡ Fault) ⊎ (error ≡ Memory) ⊎ ((refusal : JournalRefusal) × (error ≡ Journal refusal) × refuses refusal)
@@ -84,8 +85,8 @@ module _ (found held : List Record → ℕ → Type 0) (eased : (j : List Record
         cause_for (inr (inl memory)) = inr (inl memory)
         cause_for (inr (inr (refusal, is, why))) = inr (inr (refusal, is, refusing refusal is why))
 
-        pub stops_for : StopsWith source found refuses settled told left digest seed before after old new error → StopsWith source held refused still shown later digest seed before after old new error
-        stops_for (inl u) = inl record { as_settled = stays u.as_settled; untouched = u.untouched; quiet = u.quiet; cause = cause_for u.cause }
+        pub stops_for : StopsWith source found refuses settled read told left digest seed before after old new error → StopsWith source held refused still seen shown later digest seed before after old new error
+        stops_for (inl u) = inl record { as_settled = stays u.as_settled; read = λ foreign. reads (u.read foreign); untouched = u.untouched; quiet = u.quiet; cause = cause_for u.cause }
         stops_for (inr (inl u)) = inr (inl record {
           journal = u.journal;
           place = u.place;
@@ -142,13 +143,13 @@ module _ (told shown : Option (List ℕ)) (same : told ≡ shown) (images might 
         fewer_kept left later less digest seed steps old new (keeps (some_for told shown same digest seed some) (fewer_left might images fewer digest (life_after_all seed steps) is))
 
     module _ (error : DriveError) where
-      pub stops_over : {S : Type 0} (source : S → Option (List ℕ)) (before after : S)
-          → StopsWith source (IsFound told images digest seed) (Refuses told digest seed) (StaysSettled images left digest) told left digest seed before after old new error
-          → StopsWith source (IsFound shown might digest seed) (Refuses shown digest seed) (StaysSettled might later digest) shown later digest seed before after old new error
-      stops_over source before after s =
+      pub stops_over : {S : Type 0} (source : S → Option (List ℕ)) (before after : S) (read seen : Type 0) → (read → seen)
+          → StopsWith source (IsFound told images digest seed) (Refuses told digest seed) (StaysSettled images left digest) read told left digest seed before after old new error
+          → StopsWith source (IsFound shown might digest seed) (Refuses shown digest seed) (StaysSettled might later digest) seen shown later digest seed before after old new error
+      stops_over source before after read seen reads s =
           stops_for (IsFound told images digest seed) (IsFound shown might digest seed) (found_for told shown same digest seed images might fewer) left later less told shown
           (finds_for told shown same digest seed) digest seed source (Refuses told digest seed) (Refuses shown digest seed) (StaysSettled images left digest) (StaysSettled might later digest)
-          (stays_for told shown same digest seed images might fewer left later less) before after old new error (λ refusal is. refuses_for told shown same digest seed refusal) s
+          (stays_for told shown same digest seed images might fewer left later less) read seen reads before after old new error (λ refusal is. refuses_for told shown same digest seed refusal) s
 
       pub accepted_over : ((steps : List Step) → is_some told ≡ true → IsLeft images digest (life_after_all seed steps) → IsOfJournal error → ⊥)
           → (steps : List Step) → is_some shown ≡ true → IsLeft might digest (life_after_all seed steps) → IsOfJournal error → ⊥
@@ -188,11 +189,11 @@ module _ (f : List ℕ) (images : List ℕ → Type 0) (here : images f) (digest
     kept_new keeps = fewer_kept left NoImages (λ c never. absurd never) digest seed [] old new (keeps refl new_left)
 
     pub stops_new : {S : Type 0} (source : S → Option (List ℕ)) (before after : S) (error : DriveError) → (IsOfJournal error → ⊥)
-        → StopsWith source (IsFound (Some f) images digest seed) (Refuses (Some f) digest seed) (StaysSettled images left digest) (Some f) left digest seed before after old new error
-        → StopsWith source IsNewJournal (λ refusal. ⊥) (StaysSettled NoImages NoImages digest) (Some []) NoImages digest seed before after old new error
-    stops_new source before after error other s =
+        → (read : Type 0) → StopsWith source (IsFound (Some f) images digest seed) (Refuses (Some f) digest seed) (StaysSettled images left digest) read (Some f) left digest seed before after old new error
+        → StopsWith source IsNewJournal (λ refusal. ⊥) (StaysSettled NoImages NoImages digest) ⊤ (Some []) NoImages digest seed before after old new error
+    stops_new source before after error other read s =
         stops_for (IsFound (Some f) images digest seed) IsNewJournal new_found left NoImages (λ c never. absurd never) (Some f) (Some []) (λ cs finds. inl refl) digest seed source
-        (Refuses (Some f) digest seed) (λ refusal. ⊥) (StaysSettled images left digest) (StaysSettled NoImages NoImages digest) (λ stays text body settled. settled) before after old new error
+        (Refuses (Some f) digest seed) (λ refusal. ⊥) (StaysSettled images left digest) (StaysSettled NoImages NoImages digest) (λ stays text body settled. settled) read ⊤ (λ r. tt) before after old new error
         (λ refusal is why. other (subst IsOfJournal (sym is) tt)) s
 
 -- ---- a file that is as it was
@@ -283,7 +284,9 @@ module _ {F : Type 0} (holds : F → Files) (images : F → List ℕ → List �
       short_since None why r = record { stops = r.stops; accepted = r.accepted }
       short_since (Some name) why r = record {
         stops = stops_over (opened_bytes (holds second name)) (opened_bytes (holds first name)) (ap opened_bytes (same name)) (images second name) (images first name) (λ c. (crash name c).0)
-            (images last name) (images last name) (λ c x. x) (digest_of run.bytes) run.seed run.old run.new why source run.before run.after r.stops;
+            (images last name) (images last name) (λ c x. x) (digest_of run.bytes) run.seed run.old run.new why source run.before run.after
+            (JournalRead (files_around holds images opened may_fail faults second last) (Some name)) (JournalRead (files_around holds images opened may_fail faults first last) (Some name))
+            (λ read. (subst (λ b. StaysOrIsMade b (holds last name)) (same name) read.0, λ c x. (crash name c).0 (read.1 c x))) r.stops;
         accepted = accepted_over (opened_bytes (holds second name)) (opened_bytes (holds first name)) (ap opened_bytes (same name)) (images second name) (images first name) (λ c. (crash name c).0)
             (images last name) (images last name) (λ c x. x) (digest_of run.bytes) run.seed run.old run.new why r.accepted;
       }
@@ -346,6 +349,7 @@ module _ {F : Type 0} (holds : F → Files) (images : F → List ℕ → List �
     unopened_short source bytes seed input held why is = record {
       stops = inl record {
         as_settled = λ text body settled c image. settled c ((crash c).0 image);
+        read = λ foreign. absurd (not_foreign is foreign);
         untouched = refl;
         quiet = Keeps-refl held;
         cause = outside is;
@@ -356,12 +360,23 @@ module _ {F : Type 0} (holds : F → Files) (images : F → List ℕ → List �
         outside : (why ≡ Fault) ⊎ (why ≡ Memory) → (why ≡ Fault) ⊎ (why ≡ Memory) ⊎ ((refusal : JournalRefusal) × (why ≡ Journal refusal) × Refuses (opened_bytes (holds first name)) (digest_of bytes) seed refusal)
         outside (inl e) = inl e
         outside (inr e) = inr (inl e)
+
+        not_foreign : (why ≡ Fault) ⊎ (why ≡ Memory) → IsForeign why → ⊥
+        not_foreign (inl e) of = subst IsForeign e of
+        not_foreign (inr e) of = subst IsForeign e of
+
         not_of : (why ≡ Fault) ⊎ (why ≡ Memory) → IsOfJournal why → ⊥
         not_of (inl e) of = subst IsOfJournal e of
         not_of (inr e) of = subst IsOfJournal e of
 
     pub unopened_keeps : (digest : List ℕ) (seed : Seed) (held : Option (List ℕ)) → JournalKeeps (files_around holds images opened may_fail faults first last) (Some name) digest seed held held
     unopened_keeps digest seed held steps some left = unmoved_kept (images first name) (images last name) (λ c. (crash c).0) digest seed steps held left
+
+-- what a disk tells that was only read is what the file held, or none where there was no file
+pub opened_same : (file after : Option (Option (List ℕ))) → after ≡ open_file (opened_bytes file) → StaysOrIsMade file after
+opened_same None after is = inl is
+opened_same (Some None) after is = inr (refl, is)
+opened_same (Some (Some bytes)) after is = inl is
 
 pub same_both : (first middle last : List ℕ → Type 0) → SameImages first middle → SameImages middle last → SameImages first last
 same_both first middle last one two c = (λ x. (one c).0 ((two c).0 x), λ x. (two c).1 ((one c).1 x))

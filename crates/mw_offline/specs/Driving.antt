@@ -1,7 +1,8 @@
 -- How `drive` ends.
-use Rattle.std.specs.Prelude.{◌≡◌, ◌⊎◌, ◌++◌, ℕ, List, [], Option, Some, None, Ok, IsTrue, is_some, codes, decimal}
+use Rattle.std.specs.Prelude.{◌≡◌, ◌⊎◌, ◌++◌, ℕ, List, [], Option, Some, None, Ok, IsTrue, is_some, codes, decimal, ⊤}
 use Rattle.std.specs.Io.KnownBytes.{Keeps}
-use Rattle.mw_edges.specs.Folders.{opened_bytes}
+use Rattle.mw_disk.specs.Crash.{Stays}
+use Rattle.mw_edges.specs.Folders.{StaysOrIsMade, opened_bytes}
 use Rattle.mw_model.specs.Seed.{Seed}
 use Rattle.mw_multidata.specs.Digest.{digest_of}
 use Rattle.mw_multidata.specs.SeedOf.{SeedOf}
@@ -100,6 +101,13 @@ JournalStays files journal digest =
     StaysSettled (journal_images files.might_leave journal)
     (journal_images files.may_leave journal) digest
 
+-- it was read at most: it is as it was, or is made empty where it wasn't there, and a crash leaves of
+-- it only what it might have left
+abbrev pub JournalRead : FilesAround → Option (List ℕ) → Type 0
+JournalRead files None = ⊤
+JournalRead files (Some name) = StaysOrIsMade (files.before name) (files.after name)
+    × Stays (files.might_leave name) (files.may_leave name)
+
 -- the files but the journal's are as they were, and just those are open as disks that were
 pub record JournalLeaves (files : FilesAround) (journal : Option (List ℕ)) : Type 0 where
   pub others : (n : List ℕ) → (journal ≡ Some n → ⊥) → IsUntouched files n
@@ -154,7 +162,7 @@ pub record RunsShort {S : Type 0} (source : S → Option (List ℕ)) (files : Fi
     (journal : Option (List ℕ)) (run : ScriptRun S) (why : DriveError) : Type 0 where
   pub stops : StopsWith source (JournalHeld files journal (digest_of run.bytes) run.seed)
       (JournalRefused files journal (digest_of run.bytes) run.seed)
-      (JournalStays files journal (digest_of run.bytes))
+      (JournalStays files journal (digest_of run.bytes)) (JournalRead files journal)
       (journal_told files journal) (journal_images files.may_leave journal)
       (digest_of run.bytes) run.seed run.before run.after run.old run.new why
   pub accepted : (steps : List Step) → IsTrue (is_some (journal_told files journal))

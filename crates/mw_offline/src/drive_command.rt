@@ -1,5 +1,5 @@
 //! The command `drive`.
-ghost use Rattle.std.specs.Prelude.{◌≡◌, ◌≤◌, ◌⊎◌, [], Some, Ok, IfErr, OnOk};
+ghost use Rattle.std.specs.Prelude.{◌≡◌, ◌≤◌, ◌⊎◌, [], Some, Ok, IfErr, OnOk, ⊤};
 ghost use Rattle.mw_edges.specs.Causes.{Rose};
 ghost use Rattle.mw_multidata.specs.Digest.{digest_of};
 ghost use Rattle.mw_multidata.specs.SeedOf.{SeedOf};
@@ -42,7 +42,7 @@ fn drive_in_memory<S: Source, O: Sink>(
     ensures done { OnOk result (Drives IsNewJournal (Some []) NoImages (digest_of seed.bytes)
         seed.multidata (S.left input.old) (S.left input.new) (O.held out.old) (O.held out.new)) }
     ensures stopped { IfErr result (StopsWith S.left IsNewJournal (λ _. ⊥)
-        (StaysSettled NoImages NoImages (digest_of seed.bytes)) (Some []) NoImages
+        (StaysSettled NoImages NoImages (digest_of seed.bytes)) ⊤ (Some []) NoImages
         (digest_of seed.bytes) seed.multidata input.old input.new
         (O.held out.old) (O.held out.new)) }
     ensures accepted { IfErr result (λ error. IsOfJournal error → ⊥) }

@@ -9,7 +9,7 @@ use Rattle.mw_multidata.specs.Digest.{digest_of}
 use Rattle.mw_keep.specs.Recovers.{Resumes, RefusesResume}
 use Rattle.mw_drive.specs.Ends.{IsOfJournal}
 use Rattle.mw_drive.proofs.Crashing.{left_after}
-use Rattle.mw_drive.proofs.Driving.{runs_drive, halts_drive, drive_kept, halts_accepted, cause_of, unopened_accepted, unopened_kept}
+use Rattle.mw_drive.proofs.Driving.{foreign_error, runs_drive, halts_drive, drive_kept, halts_accepted, cause_of, unopened_accepted, unopened_kept}
 use Rattle.mw_drive.proofs.Passing.{if_err}
 use Rattle.mw_drive.proofs.drive.drive_on.Goals as goal
 
@@ -44,6 +44,9 @@ returns-in-Err-clause-stopped g c = inl record {
       let leaves = subst (λ (d : List ℕ). LeavesOnly g.D.Disk.moment g.D.Disk.left_since c.args.disk c.in-Err.disk (λ x. IsSettled x d text body)) c.digest.ensures
       (c.in-Err.ensures.any_moment text body (subst (λ (d : List ℕ). AllSettled (g.D.Disk.may_leave c.args.disk) d text body) (sym c.digest.ensures) settled)) in
       leaves.each f (g.met.D.Disk.counts_now c.in-Err.disk (g.D.Disk.moment c.args.disk) f leaves.later image);
+  read = λ foreign.
+      let reads = c.in-Err.ensures.read (foreign_error c.in-Err.error c.drive_error.result c.drive_error.ensures foreign) in
+      (reads.same, reads.stays);
   untouched = refl;
   quiet = Keeps-refl (g.O.Sink.held c.args.out.now);
   cause = cause_of (g.D.Disk.told c.args.disk) (digest_of c.args.file.now) c.args.multidata (g.D.Disk.faults c.args.disk) (g.D.Disk.faults c.in-Err.disk) c.in-Err.error c.drive_error.result c.drive_error.ensures

@@ -1,5 +1,5 @@
 use Rattle.std.proofs.Common.{◌∙◌, Some, [], ap, refl, sym, subst}
-use Rattle.std.specs.Prelude.{OnOk, IfErr}
+use Rattle.std.specs.Prelude.{OnOk, IfErr, ⊤}
 use Rattle.mw_disk.specs.Calls.{IsImage, bytes_of}
 use Rattle.mw_disk.specs.Laws.{bytes_are_image}
 use Rattle.mw_journal.specs.Settled.{AllShut}
@@ -47,11 +47,11 @@ returns-in-Ok-clause-stopped g c =
     (from_ok c.create_on-disk.result.1 (AllShut images c.digest.result [] 40) c.in-Ok.field-0 c.in-Ok.is c.create_on-disk.ensures.ok) in
     let from = c.args.input.now in
     let to = c.drive_on.new.input in
-    subst (λ b. IfErr c.drive_on.result.1 (StopsWith g.S.Source.left IsNewJournal (λ _. ⊥) (StaysSettled NoImages NoImages (digest_of b)) (Some []) NoImages (digest_of b) c.args.seed.multidata from to old new))
+    subst (λ b. IfErr c.drive_on.result.1 (StopsWith g.S.Source.left IsNewJournal (λ _. ⊥) (StaysSettled NoImages NoImages (digest_of b)) ⊤ (Some []) NoImages (digest_of b) c.args.seed.multidata from to old new))
     c.as_slice-in-Ok.ensures
     (if_err_two c.drive_on.result.1 c.drive_on.ensures.stopped c.drive_on.ensures.accepted
     (λ e stops accepted. stops_new (bytes_of d.start d.calls) images here (digest_of file) c.args.seed.multidata shut left old new g.S.Source.left from to e
-    (accepted [] refl (new_left (bytes_of d.start d.calls) images here (digest_of file) c.args.seed.multidata shut)) stops))
+    (accepted [] refl (new_left (bytes_of d.start d.calls) images here (digest_of file) c.args.seed.multidata shut)) _ stops))
 
 pub returns-in-Ok-clause-accepted : goal.returns-in-Ok-clause-accepted
 returns-in-Ok-clause-accepted g c =

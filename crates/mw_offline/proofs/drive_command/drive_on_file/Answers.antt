@@ -1,11 +1,13 @@
-use Rattle.std.proofs.Common.{◌∙◌, Some, ℕ, List, refl, sym, subst, inl, inr}
+use Rattle.std.proofs.Common.{◌∙◌, Some, ℕ, List, ap, refl, sym, subst, inl, inr}
 use Rattle.std.specs.Prelude.{OnOk, IfErr}
+use Rattle.mw_edges.specs.Files.{open_file}
 use Rattle.mw_edges.specs.Folders.{opened_bytes}
 use Rattle.mw_journal.proofs.Told.{on_ok_one}
 use Rattle.mw_multidata.specs.Digest.{digest_of}
-use Rattle.mw_offline.specs.Driving.{JournalKeeps, run_of, RunsToEnd, RunsShort}
+use Rattle.mw_drive.specs.Ends.{IsAsRead}
+use Rattle.mw_offline.specs.Driving.{JournalKeeps, JournalRead, run_of, RunsToEnd, RunsShort}
 use Rattle.mw_offline.specs.FilesAround.{files_around}
-use Rattle.mw_offline.proofs.Driving.{accepted_over, drives_over, if_err_two, kept_over, leaves_by, same_both, stops_over, unopened_keeps, unopened_short}
+use Rattle.mw_offline.proofs.Driving.{accepted_over, drives_over, if_err_two, kept_over, leaves_by, opened_same, same_both, stops_over, unopened_keeps, unopened_short}
 use Rattle.mw_offline.proofs.drive_command.drive_on_file.Goals as goal
 
 pub returns-in-Err-Failed-clause-short : goal.returns-in-Err-Failed-clause-short
@@ -85,9 +87,15 @@ returns-clause-short g c =
     (if_err_two c.drive_on-disk.result.1 c.drive_on-disk.ensures.stopped c.drive_on-disk.ensures.accepted
     (λ e stops accepted. record {
       stops = stops_over (g.F.Drive.Disk.told disk) (opened_bytes (F.holds first name)) c.in-Ok.ensures.told (g.F.Drive.Disk.may_leave disk) (F.images first name) c.in-Ok.ensures.left
-    (g.F.Drive.Disk.may_leave after) (F.images last name) left (digest_of file) seed old new e g.S.Source.left from to stops;
+          (g.F.Drive.Disk.may_leave after) (F.images last name) left (digest_of file) seed old new e g.S.Source.left from to
+          (IsAsRead (g.F.Drive.Disk.told disk) (g.F.Drive.Disk.told after) (g.F.Drive.Disk.may_leave disk) (g.F.Drive.Disk.may_leave after))
+          (JournalRead (files_around F.holds F.images F.is_open F.may_fail F.faults first last) (Some name))
+          (λ read. (
+            opened_same (F.holds first name) (F.holds last name) (c.close_disk.ensures.told ∙ ap open_file (read.0 ∙ c.in-Ok.ensures.told)),
+            λ x image. c.in-Ok.ensures.left x (read.1 x (left x image)),
+          )) stops;
       accepted = accepted_over (g.F.Drive.Disk.told disk) (opened_bytes (F.holds first name)) c.in-Ok.ensures.told (g.F.Drive.Disk.may_leave disk) (F.images first name) c.in-Ok.ensures.left
-    (g.F.Drive.Disk.may_leave after) (F.images last name) left (digest_of file) seed old new e accepted;
+          (g.F.Drive.Disk.may_leave after) (F.images last name) left (digest_of file) seed old new e accepted;
     }))
 
 pub returns-clause-kept : goal.returns-clause-kept
