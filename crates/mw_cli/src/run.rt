@@ -70,7 +70,7 @@ fn run_line<F: Folder, S: Source, O: Sink, E: Sink>(
 /// it isn't touched. `new-room` changes one, the journal that its words name, and only where no
 /// byte stands in it and the seed file is accepted. `drive` changes one, the journal that its words
 /// name, and not where the seed file is refused. The others change none. `drive` alone reads the
-/// input, and not where the seed file or the journal is refused.
+/// input, and not where the seed file is refused, or the journal as the run begins.
 ///
 /// Whatever the status of `drive` is, what a crash may then leave of its journal is settled for a
 /// life that goes on from the one for which it was settled before; each ReceivedItems that was put

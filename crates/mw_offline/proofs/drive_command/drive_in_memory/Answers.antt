@@ -58,9 +58,6 @@ returns-in-Ok-clause-accepted g c =
     let d = c.create_on-disk.result.0 in
     let file = c.as_slice-in-Ok.result.now in
     let images = IsImage d.start d.calls in
-    let left = IsImage c.drive_on.result.0.start c.drive_on.result.0.calls in
-    let old = g.O.Sink.held c.args.out.now in
-    let new = g.O.Sink.held c.drive_on.new.out in
     let here : images (bytes_of d.start d.calls) = bytes_are_image d.start d.calls (bytes_of d.start d.calls) refl in
     let shut : AllShut images (digest_of file) [] 40 =
     subst (λ x. AllShut images x [] 40) (c.digest.ensures ∙ ap digest_of (c.as_slice.ensures ∙ sym c.as_slice-in-Ok.ensures))

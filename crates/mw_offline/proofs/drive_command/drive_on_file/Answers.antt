@@ -110,8 +110,6 @@ returns-clause-kept g c =
     let seed = c.args.seed.multidata in
     let old = g.O.Sink.held c.args.out.now in
     let new = g.O.Sink.held c.drive_on-disk.new.out in
-    let from = c.args.input.now in
-    let to = c.drive_on-disk.new.input in
     let left = λ (x : List ℕ). (c.close_disk.ensures.left x).0 in
     subst (λ b. JournalKeeps (files_around F.holds F.images F.is_open F.may_fail F.faults first last) (Some name) (digest_of b) seed old new) c.as_slice.ensures
     (λ steps. kept_over (g.F.Drive.Disk.told disk) (opened_bytes (F.holds first name)) c.in-Ok.ensures.told (g.F.Drive.Disk.may_leave disk) (F.images first name) c.in-Ok.ensures.left
