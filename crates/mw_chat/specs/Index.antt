@@ -8,4 +8,5 @@ use Rattle.mw_protocol.specs.Connecting.{text_or_empty}
 
 -- it has the first name of each id
 abbrev pub IsIndex : {R S : Type 0} → (R → List ℕ) → List NamedId → HashMap ℤ R S → Type 0
-IsIndex text names index = (id : ℤ) → text_or_empty (option_map text (get int_eq index id)) ≡ name_among id names
+IsIndex text names index =
+    (id : ℤ) → text_or_empty (option_map text (get int_eq index id)) ≡ name_among id names

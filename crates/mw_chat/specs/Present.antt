@@ -17,4 +17,5 @@ is_there team slot (p ∷ ps) = ((p.0 == team) && (p.1 == slot)) || is_there tea
 -- the names of the slots of these numbers, from a slot on
 abbrev pub names_of : (ℕ → Bool) → ℕ → ℕ → List Slot → List (List ℕ)
 names_of is team number [] = []
-names_of is team number (s ∷ ss) = name_if (is number) (name_in team s) ++ names_of is team (number + 1) ss
+names_of is team number (s ∷ ss) =
+    name_if (is number) (name_in team s) ++ names_of is team (number + 1) ss

@@ -28,12 +28,17 @@ new_among log team pairs = new_checks log.seed log.checked (checks_of team pairs
 -- a pair more was looked at: what was found, with what is new after it among this and any others, is now what is found, with what is new among the others
 abbrev pub Notes : Seed → List Check → ℕ → ℕ × ℤ → List (ℕ × ℤ) → List (ℕ × ℤ) → Type 0
 Notes seed checked team pair old new = (others : List Check)
-    → checks_of team new ++ new_checks seed (checked ++ checks_of team new) others ≡ checks_of team old ++ new_checks seed (checked ++ checks_of team old) (check_of team pair ∷ others)
+    → checks_of team new ++ new_checks seed (checked ++ checks_of team new) others
+    ≡ checks_of team old
+    ++ new_checks seed (checked ++ checks_of team old) (check_of team pair ∷ others)
 
 -- what is found, with what is new after it among others
 abbrev pub looked : Seed → List Check → ℕ → List (ℕ × ℤ) → List Check → List Check
-looked seed checked team found others = checks_of team found ++ new_checks seed (checked ++ checks_of team found) others
+looked seed checked team found others =
+    checks_of team found ++ new_checks seed (checked ++ checks_of team found) others
 
 -- the same of checks that were all looked at
 abbrev pub NotesAll : Seed → List Check → ℕ → List Check → List (ℕ × ℤ) → List (ℕ × ℤ) → Type 0
-NotesAll seed checked team asked old new = (others : List Check) → looked seed checked team new others ≡ looked seed checked team old (asked ++ others)
+NotesAll seed checked team asked old new =
+    (others : List Check)
+    → looked seed checked team new others ≡ looked seed checked team old (asked ++ others)

@@ -18,8 +18,11 @@ pub record HasPlaces (rows : Rows) (team number : ℕ) (held : Held) : Type 0 wh
 
 -- the numbers of what a slot received in a team
 abbrev pub AreReceived : Log → ℕ → ℕ → List ℕ → Type 0
-AreReceived log team slot numbers = map found_item (standing log.seed.locations numbers) ≡ items_found log.seed team slot log.checked
+AreReceived log team slot numbers =
+    map found_item (standing log.seed.locations numbers)
+    ≡ items_found log.seed team slot log.checked
 
 -- the numbers of a slot's checked locations in a team
 abbrev pub AreFound : Log → ℕ → ℕ → List ℕ → Type 0
-AreFound log team slot numbers = map location_of (standing log.seed.locations numbers) ≡ locations_in team slot log.checked
+AreFound log team slot numbers =
+    map location_of (standing log.seed.locations numbers) ≡ locations_in team slot log.checked

@@ -24,16 +24,20 @@ checks_of team pairs = map (check_of team) pairs
 
 -- what a mask keeps of the items that pairs, once they are checked in a team, give to a slot of it
 abbrev pub given_by : Log → ℕ → ℕ → ℕ → List (ℕ × ℤ) → List NetItem
-given_by log mask team slot pairs = filter (keeps mask slot) (items_found log.seed team slot (checks_of team pairs))
+given_by log mask team slot pairs =
+    filter (keeps mask slot) (items_found log.seed team slot (checks_of team pairs))
 
 -- each is a location of its slot, and isn't checked, neither before nor earlier in the list
 abbrev pub AreFresh : Seed → List Check → ℕ → List (ℕ × ℤ) → Type 0
 AreFresh seed checked team [] = Unit {0}
 AreFresh seed checked team (pair ∷ pairs) =
-    (is_some (held_at seed pair.0 pair.1) ≡ true) × ((has_check checked (check_of team pair) ≡ false) × AreFresh seed (checked ++ check_of team pair ∷ []) team pairs)
+    (is_some (held_at seed pair.0 pair.1) ≡ true)
+    × ((has_check checked (check_of team pair) ≡ false)
+    × AreFresh seed (checked ++ check_of team pair ∷ []) team pairs)
 
 -- the growth was made of this log, for at least so many checks more
 pub record HasRoom (log : Log) (growth : CheckGrowth) (more : ℕ) : Type 0 where
-  pub order : MatchOption growth.order.buffer (length log.checked + more ≤ log.space) (λ b. (b.items ≡ []) × (length log.checked + more ≤ vec_capacity b))
+  pub order : MatchOption growth.order.buffer (length log.checked + more ≤ log.space)
+      (λ b. (b.items ≡ []) × (length log.checked + more ≤ vec_capacity b))
   pub empty : growth.checks.items ≡ []
   pub checks : more ≤ vec_capacity growth.checks

@@ -7,7 +7,9 @@ use Rattle.mw_model.specs.Seed.{Seed, Held}
 -- where a location of a slot stands among these, which are counted from n
 abbrev pub number_among : ℕ → List Held → ℕ → ℤ → Option ℕ
 number_among n [] slot location = None
-number_among n (h ∷ hs) slot location = if (h.slot == slot) && int_eq h.location location then Some n else number_among (n + 1) hs slot location
+number_among n (h ∷ hs) slot location =
+    if (h.slot == slot) && int_eq h.location location then Some n
+    else number_among (n + 1) hs slot location
 
 -- the number of a location of a slot
 abbrev pub number_of : Seed → ℕ → ℤ → Option ℕ
@@ -15,7 +17,9 @@ number_of seed slot location = number_among 0 seed.locations slot location
 
 -- the index has the number of each of the locations that are counted from n
 abbrev pub IsIndexFrom : {S : Type 0} → ℕ → List Held → IndexMap (ℕ × ℤ) ℕ S → Type 0
-IsIndexFrom n hs index = (slot : ℕ) (location : ℤ) → get_by (λ k. (slot == k.0) && int_eq location k.1) index ≡ number_among n hs slot location
+IsIndexFrom n hs index =
+    (slot : ℕ) (location : ℤ)
+    → get_by (λ k. (slot == k.0) && int_eq location k.1) index ≡ number_among n hs slot location
 
 abbrev pub IsIndex : {S : Type 0} → List Held → IndexMap (ℕ × ℤ) ℕ S → Type 0
 IsIndex hs index = IsIndexFrom 0 hs index

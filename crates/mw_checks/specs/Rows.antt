@@ -30,7 +30,9 @@ many_of slot (o ∷ os) = one_if (o == slot) + many_of slot os
 -- how many locations of these owners, which are counted from n, are the slot's and aren't flagged in the team
 abbrev pub awaited : List Bool → ℕ → ℕ → ℕ → List ℕ → ℕ
 awaited done team slot n [] = 0
-awaited done team slot n (o ∷ os) = one_if ((o == slot) && not (get_or done (seat n team) false)) + awaited done team slot (n + 1) os
+awaited done team slot n (o ∷ os) =
+    one_if ((o == slot) && not (get_or done (seat n team) false))
+    + awaited done team slot (n + 1) os
 
 abbrev pub receiver_of : Held → ℕ
 receiver_of h = h.receiver
@@ -50,8 +52,10 @@ AllBelow many (n ∷ ns) = (n < many) × AllBelow many ns
 pub record Fit (owners : List ℕ) (done : List Bool) (rows : List (Vec ℕ Global)) : Type 0 where
   pub many : length rows ≡ 8200
   pub room : (team slot : ℕ) (d : Vec ℕ Global) → team < 8 → slot ≤ 1024
-      → vec_len (get_or rows (seat slot team) d) + awaited done team slot 0 owners ≤ vec_capacity (get_or rows (seat slot team) d)
-  pub within : (team slot : ℕ) (d : Vec ℕ Global) → team < 8 → slot ≤ 1024 → AllBelow (length owners) (get_or rows (seat slot team) d).items
+      → vec_len (get_or rows (seat slot team) d) + awaited done team slot 0 owners
+      ≤ vec_capacity (get_or rows (seat slot team) d)
+  pub within : (team slot : ℕ) (d : Vec ℕ Global) → team < 8 → slot ≤ 1024
+      → AllBelow (length owners) (get_or rows (seat slot team) d).items
 
 -- there is a count of the owners for each slot
 abbrev pub Counts : List ℕ → List ℕ → Type 0
@@ -67,7 +71,8 @@ pub record Empty (counts : List ℕ) (rows : List (Vec ℕ Global)) : Type 0 whe
   pub many : length rows ≡ 8200
   pub items : (i : ℕ) (d : Vec ℕ Global) → i < 8200 → (get_or rows i d).items ≡ []
   pub len : (i : ℕ) (d : Vec ℕ Global) → i < 8200 → vec_len (get_or rows i d) ≡ 0
-  pub room : (i : ℕ) (d : Vec ℕ Global) → i < 8200 → get_or counts (i / 8) 0 ≤ vec_capacity (get_or rows i d)
+  pub room : (i : ℕ) (d : Vec ℕ Global) → i < 8200
+      → get_or counts (i / 8) 0 ≤ vec_capacity (get_or rows i d)
 
 -- a row is there and has memory for one number more
 pub record HasPlace (rows : List (Vec ℕ Global)) (at : ℕ) : Type 0 where
@@ -83,14 +88,22 @@ pub record Put (old new : List (Vec ℕ Global)) (at n : ℕ) : Type 0 where
   pub others : (i : ℕ) (d : Vec ℕ Global) → i ≢ at → get_or new i d ≡ get_or old i d
 
 -- what stands at the numbers of the row of each slot and team, as f shows it, is what is wanted there
-abbrev pub Shows : {X : Type 0} → (Held → X) → List Held → List (Vec ℕ Global) → (ℕ → ℕ → List X) → Type 0
-Shows f hs rows wanted = (team slot : ℕ) (d : Vec ℕ Global) → team < 8 → slot ≤ 1024 → map f (standing hs (get_or rows (seat slot team) d).items) ≡ wanted team slot
+abbrev pub Shows : {X : Type 0} → (Held → X) → List Held → List (Vec ℕ Global) → (ℕ → ℕ → List X)
+    → Type 0
+Shows f hs rows wanted =
+    (team slot : ℕ) (d : Vec ℕ Global) → team < 8 → slot ≤ 1024
+    → map f (standing hs (get_or rows (seat slot team) d).items) ≡ wanted team slot
 
 -- the flags tell the checks, and the rows what each slot received and which of its locations are checked
-pub record Keeps (seed : Seed) (checked : List Check) (done : List Bool) (received found : List (Vec ℕ Global)) : Type 0 where
+pub record Keeps (seed : Seed) (checked : List Check) (done : List Bool)
+    (received found : List (Vec ℕ Global)) : Type 0 where
   pub many : length done ≡ 8 * length seed.locations
-  pub flags : (team slot : ℕ) (location : ℤ) → team < 8 → flagged done team (number_of seed slot location) ≡ has_check checked record { team = team; slot = slot; location = location }
+  pub flags : (team slot : ℕ) (location : ℤ) → team < 8
+      → flagged done team (number_of seed slot location)
+      ≡ has_check checked record { team = team; slot = slot; location = location }
   pub received_fit : Fit (map receiver_of seed.locations) done received
   pub found_fit : Fit (map finder_of seed.locations) done found
-  pub received_are : Shows found_item seed.locations received (λ team slot. items_found seed team slot checked)
-  pub found_are : Shows location_of seed.locations found (λ team slot. locations_in team slot checked)
+  pub received_are : Shows found_item seed.locations received
+      (λ team slot. items_found seed team slot checked)
+  pub found_are : Shows location_of seed.locations found
+      (λ team slot. locations_in team slot checked)

@@ -26,4 +26,5 @@ tail_of handling tail items = tail.items ++ drop tail.skip (asked_of handling it
 
 -- the tail was offered some items: it then makes of any others what it made before of those and these
 abbrev pub Takes : Handling → Tail → Tail → List NetItem → Type 0
-Takes handling old new offered = (others : List NetItem) → tail_of handling new others ≡ tail_of handling old (offered ++ others)
+Takes handling old new offered =
+    (others : List NetItem) → tail_of handling new others ≡ tail_of handling old (offered ++ others)

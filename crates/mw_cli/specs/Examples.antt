@@ -5,17 +5,22 @@ use Rattle.clap.proofs.OnLiterals.{clap_on_literals}
 use Rattle.mw_cli.specs.Words.{IsDrive, drive_app, faults, generate_app, given}
 
 -- a file's name
-pub drive_one : IsDrive (codes "drive" ∷ codes "A" ∷ []) (record { multidata = codes "A"; journal = None })
+pub drive_one : IsDrive (codes "drive" ∷ codes "A" ∷ [])
+    (record { multidata = codes "A"; journal = None })
 unfolding faults given clap_on_literals
-drive_one = record { taken = record { named = refl; faultless = refl }; multidata = refl; journal = refl }
+drive_one =
+    record { taken = record { named = refl; faultless = refl }; multidata = refl; journal = refl }
 
 -- two files' names
-pub drive_two : IsDrive (codes "drive" ∷ codes "A" ∷ codes "J" ∷ []) (record { multidata = codes "A"; journal = Some (codes "J") })
+pub drive_two : IsDrive (codes "drive" ∷ codes "A" ∷ codes "J" ∷ [])
+    (record { multidata = codes "A"; journal = Some (codes "J") })
 unfolding faults given clap_on_literals
-drive_two = record { taken = record { named = refl; faultless = refl }; multidata = refl; journal = refl }
+drive_two =
+    record { taken = record { named = refl; faultless = refl }; multidata = refl; journal = refl }
 
 -- a word too many
-pub drive_three : faults drive_app (codes "drive" ∷ codes "A" ∷ codes "J" ∷ codes "K" ∷ []) ≡ UnknownArgument ∷ []
+pub drive_three : faults drive_app (codes "drive" ∷ codes "A" ∷ codes "J" ∷ codes "K" ∷ [])
+    ≡ UnknownArgument ∷ []
 unfolding faults clap_on_literals
 drive_three = refl
 
@@ -33,6 +38,8 @@ unfolding given clap_on_literals
 tries_unsaid = refl
 
 -- no option twice
-pub seed_twice : faults generate_app (codes "generate" ∷ codes "p" ∷ codes "o" ∷ codes "--seed" ∷ codes "5" ∷ codes "--seed" ∷ codes "6" ∷ []) ≡ ArgumentConflict ∷ []
+pub seed_twice : faults generate_app
+    (codes "generate" ∷ codes "p" ∷ codes "o" ∷ codes "--seed" ∷ codes "5" ∷ codes "--seed"
+    ∷ codes "6" ∷ []) ≡ ArgumentConflict ∷ []
 unfolding faults clap_on_literals
 seed_twice = refl

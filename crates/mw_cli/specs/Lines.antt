@@ -9,7 +9,8 @@ use Rattle.mw_cli.specs.declared.command_line.CommandLine.{CommandLine}
 use Rattle.mw_cli.specs.declared.command_line.CommandLine.TheVariants.{Generate, Check, Reach, NewRoom, Drive}
 
 abbrev pub generate_line : Wanted → CommandLine
-generate_line w = Generate (record { players = w.players; out_name = w.out_name; seed = w.seed; tries = w.tries })
+generate_line w =
+    Generate (record { players = w.players; out_name = w.out_name; seed = w.seed; tries = w.tries })
 
 abbrev pub check_line : Asked → CommandLine
 check_line a = Check (record { players = a.players; multidata = a.multidata })
@@ -25,10 +26,13 @@ drive_line files = Drive (record { multidata = files.multidata; journal = files.
 
 -- the words ask for this
 abbrev pub AsksFor : List (List ℕ) → CommandLine → Type 0
-AsksFor words (Generate w) = IsGenerate words (record { players = w.players; out_name = w.out_name; seed = w.seed; tries = w.tries })
+AsksFor words (Generate w) =
+    IsGenerate words
+    (record { players = w.players; out_name = w.out_name; seed = w.seed; tries = w.tries })
 AsksFor words (Check w) = IsCheck words (record { players = w.players; multidata = w.multidata })
 AsksFor words (Reach w) = IsReach words w.players
-AsksFor words (NewRoom w) = IsNewRoom words (record { multidata = w.multidata; journal = w.journal })
+AsksFor words (NewRoom w) =
+    IsNewRoom words (record { multidata = w.multidata; journal = w.journal })
 AsksFor words (Drive w) = IsDrive words (record { multidata = w.multidata; journal = w.journal })
 
 -- they ask for nothing
@@ -37,7 +41,9 @@ IsNoCommand words = (line : CommandLine) → AsksFor words line → ⊥
 
 -- no words ask for two things
 abbrev pub HasOneMeaning : Type 0
-HasOneMeaning = (words : List (List ℕ)) (one other : CommandLine) → AsksFor words one → AsksFor words other → one ≡ other
+HasOneMeaning =
+    (words : List (List ℕ)) (one other : CommandLine) → AsksFor words one → AsksFor words other
+    → one ≡ other
 
 -- how many tries there are is from 1 to 1,000
 abbrev pub HasTries : CommandLine → Type 0

@@ -12,7 +12,8 @@ use Rattle.mw_offline.specs.NewRooms.{RoomFiles}
 -- a command of these arguments that offers no help and tells no version
 abbrev pub command_app : List ℕ → List Rule → App
 command_app name rules = record {
-  top = record (new_shape name) { rules = rules; disable_help_flag = true; disable_version_flag = true };
+  top = record (new_shape name)
+      { rules = rules; disable_help_flag = true; disable_version_flag = true };
   subs = [];
 }
 
@@ -38,11 +39,14 @@ tries_rule = record (option_rule (codes "tries")) { defaults = codes "100" ∷ [
 
 -- `generate PLAYERS OUT --seed N [--tries N]`
 abbrev pub generate_app : App
-generate_app = command_app (codes "generate") (word_rule (codes "players") ∷ word_rule (codes "out") ∷ seed_rule ∷ tries_rule ∷ [])
+generate_app =
+    command_app (codes "generate")
+    (word_rule (codes "players") ∷ word_rule (codes "out") ∷ seed_rule ∷ tries_rule ∷ [])
 
 -- `check PLAYERS MULTIDATA`
 abbrev pub check_app : App
-check_app = command_app (codes "check") (word_rule (codes "players") ∷ word_rule (codes "multidata") ∷ [])
+check_app =
+    command_app (codes "check") (word_rule (codes "players") ∷ word_rule (codes "multidata") ∷ [])
 
 -- `reach PLAYERS`
 abbrev pub reach_app : App
@@ -50,11 +54,14 @@ reach_app = command_app (codes "reach") (word_rule (codes "players") ∷ [])
 
 -- `new-room MULTIDATA JOURNAL`
 abbrev pub new_room_app : App
-new_room_app = command_app (codes "new-room") (word_rule (codes "multidata") ∷ word_rule (codes "journal") ∷ [])
+new_room_app =
+    command_app (codes "new-room")
+    (word_rule (codes "multidata") ∷ word_rule (codes "journal") ∷ [])
 
 -- `drive MULTIDATA [JOURNAL]`
 abbrev pub drive_app : App
-drive_app = command_app (codes "drive") (word_rule (codes "multidata") ∷ last_rule (codes "journal") ∷ [])
+drive_app =
+    command_app (codes "drive") (word_rule (codes "multidata") ∷ last_rule (codes "journal") ∷ [])
 
 -- ---- what words ask for
 

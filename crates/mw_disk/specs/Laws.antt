@@ -33,28 +33,57 @@ written_torn at put bytes =
     let front = take at bytes in
     let gap = zeros (at - length bytes) in
     let end = at + length put in
-    let size : length (front ++ gap) ≡ at = omega (arith, length-append front gap, length-take at bytes, length-zeros (at - length bytes)) in
-    let front_put : length (front ++ gap ++ put) ≡ end = omega (arith, size, length-append (front ++ gap) put) in
+    let size : length (front ++ gap)
+    ≡ at = omega (
+      arith,
+      length-append front gap,
+      length-take at bytes,
+      length-zeros
+          (at - length bytes),
+    ) in
+    let front_put : length (front ++ gap ++ put)
+    ≡ end = omega (arith, size, length-append (front ++ gap) put) in
     record {
-      front = ap (λ l. take (min at (length bytes)) l) (append_assoc (front ++ gap) put (drop end bytes) ∙ append_assoc front gap (put ++ drop end bytes))
-          ∙ take_at front (gap ++ (put ++ drop end bytes)) (min at (length bytes)) (omega (arith, length-take at bytes));
+      front = ap (λ l. take (min at (length bytes)) l)
+          (append_assoc (front ++ gap) put (drop end bytes) ∙ append_assoc front gap
+          (put ++ drop end bytes))
+          ∙ take_at front (gap ++ (put ++ drop end bytes)) (min at (length bytes))
+          (omega (arith, length-take at bytes));
       back = drop_at (front ++ gap ++ put) (drop end bytes) end front_put;
-      no_shorter = omega (arith, front_put, length-append (front ++ gap ++ put) (drop end bytes), length-drop end bytes);
-      no_longer = omega (arith, front_put, length-append (front ++ gap ++ put) (drop end bytes), length-drop end bytes);
+      no_shorter = omega (
+        arith,
+        front_put,
+        length-append (front ++ gap ++ put) (drop end bytes),
+        length-drop end
+            bytes,
+      );
+      no_longer = omega (
+        arith,
+        front_put,
+        length-append (front ++ gap ++ put) (drop end bytes),
+        length-drop end
+            bytes,
+      );
     }
 
 -- a cut that changed nothing
 pub uncut : (len : ℕ) (bytes : List ℕ) → CutShort len bytes bytes
-uncut len bytes =
-    (max len (length bytes), omega arith, sym (take_all (max len (length bytes)) bytes (omega arith)))
+uncut len bytes = (
+  max len (length bytes),
+  omega arith,
+  sym
+      (take_all (max len (length bytes)) bytes (omega arith)),
+)
 
 -- what a read gives after a call, a crash may leave
-done_is_image : (call : DiskCall) (ok : Bool) (bytes : List ℕ) (images : List ℕ → Type 0) → images bytes
+done_is_image : (call : DiskCall) (ok : Bool) (bytes : List ℕ) (images : List ℕ → Type 0)
+    → images bytes
     → ImageAfter call ok bytes images (if ok then done call bytes else bytes)
 done_is_image (Read at len) true bytes images now = now
 done_is_image (Read at len) false bytes images now = now
 done_is_image (Write at put) true bytes images now = (bytes, now, written_torn at put bytes)
-done_is_image (Write at put) false bytes images now = (bytes, now, unwritten_torn at (length put) bytes)
+done_is_image (Write at put) false bytes images now =
+    (bytes, now, unwritten_torn at (length put) bytes)
 done_is_image (Cut len) true bytes images now = (bytes, now, (len, omega arith, refl))
 done_is_image (Cut len) false bytes images now = (bytes, now, uncut len bytes)
 done_is_image Sync true bytes images now = refl
@@ -64,7 +93,8 @@ told_is_image : (calls : List MadeCall) (bytes : List ℕ) (images : List ℕ �
     → ImageOf bytes images calls (bytes_of bytes calls)
 told_is_image [] bytes images now = now
 told_is_image (made ∷ calls) bytes images now =
-    told_is_image calls (bytes_after made bytes) (ImageAfter made.call (is_ok made.answer) bytes images)
+    told_is_image calls (bytes_after made bytes)
+    (ImageAfter made.call (is_ok made.answer) bytes images)
     (done_is_image made.call (is_ok made.answer) bytes images now)
 
 pub bytes_are_image : (start : List ℕ) (calls : List MadeCall) (c : List ℕ)
@@ -75,8 +105,13 @@ bytes_are_image start calls c is =
 
 pub counts_now : (start : List ℕ) (calls : List MadeCall) (t : ℕ) (c : List ℕ)
     → t ≤ length calls → IsImage start calls c → IsImageSince start calls t c
-counts_now start calls t c le now =
-    (length calls, le, omega arith, subst (λ l. IsImage start l c) (sym (take_all (length calls) calls (omega arith))) now)
+counts_now start calls t c le now = (
+  length calls,
+  le,
+  omega arith,
+  subst (λ l. IsImage start l c)
+      (sym (take_all (length calls) calls (omega arith))) now,
+)
 
 pub only_now : (start : List ℕ) (calls : List MadeCall) (c : List ℕ)
     → IsImageSince start calls (length calls) c → IsImage start calls c

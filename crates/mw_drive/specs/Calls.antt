@@ -46,7 +46,8 @@ IsOutside (Script line) = ⊥
 -- ---- calls
 
 -- a call was answered and done as where memory and the disk don't fail
-pub record IsDone {D : Type 0} (may_leave : D → List ℕ → Type 0) (digest : List ℕ) (seed : Seed) (life : Life) (call : Call) (reply : Reply)
+pub record IsDone {D : Type 0} (may_leave : D → List ℕ → Type 0) (digest : List ℕ) (seed : Seed)
+    (life : Life) (call : Call) (reply : Reply)
     (k : KeptRoom D)
     : Type 0 where
   pub replies : reply ≡ reply_to life call fine
@@ -55,7 +56,8 @@ pub record IsDone {D : Type 0} (may_leave : D → List ℕ → Type 0) (digest :
   pub going : IsGoing seed (life_after life call fine)
 
 -- so were calls, of which some met a session that was owed more than it may keep
-pub record AreDone {D : Type 0} (may_leave : D → List ℕ → Type 0) (digest : List ℕ) (seed : Seed) (life : Life) (cs : List Call) (met : Bool)
+pub record AreDone {D : Type 0} (may_leave : D → List ℕ → Type 0) (digest : List ℕ) (seed : Seed)
+    (life : Life) (cs : List Call) (met : Bool)
     (k : KeptRoom D)
     : Type 0 where
   pub meets : met ≡ meet_overrun life cs
@@ -65,7 +67,8 @@ pub record AreDone {D : Type 0} (may_leave : D → List ℕ → Type 0) (digest 
 
 -- a call, or one of several, wasn't done: the room is kept in some life that goes on from this one;
 -- for a full journal only where the definition says so, for a fault where the disk's count rose
-pub record HaveStopped {D : Type 0} (may_leave : D → List ℕ → Type 0) (faults : D → ℕ) (digest : List ℕ) (life : Life) (cs : List Call)
+pub record HaveStopped {D : Type 0} (may_leave : D → List ℕ → Type 0) (faults : D → ℕ)
+    (digest : List ℕ) (life : Life) (cs : List Call)
     (before : KeptRoom D) (error : DriveError) (k : KeptRoom D)
     : Type 0 where
   pub steps : List Step
@@ -77,7 +80,8 @@ pub record HaveStopped {D : Type 0} (may_leave : D → List ℕ → Type 0) (fau
 -- ---- commands
 
 -- a command was done, with this text
-pub record IsPerformed {D : Type 0} (may_leave : D → List ℕ → Type 0) (digest : List ℕ) (seed : Seed) (life : Life) (c : Command) (text : List ℕ)
+pub record IsPerformed {D : Type 0} (may_leave : D → List ℕ → Type 0) (digest : List ℕ)
+    (seed : Seed) (life : Life) (c : Command) (text : List ℕ)
     (k : KeptRoom D)
     : Type 0 where
   pub is_text : text ≡ text_put (puts life c)
@@ -88,26 +92,36 @@ pub record IsPerformed {D : Type 0} (may_leave : D → List ℕ → Type 0) (dig
 -- ---- whatever life the room is kept in
 
 -- the call was done, with this reply
-abbrev pub Does : {D : Type 0} → (D → List ℕ → Type 0) → KeptRoom D → Call → Reply → KeptRoom D → Type 0
+abbrev pub Does : {D : Type 0} → (D → List ℕ → Type 0) → KeptRoom D → Call → Reply → KeptRoom D
+    → Type 0
 Does may_leave before call reply after =
-    (digest : List ℕ) (seed : Seed) (life : Life) → Keeps may_leave digest life before → IsGoing seed life → IsDone may_leave digest seed life call reply after
+    (digest : List ℕ) (seed : Seed) (life : Life) → Keeps may_leave digest life before
+    → IsGoing seed life → IsDone may_leave digest seed life call reply after
 
 -- the calls were done, of which some met a session that was owed more than it may keep
-abbrev pub Makes : {D : Type 0} → (D → List ℕ → Type 0) → KeptRoom D → List Call → Bool → KeptRoom D → Type 0
+abbrev pub Makes : {D : Type 0} → (D → List ℕ → Type 0) → KeptRoom D → List Call → Bool → KeptRoom D
+    → Type 0
 Makes may_leave before cs met after =
-    (digest : List ℕ) (seed : Seed) (life : Life) → Keeps may_leave digest life before → IsGoing seed life → AreDone may_leave digest seed life cs met after
+    (digest : List ℕ) (seed : Seed) (life : Life) → Keeps may_leave digest life before
+    → IsGoing seed life → AreDone may_leave digest seed life cs met after
 
 -- the calls were stopped by an error
-abbrev pub StopsAmong : {D : Type 0} → (D → List ℕ → Type 0) → (D → ℕ) → KeptRoom D → List Call → DriveError → KeptRoom D → Type 0
+abbrev pub StopsAmong : {D : Type 0} → (D → List ℕ → Type 0) → (D → ℕ) → KeptRoom D → List Call
+    → DriveError → KeptRoom D → Type 0
 StopsAmong may_leave faults before cs error after =
-    (digest : List ℕ) (seed : Seed) (life : Life) → Keeps may_leave digest life before → IsGoing seed life → HaveStopped may_leave faults digest life cs before error after
+    (digest : List ℕ) (seed : Seed) (life : Life) → Keeps may_leave digest life before
+    → IsGoing seed life → HaveStopped may_leave faults digest life cs before error after
 
 -- the command was done, with this text
-abbrev pub Performs : {D : Type 0} → (D → List ℕ → Type 0) → KeptRoom D → Command → List ℕ → KeptRoom D → Type 0
+abbrev pub Performs : {D : Type 0} → (D → List ℕ → Type 0) → KeptRoom D → Command → List ℕ
+    → KeptRoom D → Type 0
 Performs may_leave before c text after =
-    (digest : List ℕ) (seed : Seed) (life : Life) → Keeps may_leave digest life before → IsGoing seed life → IsPerformed may_leave digest seed life c text after
+    (digest : List ℕ) (seed : Seed) (life : Life) → Keeps may_leave digest life before
+    → IsGoing seed life → IsPerformed may_leave digest seed life c text after
 
 -- the command was stopped by an error
-abbrev pub StopsIn : {D : Type 0} → (D → List ℕ → Type 0) → (D → ℕ) → KeptRoom D → Command → DriveError → KeptRoom D → Type 0
+abbrev pub StopsIn : {D : Type 0} → (D → List ℕ → Type 0) → (D → ℕ) → KeptRoom D → Command
+    → DriveError → KeptRoom D → Type 0
 StopsIn may_leave faults before c error after =
-    (digest : List ℕ) (seed : Seed) (life : Life) → Keeps may_leave digest life before → IsGoing seed life → HaveStopped may_leave faults digest life (calls life c) before error after
+    (digest : List ℕ) (seed : Seed) (life : Life) → Keeps may_leave digest life before
+    → IsGoing seed life → HaveStopped may_leave faults digest life (calls life c) before error after

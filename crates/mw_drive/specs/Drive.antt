@@ -133,7 +133,9 @@ told_of put (Some session) = put session ∷ []
 
 -- the messages that a session takes
 abbrev pub taken_by : Room → ℕ → List Put
-taken_by room session = map (message session (member_in room.sessions session)) (untaken_of (session_in room.sessions session))
+taken_by room session =
+    map (message session (member_in room.sessions session))
+    (untaken_of (session_in room.sessions session))
 
 abbrev pub taken_from : Room → Command → List Put
 taken_from room (opens time) = []
@@ -148,7 +150,8 @@ taken_from room crashes = []
 abbrev pub puts : Life → Command → List Put
 puts life c =
     if is_absent life c then told_of gone (named c)
-    else (if meet_overrun life (calls_of c) then told_of overrun (named c) else taken_from life.room c)
+    else (if meet_overrun life (calls_of c) then told_of overrun (named c)
+    else taken_from life.room c)
 
 -- whether the journal is full, or the room has had 2^63 calls, before a command is done
 abbrev pub is_full : Life → Command → Bool
@@ -204,7 +207,8 @@ steps_of life crashes = crash_step 0 0 life.place ∷ []
 
 abbrev pub all_steps : Life → List Command → List Step
 all_steps life [] = []
-all_steps life (c ∷ cs) = if is_full life c then [] else steps_of life c ++ all_steps (after life c) cs
+all_steps life (c ∷ cs) =
+    if is_full life c then [] else steps_of life c ++ all_steps (after life c) cs
 
 -- ---- texts that are taken
 

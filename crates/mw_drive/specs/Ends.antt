@@ -25,22 +25,28 @@ use Rattle.mw_drive.specs.declared.error.JournalRefusal.TheVariants.{NotJournal,
 -- these are the records for which the disk's bytes stand, with the first gate that isn't open at
 -- this place; where all that a crash might leave was settled for some records and a batch, they are
 -- these records, or these and the batch
-pub record IsFound (told : Option (List ℕ)) (images : List ℕ → Type 0) (digest : List ℕ) (seed : Seed) (journal : List Record) (place : ℕ) : Type 0 where
+pub record IsFound (told : Option (List ℕ)) (images : List ℕ → Type 0) (digest : List ℕ)
+    (seed : Seed) (journal : List Record) (place : ℕ) : Type 0 where
   pub sound : AreSound seed journal
   pub stands : (f : List ℕ) → told ≡ Some f → StandsAt f digest (records_bytes journal) place
-  pub one : (f : List ℕ) (kept batch : List Record) → told ≡ Some f → AreRecords kept → AreRecords batch
-      → AllSettled images digest (records_bytes kept) (records_bytes batch) → (journal ≡ kept) ⊎ (journal ≡ kept ++ batch)
+  pub one : (f : List ℕ) (kept batch : List Record) → told ≡ Some f → AreRecords kept
+      → AreRecords batch
+      → AllSettled images digest (records_bytes kept) (records_bytes batch)
+      → (journal ≡ kept) ⊎ (journal ≡ kept ++ batch)
 
 -- why the bytes of a disk are no journal of a seed
 abbrev pub Refuses : Option (List ℕ) → List ℕ → Seed → JournalRefusal → Type 0
 Refuses told digest seed (NotJournal at) = (f : List ℕ) → told ≡ Some f → IsNotJournal f digest at
-Refuses told digest seed (OtherSeed found) = (f : List ℕ) → told ≡ Some f → IsOtherSeed f digest found
-Refuses told digest seed (BadRecord at) = (f : List ℕ) → told ≡ Some f → (text : List ℕ) × Stands f digest text × IsBadRecord seed text at
+Refuses told digest seed (OtherSeed found) =
+    (f : List ℕ) → told ≡ Some f → IsOtherSeed f digest found
+Refuses told digest seed (BadRecord at) =
+    (f : List ℕ) → told ≡ Some f → (text : List ℕ) × Stands f digest text × IsBadRecord seed text at
 
 -- ---- ends
 
 -- the records that the journal was found to hold, and the commands of a script that was read
-pub record IsReady (found : List Record → ℕ → Type 0) (seed : Seed) (before after : Option (List ℕ)) (life : Life) (cs : List Command) : Type 0 where
+pub record IsReady (found : List Record → ℕ → Type 0) (seed : Seed) (before after : Option (List ℕ))
+    (life : Life) (cs : List Command) : Type 0 where
   pub journal : List Record
   pub place : ℕ
   pub is_found : found journal place
@@ -48,7 +54,8 @@ pub record IsReady (found : List Record → ℕ → Type 0) (seed : Seed) (befor
   pub script : HasScript before after cs
 
 -- the script was read to its end, and run to its end
-pub record Drives (found : List Record → ℕ → Type 0) (told : Option (List ℕ)) (left : List ℕ → Type 0) (digest : List ℕ) (seed : Seed)
+pub record Drives (found : List Record → ℕ → Type 0) (told : Option (List ℕ))
+    (left : List ℕ → Type 0) (digest : List ℕ) (seed : Seed)
     (before after old new : Option (List ℕ))
     : Type 0 where
   pub life : Life
@@ -68,17 +75,20 @@ IsForeign (Script line) = ⊥
 
 -- no room was recovered: the input wasn't touched, nothing was put, and what a crash may leave is as
 -- settled as it was; what is no journal of the seed's was only read
-pub record IsUnopened {S : Type 0} (refuses : JournalRefusal → Type 0) (settled only_read : Type 0) (before after : S) (old new : Option (List ℕ)) (error : DriveError)
+pub record IsUnopened {S : Type 0} (refuses : JournalRefusal → Type 0) (settled only_read : Type 0)
+    (before after : S) (old new : Option (List ℕ)) (error : DriveError)
     : Type 0 where
   pub as_settled : settled
   pub read : IsForeign error → only_read
   pub untouched : after ≡ before
   pub quiet : Keeps old new
-  pub cause : (error ≡ Fault) ⊎ (error ≡ Memory) ⊎ ((refusal : JournalRefusal) × (error ≡ Journal refusal) × refuses refusal)
+  pub cause : (error ≡ Fault) ⊎ (error ≡ Memory)
+      ⊎ ((refusal : JournalRefusal) × (error ≡ Journal refusal) × refuses refusal)
 
 -- a room was, but no script was read, or one that is refused; nothing was put, and a crash leaves
 -- just the journal's records
-pub record IsUnread (found : List Record → ℕ → Type 0) (left : List ℕ → Type 0) (digest : List ℕ) (before after old new : Option (List ℕ)) (error : DriveError)
+pub record IsUnread (found : List Record → ℕ → Type 0) (left : List ℕ → Type 0) (digest : List ℕ)
+    (before after old new : Option (List ℕ)) (error : DriveError)
     : Type 0 where
   pub journal : List Record
   pub place : ℕ
@@ -88,7 +98,8 @@ pub record IsUnread (found : List Record → ℕ → Type 0) (left : List ℕ �
   pub cause : HasNoScript before after error
 
 -- the script's commands stopped before their end
-pub record IsStopped (found : List Record → ℕ → Type 0) (told : Option (List ℕ)) (left : List ℕ → Type 0) (digest : List ℕ) (seed : Seed)
+pub record IsStopped (found : List Record → ℕ → Type 0) (told : Option (List ℕ))
+    (left : List ℕ → Type 0) (digest : List ℕ) (seed : Seed)
     (before after old new : Option (List ℕ)) (error : DriveError)
     : Type 0 where
   pub life : Life
@@ -97,8 +108,10 @@ pub record IsStopped (found : List Record → ℕ → Type 0) (told : Option (Li
   pub halted : FindsItself told commands → HasHalted left digest seed life commands old new error
 
 -- the source tells so what is left of it
-abbrev pub StopsWith : {S : Type 0} → (S → Option (List ℕ)) → (List Record → ℕ → Type 0) → (JournalRefusal → Type 0) → Type 0 → Type 0 → Option (List ℕ)
-    → (List ℕ → Type 0) → List ℕ → Seed → S → S → Option (List ℕ) → Option (List ℕ) → DriveError → Type 0
+abbrev pub StopsWith : {S : Type 0} → (S → Option (List ℕ)) → (List Record → ℕ → Type 0)
+    → (JournalRefusal → Type 0) → Type 0 → Type 0 → Option (List ℕ)
+    → (List ℕ → Type 0) → List ℕ → Seed → S → S → Option (List ℕ) → Option (List ℕ) → DriveError
+    → Type 0
 StopsWith source found refuses settled only_read told left digest seed before after old new error =
     IsUnopened refuses settled only_read before after old new error
     ⊎ IsUnread found left digest (source before) (source after) old new error
@@ -113,9 +126,11 @@ IsOfJournal (Journal refusal) = Unit {0}
 IsOfJournal (Script line) = ⊥
 
 -- what is told is as before, and a crash leaves only what it might have left
-abbrev pub IsAsRead : Option (List ℕ) → Option (List ℕ) → (List ℕ → Type 0) → (List ℕ → Type 0) → Type 0
+abbrev pub IsAsRead : Option (List ℕ) → Option (List ℕ) → (List ℕ → Type 0) → (List ℕ → Type 0)
+    → Type 0
 IsAsRead before after images left = (after ≡ before) × Stays images left
 
 -- what a crash may leave is settled as before
 abbrev pub StaysSettled : (List ℕ → Type 0) → (List ℕ → Type 0) → List ℕ → Type 0
-StaysSettled images left digest = (text body : List ℕ) → AllSettled images digest text body → AllSettled left digest text body
+StaysSettled images left digest =
+    (text body : List ℕ) → AllSettled images digest text body → AllSettled left digest text body

@@ -21,4 +21,5 @@ pub record HasScript (before after : Option (List ℕ)) (cs : List Command) : Ty
 -- why none was: the outside failed, or what was read is refused at a line
 abbrev pub HasNoScript : Option (List ℕ) → Option (List ℕ) → DriveError → Type 0
 HasNoScript before after error = (error ≡ Fault) ⊎ (error ≡ Memory)
-    ⊎ ((line : ℕ) × (script : List ℕ) × (error ≡ Script line) × IsRead before after script × (script_of script ≡ Err line))
+    ⊎ ((line : ℕ) × (script : List ℕ) × (error ≡ Script line) × IsRead before after script
+    × (script_of script ≡ Err line))

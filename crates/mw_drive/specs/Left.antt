@@ -44,13 +44,15 @@ FindsItself told cs = IsTrue (is_some told) ⊎ IsFalse (list_any is_crash cs)
 -- each ReceivedItems of it are the tail from its index of what the session was to receive, and stand
 -- there in the view of each later life; and each check that it shows is among those of the journal
 -- of each later life
-pub record IsTold (seed : Seed) (steps : List Step) (session : ℕ) (member : Option Member) (m : Message) : Type 0 where
+pub record IsTold (seed : Seed) (steps : List Step) (session : ℕ) (member : Option Member)
+    (m : Message) : Type 0 where
   pub front : List Step
   pub back : List Step
   pub goes_on : steps ≡ front ++ back
   pub taken : Contains (untaken_in (life_after_all seed front) session) m
   pub tails : AreTails seed front session m
-  pub shows : (later : List Step) (k : Member) → MayPlayAs k member → ShowsChecked seed (journal_after seed (steps ++ later)) k m
+  pub shows : (later : List Step) (k : Member) → MayPlayAs k member
+      → ShowsChecked seed (journal_after seed (steps ++ later)) k m
 
 -- what is put of a message is told so
 abbrev pub IsKept : Seed → List Step → Put → Type 0

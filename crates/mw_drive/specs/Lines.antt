@@ -44,15 +44,20 @@ first_word text = before_first is_blank text
 
 -- the bytes after the first blank, where there is one
 abbrev pub after_word : List ℕ → Option (List ℕ)
-after_word text = if nat_lt (position_or_len is_blank text) (length text) then Some (after_first is_blank text) else None
+after_word text =
+    if nat_lt (position_or_len is_blank text) (length text) then Some (after_first is_blank text)
+    else None
 
 -- a number is written in digits, of which the first may be 0, and is below 2^64
 abbrev pub is_number : List ℕ → Bool
-is_number digits = not (length digits == 0) && all_ascii_digits digits && nat_lt (digits_value 10 digits) (2 ^ 64)
+is_number digits =
+    not (length digits == 0) && all_ascii_digits digits && nat_lt (digits_value 10 digits) (2 ^ 64)
 
 -- a number with one more digit, where it is one and stays below 2^64
 abbrev pub with_digit : ℕ → ℕ → Option ℕ
-with_digit n b = if is_ascii_digit b && nat_lt (n * 10 + digit_value b) (2 ^ 64) then Some (n * 10 + digit_value b) else None
+with_digit n b =
+    if is_ascii_digit b && nat_lt (n * 10 + digit_value b) (2 ^ 64)
+    then Some (n * 10 + digit_value b) else None
 
 abbrev pub number_of : List ℕ → Option ℕ
 number_of digits = if is_number digits then Some (digits_value 10 digits) else None
@@ -95,11 +100,14 @@ max_message = 524288
 -- a session's message, unless it is too long
 abbrev pub message_line : Option ℕ → List ℕ → Option Line
 message_line None message = None
-message_line (Some session) message = if nat_le (length message) max_message then Some (text_line session message) else None
+message_line (Some session) message =
+    if nat_le (length message) max_message then Some (text_line session message) else None
 
 -- a session's number, and the message after the blank
 abbrev pub text_of : List ℕ → Option Line
-text_of rest = option_and_then (λ message. message_line (number_of (first_word rest)) message) (after_word rest)
+text_of rest =
+    option_and_then (λ message. message_line (number_of (first_word rest)) message)
+    (after_word rest)
 
 -- a line of a word and more
 abbrev pub line_with : List ℕ → List ℕ → Option Line

@@ -21,7 +21,8 @@ use Rattle.mw_drive.specs.declared.error.DriveError.TheVariants.{Full}
 -- ---- a step
 
 -- it was done: its text was put, and the room goes on in the life after it
-pub record HasStepped {D : Type 0} (may_leave : D → List ℕ → Type 0) (digest : List ℕ) (seed : Seed) (life : Life) (c : Command)
+pub record HasStepped {D : Type 0} (may_leave : D → List ℕ → Type 0) (digest : List ℕ) (seed : Seed)
+    (life : Life) (c : Command)
     (old new : Option (List ℕ)) (k : KeptRoom D)
     : Type 0 where
   pub whole : IsFalse (is_full life c)
@@ -32,7 +33,8 @@ pub record HasStepped {D : Type 0} (may_leave : D → List ℕ → Type 0) (dige
 -- it wasn't: a front of its text was put, and nothing where the journal was full before it was done;
 -- a crash may leave some life that goes on from this one; the journal is refused only where it holds
 -- records that the seed hasn't
-pub record IsCut {D : Type 0} (may_leave : D → List ℕ → Type 0) (digest : List ℕ) (seed : Seed) (life : Life) (c : Command)
+pub record IsCut {D : Type 0} (may_leave : D → List ℕ → Type 0) (digest : List ℕ) (seed : Seed)
+    (life : Life) (c : Command)
     (old new : Option (List ℕ)) (disk : D) (error : DriveError)
     : Type 0 where
   pub steps : List Step
@@ -44,23 +46,30 @@ pub record IsCut {D : Type 0} (may_leave : D → List ℕ → Type 0) (digest : 
 
 -- ---- a step that isn't a crash, in any life
 
-abbrev pub StepsOn : {D : Type 0} → (D → List ℕ → Type 0) → KeptRoom D → Command → Option (List ℕ) → Option (List ℕ) → KeptRoom D → Type 0
+abbrev pub StepsOn : {D : Type 0} → (D → List ℕ → Type 0) → KeptRoom D → Command → Option (List ℕ)
+    → Option (List ℕ) → KeptRoom D → Type 0
 StepsOn may_leave before c old new k =
-    (digest : List ℕ) (seed : Seed) (life : Life) → Keeps may_leave digest life before → IsGoing seed life → HasStepped may_leave digest seed life c old new k
+    (digest : List ℕ) (seed : Seed) (life : Life) → Keeps may_leave digest life before
+    → IsGoing seed life → HasStepped may_leave digest seed life c old new k
 
-abbrev pub IsCutOn : {D : Type 0} → (D → List ℕ → Type 0) → KeptRoom D → Command → Option (List ℕ) → Option (List ℕ) → D → DriveError → Type 0
+abbrev pub IsCutOn : {D : Type 0} → (D → List ℕ → Type 0) → KeptRoom D → Command → Option (List ℕ)
+    → Option (List ℕ) → D → DriveError → Type 0
 IsCutOn may_leave before c old new disk error =
-    (digest : List ℕ) (seed : Seed) (life : Life) → Keeps may_leave digest life before → IsGoing seed life → IsCut may_leave digest seed life c old new disk error
+    (digest : List ℕ) (seed : Seed) (life : Life) → Keeps may_leave digest life before
+    → IsGoing seed life → IsCut may_leave digest seed life c old new disk error
 
 -- a fault is shown by the disk's count, or else by this
-abbrev pub FaultShows : {D : Type 0} → (D → List ℕ → Type 0) → (D → ℕ) → KeptRoom D → D → Type 0 → Type 0
+abbrev pub FaultShows : {D : Type 0} → (D → List ℕ → Type 0) → (D → ℕ) → KeptRoom D → D → Type 0
+    → Type 0
 FaultShows may_leave faults before disk otherwise =
-    (digest : List ℕ) (seed : Seed) (life : Life) → Keeps may_leave digest life before → IsGoing seed life → (faults (kept_disk before) < faults disk) ⊎ otherwise
+    (digest : List ℕ) (seed : Seed) (life : Life) → Keeps may_leave digest life before
+    → IsGoing seed life → (faults (kept_disk before) < faults disk) ⊎ otherwise
 
 -- ---- any step, in a life of the seed file's room that finds itself after a crash
 
 -- the room is kept in such a life
-pub record IsKeptIn {D : Type 0} (may_leave : D → List ℕ → Type 0) (told : D → Option (List ℕ)) (file : List ℕ) (cs : List Command) (seed : Seed) (life : Life)
+pub record IsKeptIn {D : Type 0} (may_leave : D → List ℕ → Type 0) (told : D → Option (List ℕ))
+    (file : List ℕ) (cs : List Command) (seed : Seed) (life : Life)
     (k : KeptRoom D)
     : Type 0 where
   pub accepted : SeedOf file (Ok seed)
@@ -68,63 +77,85 @@ pub record IsKeptIn {D : Type 0} (may_leave : D → List ℕ → Type 0) (told :
   pub going : IsGoing seed life
   pub finds : FindsItself (told (kept_disk k)) cs
 
-abbrev pub StepsAlways : {D : Type 0} → (D → List ℕ → Type 0) → (D → Option (List ℕ)) → List ℕ → KeptRoom D → Command → Option (List ℕ) → Option (List ℕ)
+abbrev pub StepsAlways : {D : Type 0} → (D → List ℕ → Type 0) → (D → Option (List ℕ)) → List ℕ
+    → KeptRoom D → Command → Option (List ℕ) → Option (List ℕ)
     → KeptRoom D → Type 0
 StepsAlways may_leave told file before c old new k =
-    (seed : Seed) (life : Life) → IsKeptIn may_leave told file (c ∷ []) seed life before → HasStepped may_leave (digest_of file) seed life c old new k
+    (seed : Seed) (life : Life) → IsKeptIn may_leave told file (c ∷ []) seed life before
+    → HasStepped may_leave (digest_of file) seed life c old new k
 
-abbrev pub IsCutAlways : {D : Type 0} → (D → List ℕ → Type 0) → (D → Option (List ℕ)) → List ℕ → KeptRoom D → Command → Option (List ℕ) → Option (List ℕ)
+abbrev pub IsCutAlways : {D : Type 0} → (D → List ℕ → Type 0) → (D → Option (List ℕ)) → List ℕ
+    → KeptRoom D → Command → Option (List ℕ) → Option (List ℕ)
     → D → DriveError → Type 0
 IsCutAlways may_leave told file before c old new disk error =
-    (seed : Seed) (life : Life) → IsKeptIn may_leave told file (c ∷ []) seed life before → IsCut may_leave (digest_of file) seed life c old new disk error
+    (seed : Seed) (life : Life) → IsKeptIn may_leave told file (c ∷ []) seed life before
+    → IsCut may_leave (digest_of file) seed life c old new disk error
 
 -- ---- faults, in any life of the seed file's room
 
-pub record HasLife {D : Type 0} (may_leave : D → List ℕ → Type 0) (file : List ℕ) (k : KeptRoom D) : Type 0 where
+pub record HasLife {D : Type 0} (may_leave : D → List ℕ → Type 0) (file : List ℕ)
+    (k : KeptRoom D) : Type 0 where
   pub seed : Seed
   pub life : Life
   pub accepted : SeedOf file (Ok seed)
   pub keeps : Keeps may_leave (digest_of file) life k
   pub going : IsGoing seed life
 
-abbrev pub FaultIsTold : {D : Type 0} → (D → List ℕ → Type 0) → (D → ℕ) → List ℕ → KeptRoom D → D → Type 0 → Type 0
-FaultIsTold may_leave faults file before disk otherwise = HasLife may_leave file before → (faults (kept_disk before) < faults disk) ⊎ otherwise
+abbrev pub FaultIsTold : {D : Type 0} → (D → List ℕ → Type 0) → (D → ℕ) → List ℕ → KeptRoom D → D
+    → Type 0 → Type 0
+FaultIsTold may_leave faults file before disk otherwise =
+    HasLife may_leave file before → (faults (kept_disk before) < faults disk) ⊎ otherwise
 
 -- ---- all steps
 
 -- what was put is kept, where the life is one that a run of lives comes to
-abbrev pub IsShownKept : (List ℕ → Type 0) → List ℕ → Seed → Life → Option (List ℕ) → Option (List ℕ) → Type 0
-IsShownKept images digest seed life old new = (steps : List Step) → life ≡ life_after_all seed steps → KeepsShown images digest seed steps old new
+abbrev pub IsShownKept : (List ℕ → Type 0) → List ℕ → Seed → Life → Option (List ℕ)
+    → Option (List ℕ) → Type 0
+IsShownKept images digest seed life old new =
+    (steps : List Step) → life ≡ life_after_all seed steps
+    → KeepsShown images digest seed steps old new
 
 -- they stopped before their end: a front of their text was put; for a full journal just where the
 -- definition says so, once all before was put; a journal is refused at a crash only in a life to
 -- which no run of lives comes
-pub record HasHalted (images : List ℕ → Type 0) (digest : List ℕ) (seed : Seed) (life : Life) (cs : List Command)
+pub record HasHalted (images : List ℕ → Type 0) (digest : List ℕ) (seed : Seed) (life : Life)
+    (cs : List Command)
     (old new : Option (List ℕ)) (error : DriveError)
     : Type 0 where
   pub front : PutsFront old new (drive_text life cs)
   pub full : error ≡ Full → IsTrue (run life cs).full × Appends old new (drive_text life cs)
   pub kept : IsShownKept images digest seed life old new
-  pub outside : (steps : List Step) → life ≡ life_after_all seed steps → NamesFit seed → IsOutside error
+  pub outside : (steps : List Step) → life ≡ life_after_all seed steps → NamesFit seed
+      → IsOutside error
 
-abbrev pub RunsAlways : {D : Type 0} → (D → List ℕ → Type 0) → (D → Option (List ℕ)) → List ℕ → KeptRoom D → List Command → Option (List ℕ) → Option (List ℕ) → D → Type 0
+abbrev pub RunsAlways : {D : Type 0} → (D → List ℕ → Type 0) → (D → Option (List ℕ)) → List ℕ
+    → KeptRoom D → List Command → Option (List ℕ) → Option (List ℕ) → D → Type 0
 RunsAlways may_leave told file before cs old new disk =
     (seed : Seed) (life : Life) → IsKeptIn may_leave told file cs seed life before
-    → HasDriven (may_leave disk) (digest_of file) life cs old new × IsShownKept (may_leave disk) (digest_of file) seed life old new
+    → HasDriven (may_leave disk) (digest_of file) life cs old new
+    × IsShownKept (may_leave disk) (digest_of file) seed life old new
 
-abbrev pub HaltsAlways : {D : Type 0} → (D → List ℕ → Type 0) → (D → Option (List ℕ)) → List ℕ → KeptRoom D → List Command → Option (List ℕ) → Option (List ℕ)
+abbrev pub HaltsAlways : {D : Type 0} → (D → List ℕ → Type 0) → (D → Option (List ℕ)) → List ℕ
+    → KeptRoom D → List Command → Option (List ℕ) → Option (List ℕ)
     → D → DriveError → Type 0
 HaltsAlways may_leave told file before cs old new disk error =
-    (seed : Seed) (life : Life) → IsKeptIn may_leave told file cs seed life before → HasHalted (may_leave disk) (digest_of file) seed life cs old new error
+    (seed : Seed) (life : Life) → IsKeptIn may_leave told file cs seed life before
+    → HasHalted (may_leave disk) (digest_of file) seed life cs old new error
 
 -- where a room is kept and the script was read or not
-abbrev pub RunsScript : {D : Type 0} → (D → List ℕ → Type 0) → (D → Option (List ℕ)) → List ℕ → KeptRoom D → Option (List ℕ) → Option (List ℕ) → Option (List ℕ) → Option (List ℕ) → D → Type 0
-RunsScript may_leave told file before from to old new disk = (cs : List Command) × HasScript from to cs × RunsAlways may_leave told file before cs old new disk
+abbrev pub RunsScript : {D : Type 0} → (D → List ℕ → Type 0) → (D → Option (List ℕ)) → List ℕ
+    → KeptRoom D → Option (List ℕ) → Option (List ℕ) → Option (List ℕ) → Option (List ℕ) → D
+    → Type 0
+RunsScript may_leave told file before from to old new disk =
+    (cs : List Command) × HasScript from to cs
+    × RunsAlways may_leave told file before cs old new disk
 
 -- no script was read, nothing was put, and the disk is handed back as it was; or its commands
 -- stopped before their end
-abbrev pub HaltsScript : {D : Type 0} → (D → List ℕ → Type 0) → (D → Option (List ℕ)) → List ℕ → KeptRoom D → Option (List ℕ) → Option (List ℕ) → Option (List ℕ) → Option (List ℕ)
+abbrev pub HaltsScript : {D : Type 0} → (D → List ℕ → Type 0) → (D → Option (List ℕ)) → List ℕ
+    → KeptRoom D → Option (List ℕ) → Option (List ℕ) → Option (List ℕ) → Option (List ℕ)
     → D → DriveError → Type 0
 HaltsScript may_leave told file before from to old new disk error =
     (HasNoScript from to error × WasKept old new × (disk ≡ kept_disk before))
-    ⊎ ((cs : List Command) × HasScript from to cs × HaltsAlways may_leave told file before cs old new disk error)
+    ⊎ ((cs : List Command) × HasScript from to cs
+    × HaltsAlways may_leave told file before cs old new disk error)

@@ -27,7 +27,8 @@ commands_in (line ∷ others) = asked_by (line_of line) ++ commands_in others
 -- the first line that the grammar refuses, counted from a number on
 abbrev pub first_refused : ℕ → List (List ℕ) → Option ℕ
 first_refused number [] = None
-first_refused number (line ∷ others) = if is_some (line_of line) then first_refused (number + 1) others else Some number
+first_refused number (line ∷ others) =
+    if is_some (line_of line) then first_refused (number + 1) others else Some number
 
 -- the commands of lines that the grammar has, or the line that it refuses
 abbrev pub judged : List (List ℕ) → Option ℕ → Result (List Command) ℕ
@@ -46,5 +47,6 @@ too_long lines = unwrap_or (first_refused 1 lines) (1 + length lines)
 -- the commands of a script, or the line at which it is refused, counted from 1
 abbrev pub script_of : List ℕ → Result (List Command) ℕ
 script_of bytes =
-    if nat_le (length bytes) max_script then judged (lines_of bytes) (first_refused 1 (lines_of bytes))
+    if nat_le (length bytes) max_script
+    then judged (lines_of bytes) (first_refused 1 (lines_of bytes))
     else Err (too_long (ended_lines (take max_script bytes)))

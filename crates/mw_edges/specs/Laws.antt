@@ -20,10 +20,12 @@ told_is_image files disks name c is =
 pub steady_last : (closed : Option DiskHistory) (file : Option (List ℕ)) (c : List ℕ)
     → unwrap_or (last_bytes closed file) [] ≡ c → IsLastImage closed file c
 steady_last None file c is = sym is
-steady_last (Some disk) file c is = bytes_are_image disk.start disk.calls c (ap (λ (l : List ℕ). Some l) is)
+steady_last (Some disk) file c is =
+    bytes_are_image disk.start disk.calls c (ap (λ (l : List ℕ). Some l) is)
 
 pub steady_is_image : (files : List (List ℕ × List ℕ)) (disks : List (List ℕ × KeptDisk))
-    (name c : List ℕ) → steady_file files disks name ≡ Some (Some c) → IsFileImage files disks name c
+    (name c : List ℕ) → steady_file files disks name ≡ Some (Some c)
+    → IsFileImage files disks name c
 steady_is_image files disks name c is =
     steady_last (closed_of disks name) (entry_of files name) c cc
 

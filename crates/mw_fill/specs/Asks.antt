@@ -14,14 +14,20 @@ use Rattle.mw_fill.specs.Try.{lists_of}
 
 -- the first copies were put where the run puts them: what it gives from there on, the whole run gives
 abbrev pub AreRun : Joint → List Opening → List ItemCopy → List Put → Type 0
-AreRun joint openings copies puts = (out : Outcome) → FillRun is_reached joint openings (drop (length puts) copies) puts out → FillRun is_reached joint openings copies [] out
+AreRun joint openings copies puts =
+    (out : Outcome) → FillRun is_reached joint openings (drop (length puts) copies) puts out
+    → FillRun is_reached joint openings copies [] out
 
 -- for each two numbers the least list without the copies between them: those below the first number are where they were
 -- put, and those from the second one on are in hand
-pub record AreLists (joint : Joint) (copies : List ItemCopy) (puts : List Put) (tables : ℕ → Placed) (lists : ℕ → ℕ → List Bool) : Type 0 where
-  pub tables_are : (from : ℕ) → IsPlaced joint.slots (events_of joint ++ take from puts) (tables from)
+pub record AreLists (joint : Joint) (copies : List ItemCopy) (puts : List Put) (tables : ℕ → Placed)
+    (lists : ℕ → ℕ → List Bool) : Type 0 where
+  pub tables_are : (from : ℕ)
+      → IsPlaced joint.slots (events_of joint ++ take from puts) (tables from)
   pub sizes : (from to : ℕ) → length (lists from to) ≡ place_total joint.slots
-  pub least : (from to : ℕ) → IsLeast (steps_of joint) (in_hand joint (drop to copies)) (tables from) (places_of (lists from to))
+  pub least : (from to : ℕ)
+      → IsLeast (steps_of joint) (in_hand joint (drop to copies)) (tables from)
+      (places_of (lists from to))
 
 -- the number half way
 abbrev pub half_way : ℕ → ℕ → ℕ
@@ -30,14 +36,17 @@ half_way from to = from + (to - from) / 2
 -- the asks for the places that are new where a list goes on to the list of one half, and then to that of the other
 abbrev pub asks_of_halves : Joint → (ℕ → Placed) → (ℕ → ℕ → List Bool) → ℕ → ℕ → ℕ → ℕ
 asks_of_halves joint tables lists from middle to =
-    asks_at (steps_of joint) (tables from) (new_in (lists from to) (lists from middle)) + asks_at (steps_of joint) (tables middle) (new_in (lists from to) (lists middle to))
+    asks_at (steps_of joint) (tables from) (new_in (lists from to) (lists from middle))
+    + asks_at (steps_of joint) (tables middle) (new_in (lists from to) (lists middle to))
 
 -- the same for each half, and for its halves, so many levels deep
 abbrev pub asks_of_levels : Joint → (ℕ → Placed) → (ℕ → ℕ → List Bool) → ℕ → ℕ → ℕ → ℕ
 asks_of_levels joint tables lists zero from to = 0
 asks_of_levels joint tables lists (suc levels) from to =
     let middle = half_way from to in
-    asks_of_halves joint tables lists from middle to + (asks_of_levels joint tables lists levels from middle + asks_of_levels joint tables lists levels middle to)
+    asks_of_halves joint tables lists from middle to
+    + (asks_of_levels joint tables lists levels from middle
+    + asks_of_levels joint tables lists levels middle to)
 
 -- the numbers over all slots
 abbrev pub all_numbers : List ItemCopy → List ℕ
@@ -47,14 +56,21 @@ all_numbers copies = map (λ copy. copy.number) copies
 -- one half or found where it was put for the other; and those for the places that are new in the lists of the halves
 abbrev pub asks_of_fill : Joint → List ItemCopy → (ℕ → Placed) → (ℕ → ℕ → List Bool) → ℕ → ℕ
 asks_of_fill joint copies tables lists levels =
-    asks_allowed (steps_of joint) (tables 0) (lists 0 (length copies)) + (levels * asks_naming (steps_of joint) (all_numbers copies) + asks_of_levels joint tables lists levels 0 (length copies))
+    asks_allowed (steps_of joint) (tables 0) (lists 0 (length copies))
+    + (levels * asks_naming (steps_of joint) (all_numbers copies)
+    + asks_of_levels joint tables lists levels 0 (length copies))
 
 -- no rule was asked between two counts, or no more than in a fill, by as few levels as have room for the copies
 abbrev pub AsksWithin : Joint → List Opening → List ItemCopy → ℕ → ℕ → Type 0
 AsksWithin joint openings copies before after =
-    (after ≡ before) ⊎ ((puts : List Put) × (tables : ℕ → Placed) × (lists : ℕ → ℕ → List Bool) × AreRun joint openings copies puts × AreLists joint copies puts tables lists
-    × ((levels : ℕ) → length copies ≤ 2 ^ levels → after ≤ before + asks_of_fill joint copies tables lists levels))
+    (after ≡ before)
+    ⊎ ((puts : List Put) × (tables : ℕ → Placed) × (lists : ℕ → ℕ → List Bool)
+    × AreRun joint openings copies puts × AreLists joint copies puts tables lists
+    × ((levels : ℕ) → length copies ≤ 2 ^ levels
+    → after ≤ before + asks_of_fill joint copies tables lists levels))
 
 -- the same for the try with this number
 abbrev pub TryAsksWithin : Joint → ℕ → ℕ → ℕ → ℕ → Type 0
-TryAsksWithin joint seed stream before after = AsksWithin joint (regular (lists_of joint seed stream).openings) (lists_of joint seed stream).asked before after
+TryAsksWithin joint seed stream before after =
+    AsksWithin joint (regular (lists_of joint seed stream).openings)
+    (lists_of joint seed stream).asked before after

@@ -43,7 +43,8 @@ item_is_of group (Some item) = is_of group item.class
 
 -- a local item stays at home; one that is non-local alone stands abroad, where there are slots other than its own
 abbrev pub locality_of : Bool → Bool → Bool → Locality
-locality_of many local non_local = if local then AtHome else (if many && non_local then Abroad else Anywhere)
+locality_of many local non_local =
+    if local then AtHome else (if many && non_local then Abroad else Anywhere)
 
 -- a copy of an item of the slot of this number
 abbrev pub copy_of : Bool → ℕ → Slot → ℕ → ItemCopy
@@ -51,12 +52,15 @@ copy_of many number s item = record {
   receiver = number;
   item = item;
   number = s.first_item + item;
-  locality = locality_of many (slice_index_or s.local_items item false) (slice_index_or s.non_local_items item false);
+  locality = locality_of many (slice_index_or s.local_items item false)
+      (slice_index_or s.non_local_items item false);
 }
 
 -- the copies of a pool entry, where its item is of the group
 abbrev pub entry_copies : Group → Bool → ℕ → Slot → PoolEntry → List ItemCopy
-entry_copies group many number s e = if item_is_of group (slice_get s.world.items e.item) then replicate e.count (copy_of many number s e.item) else []
+entry_copies group many number s e =
+    if item_is_of group (slice_get s.world.items e.item)
+    then replicate e.count (copy_of many number s e.item) else []
 
 -- the copies of a slot's pool, entry by entry
 abbrev pub slot_copies : Group → Bool → ℕ → Slot → List ItemCopy

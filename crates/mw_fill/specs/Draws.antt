@@ -28,7 +28,8 @@ drawn word k = word * k / 2 ^ 32
 -- from the entry at i down to the one at 1, each changes places with a drawn one at or before it; the words begin at a place
 abbrev pub shuffled_down : {A : Type 0} → (ℕ → ℕ) → ℕ → ℕ → List A → List A
 shuffled_down words place zero xs = xs
-shuffled_down words place (suc i) xs = shuffled_down words (suc place) i (swap xs (suc i) (drawn (words place) (suc (suc i))))
+shuffled_down words place (suc i) xs =
+    shuffled_down words (suc place) i (swap xs (suc i) (drawn (words place) (suc (suc i))))
 
 -- the entries in the order that the words give, from a place on
 abbrev pub shuffled : {A : Type 0} → (ℕ → ℕ) → ℕ → List A → List A

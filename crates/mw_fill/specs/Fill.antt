@@ -53,8 +53,11 @@ is_reached bag w copy opening = accepts copy opening && w opening.place
 abbrev pub FillRun : Test → Joint → List Opening → List ItemCopy → List Put → Outcome → Type 0
 FillRun test joint openings [] puts out = out ≡ filled puts
 FillRun test joint openings (copy ∷ later) puts out =
-    (table : List (List ℕ)) × (w : Places) × IsPlaced joint.slots (events_of joint ++ puts) table × IsLeast (steps_of joint) (in_hand joint later) table w
-    × MatchOption (first_fit (test (bag_with (in_hand joint later) table w) w copy) puts openings) (out ≡ stuck_with copy) (λ opening. FillRun test joint openings later (puts ++ put_of copy opening ∷ []) out)
+    (table : List (List ℕ)) × (w : Places) × IsPlaced joint.slots (events_of joint ++ puts) table
+    × IsLeast (steps_of joint) (in_hand joint later) table w
+    × MatchOption (first_fit (test (bag_with (in_hand joint later) table w) w copy) puts openings)
+    (out ≡ stuck_with copy)
+    (λ opening. FillRun test joint openings later (puts ++ put_of copy opening ∷ []) out)
 
 -- ---- anywhere
 
@@ -66,4 +69,6 @@ or_stuck (Some opening) copy next = next opening
 -- each copy in order at the first free location that accepts it
 abbrev pub placed_anywhere : List Opening → List ItemCopy → List Put → Outcome
 placed_anywhere openings [] puts = filled puts
-placed_anywhere openings (copy ∷ later) puts = or_stuck (first_fit (accepts copy) puts openings) copy (λ opening. placed_anywhere openings later (puts ++ put_of copy opening ∷ []))
+placed_anywhere openings (copy ∷ later) puts =
+    or_stuck (first_fit (accepts copy) puts openings) copy
+    (λ opening. placed_anywhere openings later (puts ++ put_of copy opening ∷ []))

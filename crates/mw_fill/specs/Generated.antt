@@ -18,7 +18,8 @@ use Rattle.mw_fill.specs.declared.seed.GenerateError.TheVariants.{NotBeatable, T
 -- this is the first slot whose goal doesn't hold with everything in hand, in the least list for it with the events alone
 abbrev pub IsUnmet : Joint → Option ℕ → Type 0
 IsUnmet joint slot =
-    (table : List (List ℕ)) × (w : Places) × IsPlaced joint.slots (events_of joint) table × IsLeast (steps_of joint) (everything joint.slots) table w
+    (table : List (List ℕ)) × (w : Places) × IsPlaced joint.slots (events_of joint) table
+    × IsLeast (steps_of joint) (everything joint.slots) table w
     × (slot ≡ unmet_goal joint (bag_with (everything joint.slots) table w) w)
 
 -- how many copies the pools have
@@ -34,7 +35,8 @@ room_size joint = length (openings_of joint)
 
 -- each try below this number is stuck
 abbrev pub AreStuck : Joint → ℕ → ℕ → Type 0
-AreStuck joint seed tries = (stream : ℕ) → stream < tries → (slot : ℕ) × (item : ℕ) × IsStuck joint seed stream slot item
+AreStuck joint seed tries =
+    (stream : ℕ) → stream < tries → (slot : ℕ) × (item : ℕ) × IsStuck joint seed stream slot item
 
 -- with everything in hand each goal holds, and there is room for all copies
 pub record CanBeTried (joint : Joint) : Type 0 where
@@ -50,11 +52,13 @@ pub record IsFirst (joint : Joint) (seed tries stream : ℕ) (placement : List P
 -- each refusal, where none before it applies
 abbrev pub IsRefused : Joint → ℕ → ℕ → GenerateError → Type 0
 IsRefused joint seed tries (NotBeatable slot) = IsUnmet joint (Some slot)
-IsRefused joint seed tries (TooManyItems have room) = IsUnmet joint None × (have ≡ pool_size joint) × (room ≡ room_size joint) × (room < have)
+IsRefused joint seed tries (TooManyItems have room) =
+    IsUnmet joint None × (have ≡ pool_size joint) × (room ≡ room_size joint) × (room < have)
 IsRefused joint seed tries Exhausted = CanBeTried joint × AreStuck joint seed tries
 IsRefused joint seed tries Memory = Unit {0}
 
 -- a goal that doesn't hold with everything in hand, too many items, the first try that gives a placement, or none
 abbrev pub GeneratedSeed : Joint → ℕ → ℕ → Result Seed GenerateError → Type 0
-GeneratedSeed joint seed tries (Ok found) = CanBeTried joint × IsFirst joint seed tries found.stream found.placement
+GeneratedSeed joint seed tries (Ok found) =
+    CanBeTried joint × IsFirst joint seed tries found.stream found.placement
 GeneratedSeed joint seed tries (Err refusal) = IsRefused joint seed tries refusal

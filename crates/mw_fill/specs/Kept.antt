@@ -35,7 +35,9 @@ is_open_in test held opening = is_none (slice_index_or held opening.place None) 
 
 -- something is held at each of the first so many locations
 abbrev pub AreTaken : List (Option Put) → List Opening → ℕ → Type 0
-AreTaken held openings n = (k : ℕ) (d : Opening) → k < n → k < length openings → is_none (slice_index_or held (slice_index_or openings k d).place None) ≡ false
+AreTaken held openings n =
+    (k : ℕ) (d : Opening) → k < n → k < length openings
+    → is_none (slice_index_or held (slice_index_or openings k d).place None) ≡ false
 
 -- what is held at the location, or else the filler
 abbrev pub end_held : List (Option Put) → Opening → Put

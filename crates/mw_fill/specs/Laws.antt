@@ -6,4 +6,6 @@ use Rattle.mw_fill.specs.Try.{Lists, IsOutcome}
 
 -- a try comes to one thing
 abbrev pub HasOneOutcome : Type 0
-HasOneOutcome = (joint : Joint) (lists : Lists) (out other : Outcome) → IsOutcome joint lists out → IsOutcome joint lists other → out ≡ other
+HasOneOutcome =
+    (joint : Joint) (lists : Lists) (out other : Outcome) → IsOutcome joint lists out
+    → IsOutcome joint lists other → out ≡ other

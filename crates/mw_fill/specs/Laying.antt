@@ -42,7 +42,8 @@ pub record IsLaid (slots : List Slot) (l : Laid) : Type 0 where
   pub numbers : put_numbers slots l.put ≡ l.number ∷ []
 
 -- copies, with their numbers over all slots, and locations of the joint
-pub record AreOrdered (slots : List Slot) (copies : List ItemCopy) (numbers : List ℕ) (openings : List Opening) : Type 0 where
+pub record AreOrdered (slots : List Slot) (copies : List ItemCopy) (numbers : List ℕ)
+    (openings : List Opening) : Type 0 where
   pub copies_kept : All (CopyKept slots) copies
   pub counted : All (IsCounted slots) copies
   pub few : length copies ≤ 10240000
@@ -51,10 +52,14 @@ pub record AreOrdered (slots : List Slot) (copies : List ItemCopy) (numbers : Li
 
 -- the first copies were put where the run puts them: what it gives from there on, the whole run gives
 abbrev pub RunsOn : Joint → List Opening → List ItemCopy → List Laid → Type 0
-RunsOn joint openings copies laid = (out : Outcome) → FillRun is_reached joint openings (drop (length laid) copies) (puts_of laid) out → FillRun is_reached joint openings copies [] out
+RunsOn joint openings copies laid =
+    (out : Outcome)
+    → FillRun is_reached joint openings (drop (length laid) copies) (puts_of laid) out
+    → FillRun is_reached joint openings copies [] out
 
 -- the first copies were put, each with its number, where the run puts them
-pub record AreLaid (joint : Joint) (openings : List Opening) (copies : List ItemCopy) (laid : List Laid) (held : List (Option Put)) (table : Placed) : Type 0 where
+pub record AreLaid (joint : Joint) (openings : List Opening) (copies : List ItemCopy)
+    (laid : List Laid) (held : List (Option Put)) (table : Placed) : Type 0 where
   pub held_is : IsHeldFor joint (puts_of laid) held
   pub table_is : IsPlaced joint.slots (events_of joint ++ puts_of laid) table
   pub each : All (IsLaid joint.slots) laid
@@ -63,7 +68,8 @@ pub record AreLaid (joint : Joint) (openings : List Opening) (copies : List Item
 
 -- the same of what was put so far
 abbrev pub IsLaying : Joint → List Opening → List ItemCopy → Laying → Type 0
-IsLaying joint openings copies laying = AreLaid joint openings copies laying.laid laying.held.items laying.placed
+IsLaying joint openings copies laying =
+    AreLaid joint openings copies laying.laid laying.held.items laying.placed
 
 -- ---- asks
 
@@ -73,15 +79,20 @@ numbers_between copies from to = take (to - from) (drop from (map copy_number co
 
 -- what it costs to go on from one list to another with these items more
 abbrev pub asks_more : Joint → Placed → List ℕ → List Bool → List Bool → ℕ
-asks_more joint table more before later = asks_naming (steps_of joint) more + asks_at (steps_of joint) table (new_in before later)
+asks_more joint table more before later =
+    asks_naming (steps_of joint) more + asks_at (steps_of joint) table (new_in before later)
 
 -- the asks within a range of the copies, by so many levels of halves
-abbrev pub asks_of_range : Joint → List ItemCopy → (ℕ → Placed) → (ℕ → ℕ → List Bool) → ℕ → ℕ → ℕ → ℕ
+abbrev pub asks_of_range : Joint → List ItemCopy → (ℕ → Placed) → (ℕ → ℕ → List Bool) → ℕ → ℕ → ℕ
+    → ℕ
 asks_of_range joint copies tables lists levels from to =
-    levels * asks_naming (steps_of joint) (numbers_between copies from to) + asks_of_levels joint tables lists levels from to
+    levels * asks_naming (steps_of joint) (numbers_between copies from to)
+    + asks_of_levels joint tables lists levels from to
 
 -- between two counts lie no more asks than those within a range, whatever is put after those that were put
 abbrev pub RangeWithin : Joint → List ItemCopy → List Laid → ℕ → ℕ → ℕ → ℕ → Type 0
 RangeWithin joint copies laid from to before after =
-    (levels : ℕ) (puts : List Put) (tables : ℕ → Placed) (lists : ℕ → ℕ → List Bool) → to ≤ from + 2 ^ levels → take (length laid) puts ≡ puts_of laid
-    → AreLists joint copies puts tables lists → after ≤ before + asks_of_range joint copies tables lists levels from to
+    (levels : ℕ) (puts : List Put) (tables : ℕ → Placed) (lists : ℕ → ℕ → List Bool)
+    → to ≤ from + 2 ^ levels → take (length laid) puts ≡ puts_of laid
+    → AreLists joint copies puts tables lists
+    → after ≤ before + asks_of_range joint copies tables lists levels from to

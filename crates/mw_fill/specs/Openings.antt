@@ -40,14 +40,17 @@ is_kind Excluded kind = is_excluded kind
 
 -- excluded where an option or the table says so, else priority where an option or the table says so, else default
 abbrev pub kind_of : Bool → Bool → LocKind → LocKind
-kind_of exclude priority table = if exclude || is_excluded table then Excluded else (if priority || is_priority table then Priority else Default)
+kind_of exclude priority table =
+    if exclude || is_excluded table then Excluded
+    else (if priority || is_priority table then Priority else Default)
 
 -- the location of the slot with this index
 abbrev pub opening_of : ℕ → Slot → ℕ → Location → Opening
 opening_of number s index l = record {
   place = location_place s index;
   slot = number;
-  kind = kind_of (slice_index_or s.exclude_locations index false) (slice_index_or s.priority_locations index false) l.kind;
+  kind = kind_of (slice_index_or s.exclude_locations index false)
+      (slice_index_or s.priority_locations index false) l.kind;
   filler = s.world.filler;
 }
 

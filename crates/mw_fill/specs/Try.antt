@@ -59,11 +59,15 @@ and_then (stuck slot item) next = stuck slot item
 
 -- useful copies at priority and then default locations; filler and trap copies at excluded ones first
 abbrev pub the_rest : Lists → List Put → Outcome
-the_rest lists puts = and_then (placed_anywhere (regular lists.openings) lists.helping puts) (placed_anywhere (all_kinds lists.openings) lists.filling)
+the_rest lists puts =
+    and_then (placed_anywhere (regular lists.openings) lists.helping puts)
+    (placed_anywhere (all_kinds lists.openings) lists.filling)
 
 -- what a try comes to: first the copies that rules ask for, then the rest
 abbrev pub IsOutcome : Joint → Lists → Outcome → Type 0
-IsOutcome joint lists out = (first : Outcome) × FillRun is_reached joint (regular lists.openings) lists.asked [] first × (out ≡ and_then first (the_rest lists))
+IsOutcome joint lists out =
+    (first : Outcome) × FillRun is_reached joint (regular lists.openings) lists.asked [] first
+    × (out ≡ and_then first (the_rest lists))
 
 -- ---- the placement
 
@@ -85,7 +89,9 @@ placement_of joint puts = map (end_put puts) (openings_of joint)
 
 -- the try with this number gives the placement
 abbrev pub IsFilled : Joint → ℕ → ℕ → List Put → Type 0
-IsFilled joint seed stream placement = (puts : List Put) × IsOutcome joint (lists_of joint seed stream) (filled puts) × (placement ≡ placement_of joint puts)
+IsFilled joint seed stream placement =
+    (puts : List Put) × IsOutcome joint (lists_of joint seed stream) (filled puts)
+    × (placement ≡ placement_of joint puts)
 
 -- the try with this number ends at a copy that finds no location: its slot and its item
 abbrev pub IsStuck : Joint → ℕ → ℕ → ℕ → ℕ → Type 0

@@ -14,7 +14,15 @@ pub record Book : Type 0 where
 
 -- the hint of a team, a finder and a location
 abbrev pub hint_of : (ℕ × ℕ × ℤ) × Kept → Hint
-hint_of e = record { team = e.0.0; finder = e.0.1; location = e.0.2; bought = e.1.bought; buyer = e.1.buyer; status = e.1.status }
+hint_of e =
+    record {
+      team = e.0.0;
+      finder = e.0.1;
+      location = e.0.2;
+      bought = e.1.bought;
+      buyer = e.1.buyer;
+      status = e.1.status;
+    }
 
 abbrev pub count_or_none : Option ℕ → ℕ
 count_or_none None = 0
@@ -26,4 +34,5 @@ counted counts team slot = count_or_none (get_by (λ k. (team == k.0) && (slot =
 
 -- each slot's bought hints are counted
 abbrev pub AreCounted : {S : Type 0} → List Hint → IndexMap (ℕ × ℕ) ℕ S → Type 0
-AreCounted hints counts = (team slot : ℕ) → counted counts team slot ≡ length (bought_by hints team slot)
+AreCounted hints counts =
+    (team slot : ℕ) → counted counts team slot ≡ length (bought_by hints team slot)

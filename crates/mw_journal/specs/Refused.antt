@@ -54,7 +54,8 @@ whole_batch = refl
 pub record IsBadHeader (image : List ℕ) (at : ℕ) : Type 0 where
   pub within : at < 40
   pub before : take (min at 8) image ≡ take at magic
-  pub bad : (length image ≡ at) ⊎ ((at < 8) × (at < length image) × (slice_index image at ≢ slice_index magic at))
+  pub bad : (length image ≡ at)
+      ⊎ ((at < 8) × (at < length image) × (slice_index image at ≢ slice_index magic at))
 
 -- an image is no journal, for what stands at a place
 abbrev pub IsNotJournal : List ℕ → List ℕ → ℕ → Type 0

@@ -17,7 +17,8 @@ pub record IsStaged (image digest text body : List ℕ) (place : ℕ) : Type 0 w
 -- that text: then it stands for the text, or, where the gate is open, for the text and the batch
 abbrev pub IsSettled : List ℕ → List ℕ → List ℕ → List ℕ → Type 0
 IsSettled image digest text body =
-    ((place : ℕ) × IsShut image digest text place 0) ⊎ ((place : ℕ) × IsStaged image digest text body place)
+    ((place : ℕ) × IsShut image digest text place 0)
+    ⊎ ((place : ℕ) × IsStaged image digest text body place)
 
 -- each image of a disk stands for a text, with 0 at its first gate that isn't open, at a place
 abbrev pub AllShut : (List ℕ → Type 0) → List ℕ → List ℕ → ℕ → Type 0

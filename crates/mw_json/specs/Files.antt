@@ -32,10 +32,12 @@ FileOf grammar bytes outcome =
 abbrev pub GivesFile : {A : Type 0} → Result A Refusal → (Json → Result A Breach) → List ℕ → Type 0
 GivesFile (Ok x) grammar bytes = FileOf grammar bytes (Ok x)
 GivesFile (Err Memory) grammar bytes = Unit {0}
-GivesFile (Err (Named kind path)) grammar bytes = FileOf grammar bytes (Err record { kind = kind; path = path })
+GivesFile (Err (Named kind path)) grammar bytes =
+    FileOf grammar bytes (Err record { kind = kind; path = path })
 
 -- a file's refusal before any grammar
 abbrev pub IsUnread : List ℕ → Refusal → Type 0
 IsUnread bytes Memory = Unit {0}
 IsUnread bytes (Named kind path) =
-    (path ≡ []) × ((HasNoReading bytes × (kind ≡ NoJson)) ⊎ ((j : Json) × IsTooDeep bytes j × (kind ≡ TooDeep)))
+    (path ≡ []) × ((HasNoReading bytes × (kind ≡ NoJson))
+    ⊎ ((j : Json) × IsTooDeep bytes j × (kind ≡ TooDeep)))

@@ -48,7 +48,8 @@ other_kind (members ms) = refused WrongKind
 
 -- a whole number from low to high
 abbrev pub number_at : ℕ → ℕ → Json → Result ℕ Breach
-number_at low high (whole (pos n)) = if nat_le low n && nat_le n high then Ok n else refused WrongKind
+number_at low high (whole (pos n)) =
+    if nat_le low n && nat_le n high then Ok n else refused WrongKind
 number_at low high (whole (negsuc n)) = refused WrongKind
 number_at low high not_whole = refused NotWhole
 number_at low high null = refused WrongKind
@@ -121,7 +122,8 @@ abbrev pub member_at : List ℕ → Members → Result Json Breach
 member_at name ms = under (Name name) (found_or_missing (find_member name ms))
 
 -- what stands under a name, and how it is read
-unfoldable pub field_at : {A : Type 0} → List ℕ → (Json → Result A Breach) → Members → Result A Breach
+unfoldable pub field_at : {A : Type 0} → List ℕ → (Json → Result A Breach) → Members
+    → Result A Breach
 field_at name read ms = do
   found ← member_at name ms
   under (Name name) (read found)

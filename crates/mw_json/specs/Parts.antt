@@ -47,10 +47,12 @@ null_or_at at (many js) = there (at (many js))
 null_or_at at (members ms) = there (at (members ms))
 
 -- it may be absent
-abbrev pub read_if : {A : Type 0} → (Json → Result A Breach) → Option Json → Result (Option A) Breach
+abbrev pub read_if : {A : Type 0} → (Json → Result A Breach) → Option Json
+    → Result (Option A) Breach
 read_if at None = Ok None
 read_if at (Some j) = there (at j)
 
 -- what stands under a name, None where nothing does
-unfoldable pub field_if_at : {A : Type 0} → List ℕ → (Json → Result A Breach) → Members → Result (Option A) Breach
+unfoldable pub field_if_at : {A : Type 0} → List ℕ → (Json → Result A Breach) → Members
+    → Result (Option A) Breach
 field_if_at name at ms = read_if (λ j. under (Name name) (at j)) (find_member name ms)

@@ -9,7 +9,8 @@ IsOperation operation = IsPassed operation.value
 
 -- the members that the packet of a change has of its own
 abbrev pub set_names : List (List ℕ)
-set_names = codes "cmd" ∷ codes "key" ∷ codes "default" ∷ codes "want_reply" ∷ codes "operations" ∷ []
+set_names =
+    codes "cmd" ∷ codes "key" ∷ codes "default" ∷ codes "want_reply" ∷ codes "operations" ∷ []
 
 -- each value in it may be kept as it stands
 pub record IsSet (set : SetPacket) : Type 0 where

@@ -12,11 +12,16 @@ password_at j = do
 
 -- who may ask what is left, by its number in the protocol
 abbrev pub remaining_of : List ℕ → Result ℕ Breach
-remaining_of s = if bytes_eq s (codes "disabled") then Ok 0 else (if bytes_eq s (codes "enabled") then Ok 1 else (if bytes_eq s (codes "goal") then Ok 2 else refused WrongKind))
+remaining_of s =
+    if bytes_eq s (codes "disabled") then Ok 0
+    else (if bytes_eq s (codes "enabled") then Ok 1
+    else (if bytes_eq s (codes "goal") then Ok 2 else refused WrongKind))
 
 -- who may release or collect
 abbrev pub permission_of : List ℕ → Result ℕ Breach
-permission_of s = if bytes_eq s (codes "auto") then Ok 6 else (if bytes_eq s (codes "auto_enabled") then Ok 7 else remaining_of s)
+permission_of s =
+    if bytes_eq s (codes "auto") then Ok 6
+    else (if bytes_eq s (codes "auto_enabled") then Ok 7 else remaining_of s)
 
 unfoldable pub remaining_at : Json → Result ℕ Breach
 remaining_at j = do

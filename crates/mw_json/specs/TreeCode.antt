@@ -27,33 +27,48 @@ abbrev mutual
 
   pub members_written : Members → List Member
   members_written no_members = []
-  members_written (member k j ms) = roll-Member record { name = k; value = written j } ∷ members_written ms
+  members_written (member k j ms) = roll-Member record { name = k; value = written j }
+      ∷ members_written ms
 
 abbrev Named : Type 0
 Named = List ℕ × Json
 
-made : (name : List ℕ) (value : Tree) → member_view (roll-Member record { name = name; value = value }) ≡ (name, view value)
-made name value = fold-roll-Member Json Named tree_step member_step record { name = name; value = value }
+made : (name : List ℕ) (value : Tree)
+    → member_view (roll-Member record { name = name; value = value }) ≡ (name, view value)
+made name value =
+    fold-roll-Member Json Named tree_step member_step record { name = name; value = value }
 
 mutual
   pub stands_for_it : (j : Json) → view (written j) ≡ j
-  stands_for_it null = ap view (sym tree.rolls-Null) ∙ fold-roll-Tree Json Named tree_step member_step Tree-F.Null
-  stands_for_it (flag b) = ap view (sym (tree.rolls-Flag b)) ∙ fold-roll-Tree Json Named tree_step member_step (Tree-F.Flag b)
-  stands_for_it (whole z) = ap view (sym (tree.rolls-Whole z)) ∙ fold-roll-Tree Json Named tree_step member_step (Tree-F.Whole z)
-  stands_for_it not_whole = ap view (sym tree.rolls-NotWhole) ∙ fold-roll-Tree Json Named tree_step member_step Tree-F.NotWhole
-  stands_for_it (words s) = ap view (sym (tree.rolls-Words s)) ∙ fold-roll-Tree Json Named tree_step member_step (Tree-F.Words s)
-  stands_for_it (many js) = (ap view (sym (tree.rolls-Many (items_written js))) ∙ fold-roll-Tree Json Named tree_step member_step (Tree-F.Many (items_written js))) ∙ ap many (stand_for_items js)
-  stands_for_it (members ms) = (ap view (sym (tree.rolls-Members (members_written ms))) ∙ fold-roll-Tree Json Named tree_step member_step (Tree-F.Members (members_written ms))) ∙ ap members (stand_for_members ms)
+  stands_for_it null = ap view (sym tree.rolls-Null) ∙ fold-roll-Tree Json Named tree_step
+      member_step Tree-F.Null
+  stands_for_it (flag b) = ap view (sym (tree.rolls-Flag b)) ∙ fold-roll-Tree Json Named tree_step
+      member_step (Tree-F.Flag b)
+  stands_for_it (whole z) = ap view (sym (tree.rolls-Whole z)) ∙ fold-roll-Tree Json Named tree_step
+      member_step (Tree-F.Whole z)
+  stands_for_it not_whole = ap view (sym tree.rolls-NotWhole) ∙ fold-roll-Tree Json Named tree_step
+      member_step Tree-F.NotWhole
+  stands_for_it (words s) = ap view (sym (tree.rolls-Words s)) ∙ fold-roll-Tree Json Named tree_step
+      member_step (Tree-F.Words s)
+  stands_for_it
+      (many js) = (ap view (sym (tree.rolls-Many (items_written js))) ∙ fold-roll-Tree Json Named
+      tree_step member_step (Tree-F.Many (items_written js))) ∙ ap many (stand_for_items js)
+  stands_for_it
+      (members ms) = (ap view (sym (tree.rolls-Members (members_written ms))) ∙ fold-roll-Tree Json
+      Named tree_step member_step (Tree-F.Members (members_written ms))) ∙ ap members
+      (stand_for_members ms)
 
   pub stand_for_items : (js : Items) → items_view (items_written js) ≡ js
   stand_for_items no_items = refl
-  stand_for_items (item j js) = ap (λ x. item x (items_view (items_written js))) (stands_for_it j) ∙ ap (item j) (stand_for_items js)
+  stand_for_items (item j js) = ap (λ x. item x (items_view (items_written js))) (stands_for_it j) ∙
+      ap (item j) (stand_for_items js)
 
   pub stand_for_members : (ms : Members) → members_view (members_written ms) ≡ ms
   stand_for_members no_members = refl
   stand_for_members (member k j ms) =
       ap (λ p. member p.0 p.1 (members_view (members_written ms))) (made k (written j))
-      ∙ (ap (λ x. member k x (members_view (members_written ms))) (stands_for_it j) ∙ ap (member k j) (stand_for_members ms))
+      ∙ (ap (λ x. member k x (members_view (members_written ms))) (stands_for_it j) ∙ ap
+      (member k j) (stand_for_members ms))
 
 abbrev pub coded_json : Coded Json
 coded_json = code_by Tree row.the_row.coded written view stands_for_it

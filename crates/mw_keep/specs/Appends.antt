@@ -24,23 +24,31 @@ pub record IsBatch (risked : List (List Record)) (records batch : List Record) :
   pub among : (batch ≡ []) ⊎ (batch ≡ records) ⊎ IsAmong risked batch
 
 -- at each moment a crash leaves what is settled for the kept records and one batch
-pub record StaysSettled {D : Type 0} (moment : D → ℕ) (left_since : D → ℕ → List ℕ → Type 0) (digest : List ℕ) (kept : List Record)
+pub record StaysSettled {D : Type 0} (moment : D → ℕ) (left_since : D → ℕ → List ℕ → Type 0)
+    (digest : List ℕ) (kept : List Record)
     (risked : List (List Record)) (records : List Record) (before after : D)
     : Type 0 where
   pub batch : List Record
   pub one : IsBatch risked records batch
-  pub moments : LeavesOnly moment left_since before after (λ c. IsSettled c digest (records_bytes kept) (records_bytes batch))
+  pub moments : LeavesOnly moment left_since before after
+      (λ c. IsSettled c digest (records_bytes kept) (records_bytes batch))
 
 -- how the journal holds what, after an outcome
-abbrev pub HoldsAfter : {D : Type 0} → (D → List ℕ → Type 0) → List ℕ → List Record → ℕ → List (List Record) → List Record → Outcome → Journal D → Type 0
+abbrev pub HoldsAfter : {D : Type 0} → (D → List ℕ → Type 0) → List ℕ → List Record → ℕ
+    → List (List Record) → List Record → Outcome → Journal D → Type 0
 HoldsAfter may_leave digest kept place risked records passes j =
-    AreRecords records × Holds may_leave digest (kept ++ records) (place_then place records) (risked_then risked records) None j
-HoldsAfter may_leave digest kept place risked records lacks j = Holds may_leave digest kept place (with_risk risked records) None j
+    AreRecords records
+    × Holds may_leave digest (kept ++ records) (place_then place records)
+    (risked_then risked records) None j
+HoldsAfter may_leave digest kept place risked records lacks j =
+    Holds may_leave digest kept place (with_risk risked records) None j
 HoldsAfter may_leave digest kept place risked records (stops cause) j =
     Holds may_leave digest kept place (risked_by cause risked records) (Some cause) j
 
-pub record Appends {D : Type 0} (may_leave : D → List ℕ → Type 0) (moment : D → ℕ) (left_since : D → ℕ → List ℕ → Type 0) (faults : D → ℕ)
-    (digest : List ℕ) (kept : List Record) (place : ℕ) (risked : List (List Record)) (records : List Record)
+pub record Appends {D : Type 0} (may_leave : D → List ℕ → Type 0) (moment : D → ℕ)
+    (left_since : D → ℕ → List ℕ → Type 0) (faults : D → ℕ)
+    (digest : List ℕ) (kept : List Record) (place : ℕ) (risked : List (List Record))
+    (records : List Record)
     (before : Journal D) (result : Result (Unit {0}) AppendError) (after : Journal D)
     : Type 0 where
   pub luck : Luck
@@ -48,4 +56,5 @@ pub record Appends {D : Type 0} (may_leave : D → List ℕ → Type 0) (moment 
   pub holds : HoldsAfter may_leave digest kept place risked records (outcome_view result) after
   -- the disk's bad luck is shown by its count
   pub fault : luck ≡ faulty → faults (disk_of before) < faults (disk_of after)
-  pub settled : StaysSettled moment left_since digest kept risked records (disk_of before) (disk_of after)
+  pub settled : StaysSettled moment left_since digest kept risked records (disk_of before)
+      (disk_of after)

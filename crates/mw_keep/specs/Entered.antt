@@ -25,7 +25,8 @@ pub record IsBadRecord (seed : Seed) (text : List ℕ) (at : ℕ) : Type 0 where
   pub sound : AreSound seed before
   pub place : at ≡ length (records_bytes before)
   pub some : rest ≢ []
-  pub bad : (r : Record) (more : List ℕ) → IsRecord r → rest ≡ record_bytes r ++ more → IsFalse (is_named seed r)
+  pub bad : (r : Record) (more : List ℕ) → IsRecord r → rest ≡ record_bytes r ++ more
+      → IsFalse (is_named seed r)
 
 -- ---- one record
 
@@ -42,7 +43,8 @@ RefusesRecord seed text at (BadSeed kind path) = ⊥
 RefusesRecord seed text at DiskFault = ⊥
 RefusesRecord seed text at (NotJournal place) = ⊥
 RefusesRecord seed text at (OtherSeed found) = ⊥
-RefusesRecord seed text at (BadRecord place) = (place ≡ at) × ((r : Record) → Begins text at r → IsFalse (is_named seed r))
+RefusesRecord seed text at (BadRecord place) =
+    (place ≡ at) × ((r : Record) → Begins text at r → IsFalse (is_named seed r))
 RefusesRecord seed text at Memory = Unit {0}
 
 -- ---- all of them

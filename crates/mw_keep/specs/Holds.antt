@@ -20,13 +20,15 @@ pub record IsAmong (risked : List (List Record)) (records : List Record) : Type 
   pub same : records ≡ get_or risked number []
 
 -- it takes further batches: each image of its disk stands for the records, and has 0 at the gate at a place
-pub record IsSafe {D : Type 0} (may_leave : D → List ℕ → Type 0) (digest : List ℕ) (kept : List Record) (place : ℕ) (j : Journal D)
+pub record IsSafe {D : Type 0} (may_leave : D → List ℕ → Type 0) (digest : List ℕ)
+    (kept : List Record) (place : ℕ) (j : Journal D)
     : Type 0 where
   pub stands : StandsFor may_leave digest (records_bytes kept) j
   pub here : gate_of j ≡ place
 
 -- an append broke it: each image of its disk is settled for the records and some of those at risk
-pub record IsBroken {D : Type 0} (may_leave : D → List ℕ → Type 0) (digest : List ℕ) (kept : List Record) (risked : List (List Record))
+pub record IsBroken {D : Type 0} (may_leave : D → List ℕ → Type 0) (digest : List ℕ)
+    (kept : List Record) (risked : List (List Record))
     (stopped : Option StopCause) (j : Journal D)
     : Type 0 where
   pub broken : state_of j ≢ Whole
@@ -36,6 +38,7 @@ pub record IsBroken {D : Type 0} (may_leave : D → List ℕ → Type 0) (digest
   pub records : AreRecords batch
   pub settled : AllSettled (may_leave (disk_of j)) digest (records_bytes kept) (records_bytes batch)
 
-abbrev pub Holds : {D : Type 0} → (D → List ℕ → Type 0) → List ℕ → List Record → ℕ → List (List Record) → Option StopCause → Journal D → Type 0
+abbrev pub Holds : {D : Type 0} → (D → List ℕ → Type 0) → List ℕ → List Record → ℕ
+    → List (List Record) → Option StopCause → Journal D → Type 0
 Holds may_leave digest kept place risked stopped j =
     IsSafe may_leave digest kept place j ⊎ IsBroken may_leave digest kept risked stopped j

@@ -24,10 +24,12 @@ abbrev pub kept_disk : {D : Type 0} → KeptRoom D → D
 kept_disk k = disk_of (journal_of k)
 
 -- its room stands for the life's, its journal holds the life's, and it knows why it has stopped and how many calls it has had, up to 2^63
-pub record Keeps {D : Type 0} (may_leave : D → List ℕ → Type 0) (digest : List ℕ) (life : Life) (k : KeptRoom D) : Type 0 where
+pub record Keeps {D : Type 0} (may_leave : D → List ℕ → Type 0) (digest : List ℕ) (life : Life)
+    (k : KeptRoom D) : Type 0 where
   pub room : Stands (room_of k) life.room
   pub records : AreRecords life.room.journal
-  pub holds : Holds may_leave digest life.room.journal life.place life.risked life.stopped (journal_of k)
+  pub holds : Holds may_leave digest life.room.journal life.place life.risked life.stopped
+      (journal_of k)
   pub stopped : stopped_view k.stopped ≡ life.stopped
   pub calls : k.calls ≡ min life.calls (2 ^ 63)
 

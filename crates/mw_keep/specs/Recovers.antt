@@ -18,7 +18,8 @@ use Rattle.mw_keep.specs.declared.error.KeepError.TheVariants.{BadSeed, DiskFaul
 use Rattle.mw_keep.specs.declared.kept.KeptRoom.{KeptRoom}
 
 -- its life begins with the records for which the disk's bytes stand, its gate at their place; where each image of the disk was settled for some records and a batch, it begins with these records, or with these and the batch
-pub record Resumes {D : Type 0} (told : D → Option (List ℕ)) (may_leave : D → List ℕ → Type 0) (digest : List ℕ) (seed : Seed) (disk : D)
+pub record Resumes {D : Type 0} (told : D → Option (List ℕ)) (may_leave : D → List ℕ → Type 0)
+    (digest : List ℕ) (seed : Seed) (disk : D)
     (k : KeptRoom D)
     : Type 0 where
   pub journal : List Record
@@ -26,12 +27,14 @@ pub record Resumes {D : Type 0} (told : D → Option (List ℕ)) (may_leave : D 
   pub keeps : Keeps may_leave digest (new_life seed journal place) k
   pub sound : AreSound seed journal
   pub stands : (f : List ℕ) → told disk ≡ Some f → StandsAt f digest (records_bytes journal) place
-  pub one : (f : List ℕ) (kept batch : List Record) → told disk ≡ Some f → AreRecords kept → AreRecords batch
+  pub one : (f : List ℕ) (kept batch : List Record) → told disk ≡ Some f → AreRecords kept
+      → AreRecords batch
       → AllSettled (may_leave disk) digest (records_bytes kept) (records_bytes batch)
       → (journal ≡ kept) ⊎ (journal ≡ kept ++ batch)
 
 -- the same of a seed file's bytes
-pub record Recovers {D : Type 0} (told : D → Option (List ℕ)) (may_leave : D → List ℕ → Type 0) (file digest : List ℕ) (disk : D)
+pub record Recovers {D : Type 0} (told : D → Option (List ℕ)) (may_leave : D → List ℕ → Type 0)
+    (file digest : List ℕ) (disk : D)
     (k : KeptRoom D)
     : Type 0 where
   pub seed : Seed
@@ -42,15 +45,18 @@ pub record Recovers {D : Type 0} (told : D → Option (List ℕ)) (may_leave : D
 abbrev pub RefusesResume : Option (List ℕ) → List ℕ → Seed → ℕ → ℕ → KeepError → Type 0
 RefusesResume told digest seed before after (BadSeed kind path) = ⊥
 RefusesResume told digest seed before after DiskFault = before < after
-RefusesResume told digest seed before after (NotJournal at) = (f : List ℕ) → told ≡ Some f → IsNotJournal f digest at
-RefusesResume told digest seed before after (OtherSeed found) = (f : List ℕ) → told ≡ Some f → IsOtherSeed f digest found
+RefusesResume told digest seed before after (NotJournal at) =
+    (f : List ℕ) → told ≡ Some f → IsNotJournal f digest at
+RefusesResume told digest seed before after (OtherSeed found) =
+    (f : List ℕ) → told ≡ Some f → IsOtherSeed f digest found
 RefusesResume told digest seed before after (BadRecord at) =
     (f : List ℕ) → told ≡ Some f → (text : List ℕ) × Stands f digest text × IsBadRecord seed text at
 RefusesResume told digest seed before after Memory = Unit {0}
 
 -- the same of a seed file's bytes, which are judged first
 abbrev pub RefusesRecover : Option (List ℕ) → List ℕ → List ℕ → ℕ → ℕ → KeepError → Type 0
-RefusesRecover told file digest before after (BadSeed kind path) = SeedOf file (Err record { kind = kind; path = path })
+RefusesRecover told file digest before after (BadSeed kind path) =
+    SeedOf file (Err record { kind = kind; path = path })
 RefusesRecover told file digest before after Memory = Unit {0}
 RefusesRecover told file digest before after error =
     (seed : Seed) × SeedOf file (Ok seed) × RefusesResume told digest seed before after error

@@ -14,7 +14,8 @@ use Rattle.mw_keep.specs.declared.kept.Origin.{Origin}
 use Rattle.mw_keep.specs.declared.reply.Reply.{Reply}
 
 -- a life of these records began so, the journal's gate at a place
-pub record Began {D : Type 0} (may_leave : D → List ℕ → Type 0) (digest : List ℕ) (seed : Seed) (journal : List Record) (place : ℕ) (origin : Origin D)
+pub record Began {D : Type 0} (may_leave : D → List ℕ → Type 0) (digest : List ℕ) (seed : Seed)
+    (journal : List Record) (place : ℕ) (origin : Origin D)
     : Type 0 where
   pub room : Stands origin.room.value (replayed seed journal)
   pub records : AreRecords journal
@@ -31,19 +32,30 @@ abbrev pub Replied : Life → List (Call × Reply) → List Luck → Type 0
 Replied life [] [] = Unit {0}
 Replied life [] (l ∷ ls) = ⊥
 Replied life (c ∷ cs) [] = ⊥
-Replied life (c ∷ cs) (l ∷ ls) = (reply_view c.1 ≡ reply_to life (call_view c.0) l) × Replied (life_after life (call_view c.0) l) cs ls
+Replied life (c ∷ cs) (l ∷ ls) =
+    (reply_view c.1 ≡ reply_to life (call_view c.0) l)
+    × Replied (life_after life (call_view c.0) l) cs ls
 
 -- with some luck the calls were answered so, and the room stands for the life that they led to
-abbrev pub HasLived : {D : Type 0} → (D → List ℕ → Type 0) → KeptRoom D → List (Call × Reply) → Type 0
-HasLived may_leave k past = (digest : List ℕ) (seed : Seed) (journal : List Record) (place : ℕ) → Began may_leave digest seed journal place (origin_of k)
-    → (lucks : List Luck) × Replied (new_life seed journal place) past lucks × Keeps may_leave digest (lived (new_life seed journal place) past lucks) k
+abbrev pub HasLived : {D : Type 0} → (D → List ℕ → Type 0) → KeptRoom D → List (Call × Reply)
+    → Type 0
+HasLived may_leave k past =
+    (digest : List ℕ) (seed : Seed) (journal : List Record) (place : ℕ)
+    → Began may_leave digest seed journal place (origin_of k)
+    → (lucks : List Luck) × Replied (new_life seed journal place) past lucks
+    × Keeps may_leave digest (lived (new_life seed journal place) past lucks) k
 
 -- with some luck the calls were answered so, and with some luck this reply is due to the next one
-abbrev pub MayReplyFrom : {D : Type 0} → (D → List ℕ → Type 0) → Origin D → List (Call × Reply) → Call → Reply → Type 0
-MayReplyFrom may_leave origin past call reply = (digest : List ℕ) (seed : Seed) (journal : List Record) (place : ℕ) → Began may_leave digest seed journal place origin
+abbrev pub MayReplyFrom : {D : Type 0} → (D → List ℕ → Type 0) → Origin D → List (Call × Reply)
+    → Call → Reply → Type 0
+MayReplyFrom may_leave origin past call reply =
+    (digest : List ℕ) (seed : Seed) (journal : List Record) (place : ℕ)
+    → Began may_leave digest seed journal place origin
     → (lucks : List Luck) × (luck : Luck) × Replied (new_life seed journal place) past lucks
-    × (reply_view reply ≡ reply_to (lived (new_life seed journal place) past lucks) (call_view call) luck)
+    × (reply_view reply
+    ≡ reply_to (lived (new_life seed journal place) past lucks) (call_view call) luck)
 
-abbrev pub MayReply : {D : Type 0} → (D → List ℕ → Type 0) → Option (Origin D) → List (Call × Reply) → Call → Reply → Type 0
+abbrev pub MayReply : {D : Type 0} → (D → List ℕ → Type 0) → Option (Origin D) → List (Call × Reply)
+    → Call → Reply → Type 0
 MayReply may_leave None past call reply = ⊥
 MayReply may_leave (Some origin) past call reply = MayReplyFrom may_leave origin past call reply

@@ -22,7 +22,8 @@ pub record Client : Type 0 where
 abbrev pub given : Client → ℕ → List NetItem → Client
 given c index items =
     if index == 0 then record { list = items; asks = c.asks }
-    else (if index == length c.list then record { list = c.list ++ items; asks = c.asks } else record { list = c.list; asks = true })
+    else (if index == length c.list then record { list = c.list ++ items; asks = c.asks }
+    else record { list = c.list; asks = true })
 
 abbrev pub applied : Client → ServerPacket → Client
 applied c (received_items index items) = given c index items
@@ -60,15 +61,19 @@ pub record IsFrontOf (list : List NetItem) (c : Client) : Type 0 where
 
 -- whenever the session of a number played a slot in the life that the run comes to, its mask was this one
 abbrev pub MaskStays : Seed → List Step → ℕ → ℕ → Type 0
-MaskStays seed steps number mask = (front back : List Step) (m : Member) → steps ≡ front ++ back → IsTrue (list_all is_call back)
+MaskStays seed steps number mask =
+    (front back : List Step) (m : Member) → steps ≡ front ++ back → IsTrue (list_all is_call back)
     → member_in (life_after_all seed front).room.sessions number ≡ Some m → m.mask ≡ mask
 
 -- at a point of the life the session had another mask, or played no slot; and since then this mask, whenever it played a slot
 pub record MaskSince (seed : Seed) (front back : List Step) (number mask : ℕ) : Type 0 where
   pub calls : IsTrue (list_all is_call back)
-  pub other : (m : Member) → member_in (life_after_all seed front).room.sessions number ≡ Some m → m.mask ≡ mask → ⊥
-  pub since : (first : List Step) (s : Step) (rest : List Step) (m : Member) → back ≡ first ++ s ∷ rest
-      → member_in (life_after_all seed (front ++ first ++ s ∷ [])).room.sessions number ≡ Some m → m.mask ≡ mask
+  pub other : (m : Member) → member_in (life_after_all seed front).room.sessions number ≡ Some m
+      → m.mask ≡ mask → ⊥
+  pub since : (first : List Step) (s : Step) (rest : List Step) (m : Member)
+      → back ≡ first ++ s ∷ rest
+      → member_in (life_after_all seed (front ++ first ++ s ∷ [])).room.sessions number ≡ Some m
+      → m.mask ≡ mask
 
 abbrev pub owed_of : Option Session → List Message
 owed_of None = []
@@ -76,7 +81,8 @@ owed_of (Some s) = s.owed
 
 -- what a session was owed since a point of its life
 abbrev pub owed_since : Seed → List Step → ℕ → Session → List Message
-owed_since seed front number s = drop (length (owed_of (session_in (life_after_all seed front).room.sessions number))) s.owed
+owed_since seed front number s =
+    drop (length (owed_of (session_in (life_after_all seed front).room.sessions number))) s.owed
 
 -- whether some ReceivedItems is among them
 abbrev pub has_items : List Message → Bool
@@ -86,15 +92,24 @@ has_items (m ∷ ms) = list_any is_received_items m.packets || has_items ms
 -- a client that hears what a session is owed that plays a slot, all of it or any front, in any life of any run: it never asks for Sync, and its list is a front of the view, which is what the session's mask keeps of what its slot received, by the journal of each later point
 pub record ClientsApply : Type 0 where
   -- as long as the mask stays as it was connected, from no list on
-  pub connected : (seed : Seed) (steps : List Step) (number : ℕ) (s : Session) (m : Member) → session_in (life_after_all seed steps).room.sessions number ≡ Some s → s.member ≡ Some m
+  pub connected : (seed : Seed) (steps : List Step) (number : ℕ) (s : Session) (m : Member)
+      → session_in (life_after_all seed steps).room.sessions number ≡ Some s → s.member ≡ Some m
       → MaskStays seed steps number m.mask
-      → (count : ℕ) (more : List Step) → IsFrontOf (view seed m.mask m.team m.slot (journal_after seed (steps ++ more))) (applied_messages (having []) (take count s.owed))
+      → (count : ℕ) (more : List Step)
+      → IsFrontOf (view seed m.mask m.team m.slot (journal_after seed (steps ++ more)))
+      (applied_messages (having []) (take count s.owed))
   -- where the session isn't overrun either, who heard all that it was owed has just its view
-  pub heard : (seed : Seed) (steps : List Step) (number : ℕ) (s : Session) (m : Member) → session_in (life_after_all seed steps).room.sessions number ≡ Some s → s.member ≡ Some m
+  pub heard : (seed : Seed) (steps : List Step) (number : ℕ) (s : Session) (m : Member)
+      → session_in (life_after_all seed steps).room.sessions number ≡ Some s → s.member ≡ Some m
       → MaskStays seed steps number m.mask → IsFalse s.overrun
-      → (applied_messages (having []) s.owed).list ≡ view seed m.mask m.team m.slot (journal_after seed steps)
+      → (applied_messages (having []) s.owed).list
+      ≡ view seed m.mask m.team m.slot (journal_after seed steps)
   -- once the mask was changed, from the first ReceivedItems since then on, whatever the list was
-  pub changed : (seed : Seed) (front back : List Step) (number : ℕ) (s : Session) (m : Member) → session_in (life_after_all seed (front ++ back)).room.sessions number ≡ Some s → s.member ≡ Some m
+  pub changed : (seed : Seed) (front back : List Step) (number : ℕ) (s : Session) (m : Member)
+      → session_in (life_after_all seed (front ++ back)).room.sessions number ≡ Some s
+      → s.member ≡ Some m
       → MaskSince seed front back number m.mask
-      → (list : List NetItem) (count : ℕ) (more : List Step) → IsTrue (has_items (take count (owed_since seed front number s)))
-      → IsFrontOf (view seed m.mask m.team m.slot (journal_after seed (front ++ back ++ more))) (applied_messages (having list) (take count (owed_since seed front number s)))
+      → (list : List NetItem) (count : ℕ) (more : List Step)
+      → IsTrue (has_items (take count (owed_since seed front number s)))
+      → IsFrontOf (view seed m.mask m.team m.slot (journal_after seed (front ++ back ++ more)))
+      (applied_messages (having list) (take count (owed_since seed front number s)))

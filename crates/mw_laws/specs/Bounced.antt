@@ -16,5 +16,8 @@ is_reached seed sender b (Some m) = (m.team == sender.team) && is_named seed (na
 
 -- a Bounce of a session that plays a slot leaves the room as it is, but that all whom it reaches are told its members, the sender too if it is one of them
 abbrev pub BouncesReach : Type 0
-BouncesReach = (room : Room) (number : ℕ) (sender : Member) (b : Bounce) → member_in room.sessions number ≡ Some sender
-    → next room (sent number (bounce b)) ≡ telling_where (λ s. is_reached room.seed sender b s.member) (bounced b) room
+BouncesReach =
+    (room : Room) (number : ℕ) (sender : Member) (b : Bounce)
+    → member_in room.sessions number ≡ Some sender
+    → next room (sent number (bounce b))
+    ≡ telling_where (λ s. is_reached room.seed sender b s.member) (bounced b) room

@@ -39,5 +39,7 @@ client_list s = hear_messages [] s.owed
 -- after any turns, the client of a session that isn't overrun has in its list just what its mask keeps of what its slot received; an empty view isn't told, so where the view is empty the list may be an older one
 abbrev pub ClientsFollow : Type 0
 ClientsFollow = (seed : Seed) (turns : List Turn) (number : ℕ) (s : Session) (m : Member)
-    → session_in (room_after seed turns).sessions number ≡ Some s → s.member ≡ Some m → IsFalse s.overrun
-    → (client_list s ≡ view seed m.mask m.team m.slot (room_after seed turns).journal) ⊎ (view seed m.mask m.team m.slot (room_after seed turns).journal ≡ [])
+    → session_in (room_after seed turns).sessions number ≡ Some s → s.member ≡ Some m
+    → IsFalse s.overrun
+    → (client_list s ≡ view seed m.mask m.team m.slot (room_after seed turns).journal)
+    ⊎ (view seed m.mask m.team m.slot (room_after seed turns).journal ≡ [])

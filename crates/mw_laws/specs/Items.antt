@@ -20,7 +20,9 @@ AreDifferent a b = IsFalse (same_check a b)
 pub record NoItemTwice (seed : Seed) (journal : List Record) : Type 0 where
   pub checks : AllPairs AreDifferent (checked seed journal)
   pub items : (team slot : ℕ) → AllPairs IsElsewhere (found seed team slot journal)
-  pub received : (team slot : ℕ) → received seed team slot journal ≡ start_items (slot_of seed slot) ++ found seed team slot journal
+  pub received : (team slot : ℕ)
+      → received seed team slot journal
+      ≡ start_items (slot_of seed slot) ++ found seed team slot journal
 
 -- so it is for every journal, and so for each that a room's turns record
 abbrev pub ItemsComeOnce : Type 0

@@ -27,12 +27,16 @@ journal_after seed steps = (life_after_all seed steps).room.journal
 pub record CallKeeps (life : Life) (call : Call) (luck : Luck) : Type 0 where
   pub done : IsTrue (is_done (reply_to life call luck)) ↔ Passes life call luck
   pub room : Passes life call luck → (life_after life call luck).room ≡ room_then life.room call
-  pub records : Passes life call luck → (life_after life call luck).room.journal ≡ life.room.journal ++ records_of life.room call
+  pub records : Passes life call luck
+      → (life_after life call luck).room.journal ≡ life.room.journal ++ records_of life.room call
   pub otherwise : (Passes life call luck → ⊥) → (life_after life call luck).room ≡ life.room
 
 -- along any run, over calls and crashes, the seed stays and the journal only grows at its end: by the records of a call that passes, and by those at risk of which a crash leaves some
 pub record LivesKeep : Type 0 where
   pub calls : (life : Life) (call : Call) (luck : Luck) → CallKeeps life call luck
-  pub crashes : (life : Life) (number kept place : ℕ) → (life_anew life number kept place).room.journal ≡ life.room.journal ++ take kept (at_risk life number)
+  pub crashes : (life : Life) (number kept place : ℕ)
+      → (life_anew life number kept place).room.journal
+      ≡ life.room.journal ++ take kept (at_risk life number)
   pub seed : (seed : Seed) (steps : List Step) → (life_after_all seed steps).room.seed ≡ seed
-  pub grows : (seed : Seed) (steps more : List Step) → IsPrefix (journal_after seed steps) (journal_after seed (steps ++ more))
+  pub grows : (seed : Seed) (steps more : List Step)
+      → IsPrefix (journal_after seed steps) (journal_after seed (steps ++ more))

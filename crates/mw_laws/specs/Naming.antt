@@ -12,6 +12,9 @@ pub record NamesFit (seed : Seed) : Type 0 where
 
 -- in any life of any run of such a seed, each record of the journal names only what the seed has, and so does each that is at risk, and each that a crash then leaves
 pub record JournalsAreNamed : Type 0 where
-  pub journal : (seed : Seed) (steps : List Step) → NamesFit seed → IsTrue (are_named seed (journal_after seed steps))
-  pub risked : (seed : Seed) (steps : List Step) (number : ℕ) → NamesFit seed → IsTrue (are_named seed (at_risk (life_after_all seed steps) number))
-  pub left : (seed : Seed) (steps : List Step) (number kept : ℕ) → NamesFit seed → IsTrue (are_named seed (left_by (life_after_all seed steps) number kept))
+  pub journal : (seed : Seed) (steps : List Step) → NamesFit seed
+      → IsTrue (are_named seed (journal_after seed steps))
+  pub risked : (seed : Seed) (steps : List Step) (number : ℕ) → NamesFit seed
+      → IsTrue (are_named seed (at_risk (life_after_all seed steps) number))
+  pub left : (seed : Seed) (steps : List Step) (number kept : ℕ) → NamesFit seed
+      → IsTrue (are_named seed (left_by (life_after_all seed steps) number kept))

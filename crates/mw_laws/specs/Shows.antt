@@ -21,7 +21,11 @@ ShowsChecked seed journal m message = All (Contains (checked seed journal)) (sho
 
 -- in any life of any run, what is shown by the messages that a session was owed, and so by those that it takes, is checked by the journal of each later point of the run, in this life and in later ones
 pub record ShownIsChecked : Type 0 where
-  pub owed : (seed : Seed) (steps : List Step) (number : ℕ) (s : Session) (m : Member) → session_in (life_after_all seed steps).room.sessions number ≡ Some s → MayPlayAs m s.member
+  pub owed : (seed : Seed) (steps : List Step) (number : ℕ) (s : Session) (m : Member)
+      → session_in (life_after_all seed steps).room.sessions number ≡ Some s → MayPlayAs m s.member
       → (more : List Step) → All (ShowsChecked seed (journal_after seed (steps ++ more)) m) s.owed
-  pub taken : (seed : Seed) (steps : List Step) (number : ℕ) (m : Member) → MayPlayAs m (member_in (life_after_all seed steps).room.sessions number)
-      → (more : List Step) → All (ShowsChecked seed (journal_after seed (steps ++ more)) m) (untaken_in (life_after_all seed steps) number)
+  pub taken : (seed : Seed) (steps : List Step) (number : ℕ) (m : Member)
+      → MayPlayAs m (member_in (life_after_all seed steps).room.sessions number)
+      → (more : List Step)
+      → All (ShowsChecked seed (journal_after seed (steps ++ more)) m)
+      (untaken_in (life_after_all seed steps) number)

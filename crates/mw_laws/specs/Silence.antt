@@ -28,7 +28,8 @@ is_print (bounced b) = false
 
 -- the same member with these tags
 abbrev pub with_tags : List (List ℕ) → Member → Member
-with_tags tags m = record { team = m.team; slot = m.slot; mask = m.mask; tags = tags; keys = m.keys }
+with_tags tags m =
+    record { team = m.team; slot = m.slot; mask = m.mask; tags = tags; keys = m.keys }
 
 -- ---- any effect
 
@@ -62,15 +63,21 @@ AllNameBoth seed [] m k = Unit {0}
 AllNameBoth seed (a ∷ others) m k = NamesBoth seed a.audience m k × AllNameBoth seed others m k
 
 -- whatever the effect, a member with the tag is owed what it would be owed with any other tags, were the effect's prints left out; and beside that tag none matters
-pub record HearsLess (seed : Seed) (before later : Standing) (effect : Effect) (sends : Bool) (m : Member) (tags : List (List ℕ)) : Type 0 where
-  pub less : IsTrue (wants_no_text m) → owed seed before later effect sends (Some m) ≡ owed seed before later (without_prints effect) sends (Some (with_tags tags m))
-  pub alike : wants_no_text m ≡ wants_no_text (with_tags tags m) → owed seed before later effect sends (Some m) ≡ owed seed before later effect sends (Some (with_tags tags m))
+pub record HearsLess (seed : Seed) (before later : Standing) (effect : Effect) (sends : Bool)
+    (m : Member) (tags : List (List ℕ)) : Type 0 where
+  pub less : IsTrue (wants_no_text m)
+      → owed seed before later effect sends (Some m)
+      ≡ owed seed before later (without_prints effect) sends (Some (with_tags tags m))
+  pub alike : wants_no_text m ≡ wants_no_text (with_tags tags m)
+      → owed seed before later effect sends (Some m)
+      ≡ owed seed before later effect sends (Some (with_tags tags m))
 
 -- ---- any event
 
 -- what an event owes to a member
 abbrev pub owed_as : Room → Event → Bool → Member → List ServerPacket
-owed_as room event sends m = owed room.seed (now room) (now (next room event)) (effect_in room event) sends (Some m)
+owed_as room event sends m =
+    owed room.seed (now room) (now (next room event)) (effect_in room event) sends (Some m)
 
 -- a Bounce is for both members or for neither
 abbrev pub BouncesToBoth : Seed → Packet → Member → Member → Type 0
@@ -86,9 +93,14 @@ ReachesBoth seed (lost number) m k = Unit {0}
 -- a member with the tag is owed no print, and all else that it would be owed with any other tags, where a Bounce is for both or for neither
 pub record HearsNoText (room : Room) (event : Event) (sends : Bool) (m : Member) : Type 0 where
   pub no_print : filter is_print (owed_as room event sends m) ≡ []
-  pub all_else : (tags : List (List ℕ)) → ReachesBoth room.seed event m (with_tags tags m) → owed_as room event sends m ≡ filter (λ p. not (is_print p)) (owed_as room event sends (with_tags tags m))
+  pub all_else : (tags : List (List ℕ)) → ReachesBoth room.seed event m (with_tags tags m)
+      → owed_as room event sends m
+      ≡ filter (λ p. not (is_print p)) (owed_as room event sends (with_tags tags m))
 
 -- where what is announced names both tags or neither, by any effect; and by any event
 pub record NoTextIsTold : Type 0 where
-  pub effects : (seed : Seed) (before later : Standing) (effect : Effect) (sends : Bool) (m : Member) (tags : List (List ℕ)) → AllNameBoth seed effect.announced m (with_tags tags m) → HearsLess seed before later effect sends m tags
-  pub events : (room : Room) (event : Event) (sends : Bool) (m : Member) → IsTrue (wants_no_text m) → HearsNoText room event sends m
+  pub effects : (seed : Seed) (before later : Standing) (effect : Effect) (sends : Bool)
+      (m : Member) (tags : List (List ℕ)) → AllNameBoth seed effect.announced m (with_tags tags m)
+      → HearsLess seed before later effect sends m tags
+  pub events : (room : Room) (event : Event) (sends : Bool) (m : Member) → IsTrue (wants_no_text m)
+      → HearsNoText room event sends m

@@ -41,9 +41,11 @@ all_for_strangers m = list_all is_for_strangers m.packets
 -- in any room an event owes a session that then plays no slot only what is for such sessions, and so is all that it was owed after any turns
 pub record StrangersHear : Type 0 where
   pub events : (room : Room) (event : Event) (number : ℕ) (s : Session)
-      → session_in room.sessions number ≡ Some s → member_then room event s ≡ None → IsTrue (list_all is_for_strangers (owed_by room event s))
+      → session_in room.sessions number ≡ Some s → member_then room event s ≡ None
+      → IsTrue (list_all is_for_strangers (owed_by room event s))
   pub turns : (seed : Seed) (turns : List Turn) (number : ℕ) (s : Session)
-      → session_in (room_after seed turns).sessions number ≡ Some s → s.member ≡ None → IsTrue (list_all all_for_strangers s.owed)
+      → session_in (room_after seed turns).sessions number ≡ Some s → s.member ≡ None
+      → IsTrue (list_all all_for_strangers s.owed)
 
 -- it plays the same slot of the same team
 abbrev pub PlaysAs : Member → Option Member → Type 0
@@ -52,7 +54,8 @@ PlaysAs m member = IsSomeAnd member (λ n. (n.team ≡ m.team) × (n.slot ≡ m.
 -- from any point of any turns to any later one, a session that plays a slot plays that one as long as it is open
 abbrev pub SlotsStay : Type 0
 SlotsStay = (seed : Seed) (turns more : List Turn) (number : ℕ) (m : Member) (s : Session)
-    → member_in (room_after seed turns).sessions number ≡ Some m → session_in (room_after seed (turns ++ more)).sessions number ≡ Some s → PlaysAs m s.member
+    → member_in (room_after seed turns).sessions number ≡ Some m
+    → session_in (room_after seed (turns ++ more)).sessions number ≡ Some s → PlaysAs m s.member
 
 -- ---- by one element of a message
 
@@ -65,11 +68,13 @@ effect_by seed now members (wrong bad) = bad_effect bad
 abbrev pub owed_to_sender : Seed → List Record → List Member → Inbound → List ServerPacket
 owed_to_sender seed journal members inbound =
     let effect = effect_by seed (standing seed journal) members inbound in
-    owed seed (standing seed journal) (standing seed (journal ++ effect.records)) effect true (member_after effect true None)
+    owed seed (standing seed journal) (standing seed (journal ++ effect.records)) effect true
+    (member_after effect true None)
 
 -- the member that the session then is
 abbrev pub sender_after : Seed → List Record → List Member → Inbound → Option Member
-sender_after seed journal members inbound = member_after (effect_by seed (standing seed journal) members inbound) true None
+sender_after seed journal members inbound =
+    member_after (effect_by seed (standing seed journal) members inbound) true None
 
 abbrev pub AtMostOneForStrangers : List ServerPacket → Type 0
 AtMostOneForStrangers [] = Unit {0}
@@ -80,17 +85,25 @@ AtMostOneForStrangers (p ∷ q ∷ ps) = ⊥
 abbrev pub IsAnswerToStranger : Seed → List Record → Option Member → List ServerPacket → Type 0
 IsAnswerToStranger seed journal None packets = AtMostOneForStrangers packets
 IsAnswerToStranger seed journal (Some m) packets =
-    packets ≡ connected (connected_of seed (standing seed journal) m) ∷ items_from 0 (view seed m.mask m.team m.slot journal)
-    ++ heard_by seed (to_team m.team (joined m.team m.slot m.tags (name_of seed m.team m.slot)) ∷ []) true (Some m)
+    packets ≡ connected (connected_of seed (standing seed journal) m)
+    ∷ items_from 0 (view seed m.mask m.team m.slot journal)
+    ++ heard_by seed
+    (to_team m.team (joined m.team m.slot m.tags (name_of seed m.team m.slot)) ∷ []) true (Some m)
 
 -- what a session sends that plays no slot owes it such an answer, and records nothing
-pub record StrangerIsAnswered (seed : Seed) (journal : List Record) (members : List Member) (inbound : Inbound) : Type 0 where
-  pub answer : IsAnswerToStranger seed journal (sender_after seed journal members inbound) (owed_to_sender seed journal members inbound)
+pub record StrangerIsAnswered (seed : Seed) (journal : List Record) (members : List Member)
+    (inbound : Inbound) : Type 0 where
+  pub answer : IsAnswerToStranger seed journal (sender_after seed journal members inbound)
+      (owed_to_sender seed journal members inbound)
   pub records : (effect_by seed (standing seed journal) members inbound).records ≡ []
 
 abbrev pub StrangersAreAnswered : Type 0
-StrangersAreAnswered = (seed : Seed) (journal : List Record) (members : List Member) (inbound : Inbound) → StrangerIsAnswered seed journal members inbound
+StrangersAreAnswered =
+    (seed : Seed) (journal : List Record) (members : List Member) (inbound : Inbound)
+    → StrangerIsAnswered seed journal members inbound
 
 -- what others do owes it nothing
 abbrev pub StrangersHearNoOthers : Type 0
-StrangersHearNoOthers = (seed : Seed) (before later : Standing) (effect : Effect) → owed seed before later effect false (member_after effect false None) ≡ []
+StrangersHearNoOthers =
+    (seed : Seed) (before later : Standing) (effect : Effect)
+    → owed seed before later effect false (member_after effect false None) ≡ []

@@ -31,7 +31,11 @@ pub record Passed (seed : Seed) (steps : List Step) : Type 0 where
 -- RoomInfo, if it opens it
 abbrev pub Greets : Room → Event → ℕ → Message → Type 0
 Greets room (opened time) number message =
-    (number ≡ room.opened + 1) × (message ≡ record { packets = room_info (room_info_of room.seed time) ∷ []; carries = length room.journal })
+    (number ≡ room.opened + 1)
+    × (message ≡ record {
+      packets = room_info (room_info_of room.seed time) ∷ [];
+      carries = length room.journal;
+    })
 Greets room (sent sender packet) number message = ⊥
 Greets room (failed sender bad) number message = ⊥
 Greets room (lost sender) number message = ⊥
@@ -40,13 +44,16 @@ Greets room (lost sender) number message = ⊥
 pub record Tells (room : Room) (event : Event) (number : ℕ) (message : Message) : Type 0 where
   pub session : Session
   pub found : session_in room.sessions number ≡ Some session
-  pub is : message ≡ record { packets = owed_by room event session; carries = length (next room event).journal }
+  pub is : message
+      ≡ record { packets = owed_by room event session; carries = length (next room event).journal }
 
 abbrev pub Owes : Room → Event → ℕ → Message → Type 0
 Owes room event number message = Greets room event number message ⊎ Tells room event number message
 
 abbrev pub WasOwed : Seed → List Step → ℕ → Message → Type 0
-WasOwed seed steps number message = (point : Passed seed steps) × Owes (life_after_all seed point.before).room point.event number message
+WasOwed seed steps number message =
+    (point : Passed seed steps)
+    × Owes (life_after_all seed point.before).room point.event number message
 
 -- ---- what a session takes
 
@@ -56,35 +63,56 @@ untaken_in life number = untaken_of (session_in life.room.sessions number)
 
 -- in any life of any run, all that a session was owed, and so all that it takes, was owed to it by events that passed in this life; it takes these messages' texts, none of which carries more than the journal's length
 pub record TakenWasOwed : Type 0 where
-  pub owed : (seed : Seed) (steps : List Step) (number : ℕ) (s : Session) → session_in (life_after_all seed steps).room.sessions number ≡ Some s → All (WasOwed seed steps number) s.owed
-  pub taken : (seed : Seed) (steps : List Step) (number : ℕ) → All (WasOwed seed steps number) (untaken_in (life_after_all seed steps) number)
-  pub texts : (life : Life) (number : ℕ) (luck : Luck) (texts : List (List ℕ)) → reply_to life (takes number) luck ≡ messages texts → texts ≡ map text_of (untaken_in life number)
-  pub carries : (seed : Seed) (steps : List Step) (number : ℕ) → All (λ m. m.carries ≤ length (journal_after seed steps)) (untaken_in (life_after_all seed steps) number)
+  pub owed : (seed : Seed) (steps : List Step) (number : ℕ) (s : Session)
+      → session_in (life_after_all seed steps).room.sessions number ≡ Some s
+      → All (WasOwed seed steps number) s.owed
+  pub taken : (seed : Seed) (steps : List Step) (number : ℕ)
+      → All (WasOwed seed steps number) (untaken_in (life_after_all seed steps) number)
+  pub texts : (life : Life) (number : ℕ) (luck : Luck) (texts : List (List ℕ))
+      → reply_to life (takes number) luck ≡ messages texts
+      → texts ≡ map text_of (untaken_in life number)
+  pub carries : (seed : Seed) (steps : List Step) (number : ℕ)
+      → All (λ m. m.carries ≤ length (journal_after seed steps))
+      (untaken_in (life_after_all seed steps) number)
 
 -- ---- tails
 
 -- items from an index on that a message tells the session of a number
-pub record IsTail (seed : Seed) (steps : List Step) (number : ℕ) (message : Message) (index : ℕ) (items : List NetItem) : Type 0 where
+pub record IsTail (seed : Seed) (steps : List Step) (number : ℕ) (message : Message) (index : ℕ)
+    (items : List NetItem) : Type 0 where
   -- the event that owed the message, and the member that the session then was
   pub point : Passed seed steps
   pub told : Tells (life_after_all seed point.before).room point.event number message
   pub member : Member
-  pub plays : member_then (life_after_all seed point.before).room point.event told.session ≡ Some member
+  pub plays : member_then (life_after_all seed point.before).room point.event told.session
+      ≡ Some member
   -- they are the tail, from the index on, of its view after that event
-  pub own : items ≡ drop index (view seed member.mask member.team member.slot (journal_after seed (point.before ++ acts (happens point.event) point.luck ∷ [])))
+  pub own : items
+      ≡ drop index (view seed member.mask member.team member.slot
+      (journal_after seed (point.before ++ acts (happens point.event) point.luck ∷ [])))
   -- and stand at the index in its view by the journal of each later point of the run, in this life and in later ones
-  pub last : (more : List Step) → items ≡ take (length items) (drop index (view seed member.mask member.team member.slot (journal_after seed (steps ++ more))))
+  pub last : (more : List Step)
+      → items ≡ take (length items)
+      (drop index (view seed member.mask member.team member.slot
+      (journal_after seed (steps ++ more))))
 
 -- so it is for each ReceivedItems of a message
 abbrev pub AreTails : Seed → List Step → ℕ → Message → Type 0
-AreTails seed steps number message = (index : ℕ) (items : List NetItem) → Contains message.packets (received_items index items) → IsTail seed steps number message index items
+AreTails seed steps number message =
+    (index : ℕ) (items : List NetItem) → Contains message.packets (received_items index items)
+    → IsTail seed steps number message index items
 
 -- the items that an event owes which passes are such tails, and so are those of each message that a session takes, in any life of any run
 pub record TailsOfTheLastView : Type 0 where
   -- to a session that is open before it, and then this member: by the journal of each later point
-  pub owed : (seed : Seed) (before more : List Step) (event : Event) (luck : Luck) (number : ℕ) (s : Session) (m : Member) (index : ℕ) (items : List NetItem)
+  pub owed : (seed : Seed) (before more : List Step) (event : Event) (luck : Luck) (number : ℕ)
+      (s : Session) (m : Member) (index : ℕ) (items : List NetItem)
       → Passes (life_after_all seed before) (happens event) luck
-      → session_in (life_after_all seed before).room.sessions number ≡ Some s → member_then (life_after_all seed before).room event s ≡ Some m
+      → session_in (life_after_all seed before).room.sessions number ≡ Some s
+      → member_then (life_after_all seed before).room event s ≡ Some m
       → Contains (owed_by (life_after_all seed before).room event s) (received_items index items)
-      → items ≡ take (length items) (drop index (view seed m.mask m.team m.slot (journal_after seed (before ++ acts (happens event) luck ∷ more))))
-  pub taken : (seed : Seed) (steps : List Step) (number : ℕ) → All (AreTails seed steps number) (untaken_in (life_after_all seed steps) number)
+      → items ≡ take (length items)
+      (drop index (view seed m.mask m.team m.slot
+      (journal_after seed (before ++ acts (happens event) luck ∷ more))))
+  pub taken : (seed : Seed) (steps : List Step) (number : ℕ)
+      → All (AreTails seed steps number) (untaken_in (life_after_all seed steps) number)

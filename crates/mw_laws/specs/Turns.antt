@@ -45,4 +45,5 @@ member_then room event s = member_after (effect_in room event) (is_of event s.nu
 -- the packets that an event owes to a session that is open before and after it
 abbrev pub owed_by : Room → Event → Session → List ServerPacket
 owed_by room event s =
-    owed room.seed (now room) (now (next room event)) (effect_in room event) (is_of event s.number) (member_then room event s)
+    owed room.seed (now room) (now (next room event)) (effect_in room event) (is_of event s.number)
+    (member_then room event s)

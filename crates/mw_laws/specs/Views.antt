@@ -16,9 +16,11 @@ use Rattle.mw_laws.specs.Turns.{Turn, room_after, now, member_then, owed_by}
 
 -- through one mask, what a slot received only grows, at its end: as a journal does, and from any point of any turns to any later one
 pub record ViewsGrow : Type 0 where
-  pub journals : (seed : Seed) (mask team slot : ℕ) (journal more : List Record) → IsPrefix (view seed mask team slot journal) (view seed mask team slot (journal ++ more))
+  pub journals : (seed : Seed) (mask team slot : ℕ) (journal more : List Record)
+      → IsPrefix (view seed mask team slot journal) (view seed mask team slot (journal ++ more))
   pub turns : (seed : Seed) (mask team slot : ℕ) (turns more : List Turn)
-      → IsPrefix (view seed mask team slot (room_after seed turns).journal) (view seed mask team slot (room_after seed (turns ++ more)).journal)
+      → IsPrefix (view seed mask team slot (room_after seed turns).journal)
+      (view seed mask team slot (room_after seed (turns ++ more)).journal)
 
 -- ---- what an event owes of them
 
@@ -62,11 +64,17 @@ items_told room event s = filter is_received_items (owed_by room event s)
 
 -- who is this member after an event is told of its whole view from index 0 where that is asked for, and else of what the view grew by, from its length before; of nothing where that is empty
 pub record IsToldItems (room : Room) (event : Event) (s : Session) (m : Member) : Type 0 where
-  pub whole : IsTrue (asks_by room event s) → items_told room event s ≡ items_from 0 (view_then room event m)
-  pub tail : IsFalse (asks_by room event s) → items_told room event s ≡ items_from (length (view_before room m)) (drop (length (view_before room m)) (view_then room event m))
-  pub grown : view_before room m ++ drop (length (view_before room m)) (view_then room event m) ≡ view_then room event m
+  pub whole : IsTrue (asks_by room event s)
+      → items_told room event s ≡ items_from 0 (view_then room event m)
+  pub tail : IsFalse (asks_by room event s)
+      → items_told room event s
+      ≡ items_from (length (view_before room m))
+      (drop (length (view_before room m)) (view_then room event m))
+  pub grown : view_before room m ++ drop (length (view_before room m)) (view_then room event m)
+      ≡ view_then room event m
 
 -- so it is in every room, for each session that is open in it
 abbrev pub WholeViewsAreOwed : Type 0
 WholeViewsAreOwed = (room : Room) (event : Event) (number : ℕ) (s : Session) (m : Member)
-    → session_in room.sessions number ≡ Some s → member_then room event s ≡ Some m → IsToldItems room event s m
+    → session_in room.sessions number ≡ Some s → member_then room event s ≡ Some m
+    → IsToldItems room event s m

@@ -25,11 +25,17 @@ becoming number m room = record {
 -- who watches a key from when on
 pub record WatchersStay : Type 0 where
   -- a SetNotify of a session that plays a slot makes it watch more keys, and changes nothing else
-  pub asked : (room : Room) (number : ℕ) (m : Member) (keys : List (List ℕ)) → member_in room.sessions number ≡ Some m
-      → next room (sent number (set_notify keys)) ≡ becoming number (with_keys (watched m.keys keys) m) room
+  pub asked : (room : Room) (number : ℕ) (m : Member) (keys : List (List ℕ))
+      → member_in room.sessions number ≡ Some m
+      → next room (sent number (set_notify keys))
+      ≡ becoming number (with_keys (watched m.keys keys) m) room
   -- each key that it names is watched then, unless the key is read alone, where there are 1,024 at most with those that were watched before
-  pub given : (before keys : List (List ℕ)) (key : List ℕ) → IsTrue (has_text keys key) → IsFalse (is_private key) → length before + length keys ≤ 1024 → IsTrue (has_text (watched before keys) key)
+  pub given : (before keys : List (List ℕ)) (key : List ℕ) → IsTrue (has_text keys key)
+      → IsFalse (is_private key) → length before + length keys ≤ 1024
+      → IsTrue (has_text (watched before keys) key)
   -- from any point of any turns to any later one, a session watches a key that it watched as long as it is open
-  pub stay : (seed : Seed) (turns more : List Turn) (number : ℕ) (m : Member) (s : Session) (key : List ℕ)
+  pub stay : (seed : Seed) (turns more : List Turn) (number : ℕ) (m : Member) (s : Session)
+      (key : List ℕ)
       → member_in (room_after seed turns).sessions number ≡ Some m → IsTrue (has_text m.keys key)
-      → session_in (room_after seed (turns ++ more)).sessions number ≡ Some s → IsTrue (watches key s.member)
+      → session_in (room_after seed (turns ++ more)).sessions number ≡ Some s
+      → IsTrue (watches key s.member)

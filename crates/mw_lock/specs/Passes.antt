@@ -23,24 +23,29 @@ numbers v = (v.number, v.own) ∷ v.ended
 
 -- the first pass of a lock
 abbrev pub first_pass : {C R B : Type 0} → TableId → B → Known C R B
-first_pass lock b = record { lock = lock; number = 0; seen = []; own = []; ended = []; base = b; counts = [] }
+first_pass lock b =
+    record { lock = lock; number = 0; seen = []; own = []; ended = []; base = b; counts = [] }
 
 module _ {C R B : Type 0} where
   -- a pass with a new number, no calls and no ended passes, which has seen what v has
   abbrev pub IsNewBeside : Known C R B → Known C R B → Type 0
-  IsNewBeside v w = (w ≡ record v { number = w.number; own = []; ended = []; counts = [] }) × Each (λ x. w.number ≢ x.0) (numbers v)
+  IsNewBeside v w = (w ≡ record v { number = w.number; own = []; ended = []; counts = [] })
+      × Each (λ x. w.number ≢ x.0) (numbers v)
 
   -- the pass v after the pass o met in it
   abbrev pub Meets : Known C R B → Known C R B → Known C R B → Type 0
-  Meets v o w = (w ≡ record v { seen = w.seen; ended = numbers o ++ v.ended }) × IsPrefix v.seen w.seen × IsPrefix o.seen w.seen
+  Meets v o w = (w ≡ record v { seen = w.seen; ended = numbers o ++ v.ended })
+      × IsPrefix v.seen w.seen × IsPrefix o.seen w.seen
 
   -- The pass counted all numbers that were given, of which `out` are none of those that it stands for. Else it is as before.
   abbrev pub Counts : Known C R B → Known C R B → ℕ → Type 0
-  Counts v w out = (given : ℕ) × (w ≡ record v { counts = given ∷ v.counts }) × (out + length (numbers v) ≡ given)
+  Counts v w out = (given : ℕ) × (w ≡ record v { counts = given ∷ v.counts })
+      × (out + length (numbers v) ≡ given)
 
   -- what the pass has seen are the calls of the numbers that it stands for, and no others
   abbrev pub IsWhole : Known C R B → Type 0
-  IsWhole v = Each (λ e. Has e.by (numbers v)) v.seen × Each (λ x. calls_by x.0 v.seen ≡ x.1) (numbers v)
+  IsWhole v = Each (λ e. Has e.by (numbers v)) v.seen
+      × Each (λ x. calls_by x.0 v.seen ≡ x.1) (numbers v)
 
 module _ {C R B : Type 0} (replies : B → List (C × R) → C → R → Type 0) where
   -- what was seen is legal, and has just the pass's own calls under its number
@@ -50,4 +55,7 @@ module _ {C R B : Type 0} (replies : B → List (C × R) → C → R → Type 0)
   -- After what was seen, and then `between`, the reply is one that may be given. The call ends what is now seen, and the pass's own calls.
   abbrev pub Extends : Known C R B → C → R → Known C R B → Type 0
   Extends v c r w = (between : List (Entry C R)) × replies v.base (events (v.seen ++ between)) c r
-      × (w ≡ record v { seen = (v.seen ++ between) ++ entry v.number (c, r) ∷ []; own = v.own ++ (c, r) ∷ [] })
+      × (w ≡ record v {
+        seen = (v.seen ++ between) ++ entry v.number (c, r) ∷ [];
+        own = v.own ++ (c, r) ∷ [];
+      })

@@ -12,4 +12,5 @@ pub record IsPassed (j : Json) : Type 0 where
 -- members in ascending byte order of their names, none of which is among these
 abbrev pub AreFurther : List (List ℕ) → Members → Type 0
 AreFurther names no_members = Unit {0}
-AreFurther names (member k j ms) = (has_text names k ≡ false) × IsPassed j × ComeAfter k ms × AreFurther names ms
+AreFurther names (member k j ms) =
+    (has_text names k ≡ false) × IsPassed j × ComeAfter k ms × AreFurther names ms

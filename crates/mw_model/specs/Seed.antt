@@ -62,7 +62,8 @@ slot_of seed (suc before) = slice_get seed.slots before
 -- what stands at a location of a slot
 abbrev pub held_among : List Held → ℕ → ℤ → Option Held
 held_among [] slot location = None
-held_among (h ∷ hs) slot location = if (h.slot == slot) && int_eq h.location location then Some h else held_among hs slot location
+held_among (h ∷ hs) slot location =
+    if (h.slot == slot) && int_eq h.location location then Some h else held_among hs slot location
 
 abbrev pub held_at : Seed → ℕ → ℤ → Option Held
 held_at seed slot location = held_among seed.locations slot location

@@ -11,7 +11,9 @@ items_of (j ∷ js) = item j (items_of js)
 -- a member more, at its place in byte order
 abbrev pub put_member : List ℕ → Json → Members → Members
 put_member name j no_members = member name j no_members
-put_member name j (member other k ms) = if is_lt (slice_cmp nat_cmp name other) then member name j (member other k ms) else member other k (put_member name j ms)
+put_member name j (member other k ms) =
+    if is_lt (slice_cmp nat_cmp name other) then member name j (member other k ms)
+    else member other k (put_member name j ms)
 
 abbrev pub text_json : List ℕ → Json
 text_json s = words s

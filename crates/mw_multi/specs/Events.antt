@@ -13,7 +13,8 @@ event_at number place (Some event) = record { place = place; receiver = number; 
 -- the events of these locations, the first of which stands at this place
 abbrev pub events_among : ℕ → ℕ → List Location → List Put
 events_among number place [] = []
-events_among number place (l ∷ ls) = event_at number place l.event ++ events_among number (suc place) ls
+events_among number place (l ∷ ls) =
+    event_at number place l.event ++ events_among number (suc place) ls
 
 abbrev pub slot_events : ℕ → Slot → List Put
 slot_events number s = events_among number (location_place s 0) s.world.locations

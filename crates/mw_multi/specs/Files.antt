@@ -24,7 +24,18 @@ world_files players = files_with [] players.players
 
 -- empty tables, which stand past the end
 abbrev pub no_world : World
-no_world = record { game = []; origin = 0; regions = []; entrances = []; locations = []; items = []; pool = []; filler = 0; goal = always }
+no_world =
+    record {
+      game = [];
+      origin = 0;
+      regions = [];
+      entrances = [];
+      locations = [];
+      items = [];
+      pool = [];
+      filler = 0;
+      goal = always;
+    }
 
 abbrev pub world_at : List World → Option ℕ → World
 world_at worlds None = no_world

@@ -5,7 +5,8 @@ use Rattle.std.specs.Ordering.{int_eq}
 -- where a name first stands
 abbrev pub index_of_name : List (List ℕ) → List ℕ → Option ℕ
 index_of_name [] name = None
-index_of_name (n ∷ ns) name = if bytes_eq n name then Some 0 else option_map suc (index_of_name ns name)
+index_of_name (n ∷ ns) name =
+    if bytes_eq n name then Some 0 else option_map suc (index_of_name ns name)
 
 -- where an id first stands, of those that there are
 abbrev pub index_of_id : List (Option ℤ) → ℤ → Option ℕ

@@ -40,7 +40,9 @@ item_total slots = sum_by slot_items slots
 -- each slot's numbers begin where those of the slot before end, the first slot's with these
 abbrev pub AreNumbered : ℕ → ℕ → List Slot → Type 0
 AreNumbered place item [] = Unit {0}
-AreNumbered place item (s ∷ ss) = (s.first_place ≡ place) × (s.first_item ≡ item) × AreNumbered (place + slot_places s) (item + slot_items s) ss
+AreNumbered place item (s ∷ ss) =
+    (s.first_place ≡ place) × (s.first_item ≡ item)
+    × AreNumbered (place + slot_places s) (item + slot_items s) ss
 
 -- an item of these, some times
 abbrev pub StartFits : List Item → PoolEntry → Type 0

@@ -13,7 +13,8 @@ use Rattle.mw_multi.specs.declared.refusal.JointRefusal.{JointRefusal}
 use Rattle.mw_multi.specs.declared.refusal.JointRefusal.TheVariants.{GameTwice, UnknownName, TooManyPlaces, TooMuchText, Memory}
 
 infixl 10 ◌>>=◌
-abbrev pub ◌>>=◌ : {A B : Type 0} → Result A JointRefusal → (A → Result B JointRefusal) → Result B JointRefusal
+abbrev pub ◌>>=◌ : {A B : Type 0} → Result A JointRefusal → (A → Result B JointRefusal)
+    → Result B JointRefusal
 (Ok x) >>= f = f x
 (Err e) >>= f = Err e
 
@@ -22,7 +23,8 @@ abbrev pub Check : Type 0
 Check = Result (Unit {0}) JointRefusal
 
 -- the answer, seen by view, is this one, unless memory ran out
-abbrev pub GivesBy : {X A : Type 0} → (X → A) → Result X JointRefusal → Result A JointRefusal → Type 0
+abbrev pub GivesBy : {X A : Type 0} → (X → A) → Result X JointRefusal → Result A JointRefusal
+    → Type 0
 GivesBy view (Ok x) answer = answer ≡ Ok (view x)
 GivesBy view (Err e) answer = e ≢ Memory → answer ≡ Err e
 
@@ -38,7 +40,8 @@ has_game worlds game = list_any (λ w. bytes_eq w.game game) worlds
 -- the game of each world differs from those of the worlds before it; the first of these stands at this index
 abbrev pub games_differ : List World → ℕ → List World → Check
 games_differ before n [] = Ok tt
-games_differ before n (w ∷ ws) = if has_game before w.game then Err (GameTwice n) else games_differ (before ++ w ∷ []) (n + 1) ws
+games_differ before n (w ∷ ws) =
+    if has_game before w.game then Err (GameTwice n) else games_differ (before ++ w ∷ []) (n + 1) ws
 
 -- ---- options
 
@@ -48,7 +51,8 @@ known slot option place None = Err (UnknownName slot option place)
 known slot option place (Some index) = Ok index
 
 -- the index of the label that has the name
-unfoldable pub label_named : ℕ → OptionName → List (Option (List ℕ)) → ℕ → List ℕ → Result ℕ JointRefusal
+unfoldable pub label_named : ℕ → OptionName → List (Option (List ℕ)) → ℕ → List ℕ
+    → Result ℕ JointRefusal
 label_named slot option labels place name = known slot option place (index_of labels name)
 
 -- each of the names is one of the labels; the first of them stands at this place
@@ -59,19 +63,22 @@ all_known slot option labels place (n ∷ ns) = do
   all_known slot option labels (place + 1) ns
 
 -- an option that lists names: for each label, whether it is listed
-unfoldable pub flags_option : ℕ → OptionName → List (Option (List ℕ)) → List (List ℕ) → Result (List Bool) JointRefusal
+unfoldable pub flags_option : ℕ → OptionName → List (Option (List ℕ)) → List (List ℕ)
+    → Result (List Bool) JointRefusal
 flags_option slot option labels names = do
   judged ← all_known slot option labels 0 names
   Ok (flags_of labels names)
 
 -- so many of an item to begin with
-unfoldable pub start_item : ℕ → List (Option (List ℕ)) → ℕ → StartEntry → Result PoolEntry JointRefusal
+unfoldable pub start_item : ℕ → List (Option (List ℕ)) → ℕ → StartEntry
+    → Result PoolEntry JointRefusal
 start_item slot labels place s = do
   index ← label_named slot StartInventory labels place s.name
   Ok record { item = index; count = s.count }
 
 -- the items to begin with, the first of which stands at this place
-abbrev pub start_option : ℕ → List (Option (List ℕ)) → ℕ → List StartEntry → Result (List PoolEntry) JointRefusal
+abbrev pub start_option : ℕ → List (Option (List ℕ)) → ℕ → List StartEntry
+    → Result (List PoolEntry) JointRefusal
 start_option slot labels place [] = Ok []
 start_option slot labels place (s ∷ ss) = do
   first ← start_item slot labels place s
@@ -85,8 +92,10 @@ unfoldable pub slot_of : ℕ → Player → World → ℕ → ℕ → Result Slo
 slot_of slot p w place item = do
   local_items ← flags_option slot LocalItems (item_labels w.items) p.options.local_items
   non_local_items ← flags_option slot NonLocalItems (item_labels w.items) p.options.non_local_items
-  exclude_locations ← flags_option slot ExcludeLocations (location_labels w.locations) p.options.exclude_locations
-  priority_locations ← flags_option slot PriorityLocations (location_labels w.locations) p.options.priority_locations
+  exclude_locations ← flags_option slot ExcludeLocations (location_labels w.locations)
+      p.options.exclude_locations
+  priority_locations ← flags_option slot PriorityLocations (location_labels w.locations)
+      p.options.priority_locations
   start ← start_option slot (item_labels w.items) 0 p.options.start_inventory
   Ok record {
     names = p.names;
@@ -105,7 +114,8 @@ abbrev pub slots_from : (List ℕ → World) → ℕ → ℕ → ℕ → List Pl
 slots_from named slot place item [] = Ok []
 slots_from named slot place item (p ∷ ps) = do
   first ← slot_of slot p (named p.world) place item
-  others ← slots_from named (slot + 1) (place + place_count (named p.world)) (item + length (named p.world).items) ps
+  others ← slots_from named (slot + 1) (place + place_count (named p.world))
+      (item + length (named p.world).items) ps
   Ok (first ∷ others)
 
 -- ---- limits
@@ -116,7 +126,9 @@ few_places have = if nat_le have 200000 then Ok tt else Err (TooManyPlaces have)
 
 -- the names that a world's tables hold
 abbrev pub world_names : World → List (List ℕ)
-world_names w = w.game ∷ (w.regions ++ (map item_name w.items ++ (map entrance_name w.entrances ++ map location_name w.locations)))
+world_names w =
+    w.game ∷ (w.regions
+    ++ (map item_name w.items ++ (map entrance_name w.entrances ++ map location_name w.locations)))
 
 -- a name's bytes, and 24 more
 abbrev pub name_text : List ℕ → ℕ

@@ -34,12 +34,16 @@ site_of number l = record { slot = number; location = l }
 
 -- the location at a place that counts from the slot's first; none for a region
 abbrev pub site_in : ℕ → World → ℕ → Option Site
-site_in number w place = if nat_lt place (length w.regions) then None else option_map (site_of number) (slice_get w.locations (place - length w.regions))
+site_in number w place =
+    if nat_lt place (length w.regions) then None
+    else option_map (site_of number) (slice_get w.locations (place - length w.regions))
 
 -- the location at a place that counts from the first of these slots, which has this number; none for a region and past the end
 abbrev pub site_from : ℕ → List Slot → ℕ → Option Site
 site_from number [] place = None
-site_from number (s ∷ ss) place = if nat_lt place (slot_places s) then site_in number s.world place else site_from (number + 1) ss (place - slot_places s)
+site_from number (s ∷ ss) place =
+    if nat_lt place (slot_places s) then site_in number s.world place
+    else site_from (number + 1) ss (place - slot_places s)
 
 -- the location at a place
 abbrev pub site_at : List Slot → ℕ → Option Site

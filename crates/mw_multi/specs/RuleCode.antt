@@ -35,12 +35,15 @@ mutual
   stands_for_it (meaning.has_any is) = view_of_has_any is
   stands_for_it (meaning.has_count is n) = view_of_count is n
   stands_for_it (meaning.can_reach p) = view_of_can_reach p
-  stands_for_it (meaning.all_of rs) = view_of_and (all_written rs) ∙ ap meaning.all_of (stand_for_them rs)
-  stands_for_it (meaning.some_of rs) = view_of_or (all_written rs) ∙ ap meaning.some_of (stand_for_them rs)
+  stands_for_it (meaning.all_of rs) = view_of_and (all_written rs) ∙ ap meaning.all_of
+      (stand_for_them rs)
+  stands_for_it (meaning.some_of rs) = view_of_or (all_written rs) ∙ ap meaning.some_of
+      (stand_for_them rs)
 
   pub stand_for_them : (rs : meaning.Rules) → rules_view (all_written rs) ≡ rs
   stand_for_them meaning.no_rules = refl
-  stand_for_them (meaning.a_rule r rs) = ap (λ x. meaning.a_rule x (rules_view (all_written rs))) (stands_for_it r) ∙ ap (meaning.a_rule r) (stand_for_them rs)
+  stand_for_them (meaning.a_rule r rs) = ap (λ x. meaning.a_rule x (rules_view (all_written rs)))
+      (stands_for_it r) ∙ ap (meaning.a_rule r) (stand_for_them rs)
 
 abbrev pub coded_rule : Coded meaning.Rule
 coded_rule = code_by Rule row.the_row.coded written view stands_for_it

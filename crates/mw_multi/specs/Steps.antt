@@ -14,7 +14,14 @@ pub record Step : Type 0 where
 
 -- a step into a place of the slot
 abbrev pub step_into : Slot → Option ℕ → ℕ → Rule → Step
-step_into slot from to rule = record { from = from; to = slot.first_place + to; rule = rule; first_place = slot.first_place; first_item = slot.first_item }
+step_into slot from to rule =
+    record {
+      from = from;
+      to = slot.first_place + to;
+      rule = rule;
+      first_place = slot.first_place;
+      first_item = slot.first_item;
+    }
 
 -- the number of a region, and of a location
 abbrev pub region_place : Slot → ℕ → ℕ
@@ -31,7 +38,8 @@ abbrev pub entrance_step : Slot → Entrance → Step
 entrance_step slot e = step_into slot (Some (region_place slot e.from)) e.to e.rule
 
 abbrev pub location_step : Slot → ℕ → Location → Step
-location_step slot n l = step_into slot (Some (region_place slot l.region)) (length slot.world.regions + n) l.rule
+location_step slot n l =
+    step_into slot (Some (region_place slot l.region)) (length slot.world.regions + n) l.rule
 
 -- the first of these locations has this index
 abbrev pub location_steps : Slot → ℕ → List Location → List Step
@@ -39,7 +47,9 @@ location_steps slot n [] = []
 location_steps slot n (l ∷ ls) = location_step slot n l ∷ location_steps slot (suc n) ls
 
 abbrev pub slot_steps : Slot → List Step
-slot_steps slot = origin_step slot ∷ (map (entrance_step slot) slot.world.entrances ++ location_steps slot 0 slot.world.locations)
+slot_steps slot =
+    origin_step slot
+    ∷ (map (entrance_step slot) slot.world.entrances ++ location_steps slot 0 slot.world.locations)
 
 -- the steps of all slots
 abbrev pub steps_of : Joint → List Step

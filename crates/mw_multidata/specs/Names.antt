@@ -69,7 +69,8 @@ names_differ before i (n ∷ ns) = do
 abbrev pub start_named : Game → ℕ → List StartItem → Check
 start_named game i [] = Ok tt
 start_named game i (s ∷ ss) = do
-  there ← under (Index i) (under (Index 0) (demand UnknownName (has_id game.item_name_to_id s.item)))
+  there ← under (Index i)
+      (under (Index 0) (demand UnknownName (has_id game.item_name_to_id s.item)))
   start_named game (i + 1) ss
 
 -- the names of all slots, in order
@@ -103,7 +104,8 @@ played_by played (suc before) = slice_get played before
 -- by slot, then by location
 abbrev pub comes_after : Option Held → Held → Bool
 comes_after None h = true
-comes_after (Some before) h = nat_lt before.slot h.slot || ((before.slot == h.slot) && int_lt before.location h.location)
+comes_after (Some before) h =
+    nat_lt before.slot h.slot || ((before.slot == h.slot) && int_lt before.location h.location)
 
 -- the receiver is judged before the item that it receives
 unfoldable pub held_named : List Game → Option Held → Held → Check

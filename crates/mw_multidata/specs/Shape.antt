@@ -20,7 +20,14 @@ server_at j = do
   release ← field_at (codes "release") permission_at ms
   collect ← field_at (codes "collect") permission_at ms
   remaining ← field_at (codes "remaining") remaining_at ms
-  Ok record { password = password; hint_cost = hint_cost; location_check_points = points; release = release; collect = collect; remaining = remaining }
+  Ok record {
+    password = password;
+    hint_cost = hint_cost;
+    location_check_points = points;
+    release = release;
+    collect = collect;
+    remaining = remaining;
+  }
 
 -- ---- the games
 
@@ -141,7 +148,15 @@ members_at ms = do
   slots ← field_at (codes "slots") (slots_at teams) ms
   locations ← field_at (codes "locations") (list_of_at 16777216 held_at) ms
   spheres ← field_at (codes "spheres") spheres_at ms
-  Ok record { seed_name = seed_name; teams = teams; server = server; games = games; slots = slots; locations = locations; spheres = spheres }
+  Ok record {
+    seed_name = seed_name;
+    teams = teams;
+    server = server;
+    games = games;
+    slots = slots;
+    locations = locations;
+    spheres = spheres;
+  }
 
 unfoldable pub shape_at : Json → Result Seed Breach
 shape_at j = do

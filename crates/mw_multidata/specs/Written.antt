@@ -12,7 +12,10 @@ number_json n = whole (pos n)
 
 -- the word of a permission, by its number in the protocol
 abbrev pub permission_word : ℕ → List ℕ
-permission_word n = if n == 0 then codes "disabled" else (if n == 1 then codes "enabled" else (if n == 2 then codes "goal" else (if n == 6 then codes "auto" else codes "auto_enabled")))
+permission_word n =
+    if n == 0 then codes "disabled"
+    else (if n == 1 then codes "enabled"
+    else (if n == 2 then codes "goal" else (if n == 6 then codes "auto" else codes "auto_enabled")))
 
 abbrev pub permission_json : ℕ → Json
 permission_json n = words (permission_word n)
@@ -46,7 +49,10 @@ slot_json s =
 
 -- a location: the slot that finds it, the location, the item there, the slot that receives it, its class
 abbrev pub held_json : Held → Json
-held_json h = many (items_of (number_json h.slot ∷ whole h.location ∷ whole h.item ∷ number_json h.receiver ∷ number_json h.flags ∷ []))
+held_json h =
+    many (items_of
+    (number_json h.slot ∷ whole h.location ∷ whole h.item ∷ number_json h.receiver
+    ∷ number_json h.flags ∷ []))
 
 -- a location in a sphere: its slot, its index
 abbrev pub spot_json : Spot → Json

@@ -17,8 +17,10 @@ Post = ℕ → Bor (List ℕ) → Bor (List Bool) → Bool → Type 0
 
 -- it may be called with this number and any counts and flags that the rule is within, and returns whether the rule holds
 pub record Answers (pre : Pre) (post : Post) (number : ℕ) (rule : Rule) : Type 0 where
-  pub callable : (counts : Bor (List ℕ)) (places : Bor (List Bool)) → IsWithin (length counts.now) (length places.now) rule → pre number counts places
-  pub answer : (counts : Bor (List ℕ)) (places : Bor (List Bool)) (answer : Bool) → IsWithin (length counts.now) (length places.now) rule → post number counts places answer
+  pub callable : (counts : Bor (List ℕ)) (places : Bor (List Bool))
+      → IsWithin (length counts.now) (length places.now) rule → pre number counts places
+  pub answer : (counts : Bor (List ℕ)) (places : Bor (List Bool)) (answer : Bool)
+      → IsWithin (length counts.now) (length places.now) rule → post number counts places answer
       → answer ≡ holds rule (bag_of counts.now) (places_of places.now)
 
 -- the same of each of these rules by its number, the first of which is this one

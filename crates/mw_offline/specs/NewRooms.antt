@@ -92,20 +92,23 @@ abbrev pub room_text : List ℕ
 room_text = codes "room made\n"
 
 -- the journal's file was read at most, and nothing was put
-pub record NoRoom (files : FilesAround) (room : RoomFiles) (old new : Option (List ℕ)) : Type 0 where
-  pub journal : IsOnlyRead files room.journal
-  pub put : Keeps old new
+pub record NoRoom (files : FilesAround) (room : RoomFiles) (old new : Option (List ℕ)) : Type 0
+  where
+    pub journal : IsOnlyRead files room.journal
+    pub put : Keeps old new
 
 -- the seed file is accepted, and nothing was put; or the room was made, and a front of its text was
 -- put
-pub record MakesSome (files : FilesAround) (room : RoomFiles) (old new : Option (List ℕ)) : Type 0 where
-  pub accepted : HasSeed files room
-  pub left : Keeps old new ⊎ (IsRoom files room × PutsFront old new room_text)
+pub record MakesSome (files : FilesAround) (room : RoomFiles) (old new : Option (List ℕ)) : Type 0
+  where
+    pub accepted : HasSeed files room
+    pub left : Keeps old new ⊎ (IsRoom files room × PutsFront old new room_text)
 
 -- the room was made, and just its text was put
-pub record MakesRoom (files : FilesAround) (room : RoomFiles) (old new : Option (List ℕ)) : Type 0 where
-  pub made : IsRoom files room
-  pub put : Appends old new room_text
+pub record MakesRoom (files : FilesAround) (room : RoomFiles) (old new : Option (List ℕ)) : Type 0
+  where
+    pub made : IsRoom files room
+    pub put : Appends old new room_text
 
 -- how `new-room` ended with a status, with what the out sink held and how often it failed
 pub record NewRoomEnds (status : ℕ) (files : FilesAround) (room : RoomFiles) (out told : Told)

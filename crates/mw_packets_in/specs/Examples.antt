@@ -20,19 +20,30 @@ message js = message_of (many js)
 pub no_list_of_packets : message_of (object (codes "Sync") no_members) ≡ no_list
 no_list_of_packets = refl
 
-pub unknown_command : message (item (object (codes "Fly") no_members) no_items) ≡ bad bad_cmd (Some (codes "Fly")) (codes "unknown cmd") ∷ []
+pub unknown_command : message (item (object (codes "Fly") no_members) no_items)
+    ≡ bad bad_cmd (Some (codes "Fly")) (codes "unknown cmd") ∷ []
 unknown_command = refl
 
 -- what comes after it is a packet all the same
-pub after_no_command : message (item (whole (pos 7)) (item (object (codes "Sync") no_members) no_items)) ≡ no_cmd ∷ good sync ∷ []
+pub after_no_command : message
+    (item (whole (pos 7)) (item (object (codes "Sync") no_members) no_items))
+    ≡ no_cmd ∷ good sync ∷ []
 after_no_command = refl
 
 -- a fraction in a further member
-pub bounced_fraction : message (item (object (codes "Bounce") (member (codes "data") not_whole no_members)) no_items) ≡ bad bad_arguments (Some (codes "Bounce")) (codes "arguments: data") ∷ []
+pub bounced_fraction : message
+    (item (object (codes "Bounce") (member (codes "data") not_whole no_members)) no_items)
+    ≡ bad bad_arguments (Some (codes "Bounce")) (codes "arguments: data") ∷ []
 unfolding bounce_at field_if_at
 bounced_fraction = refl
 
 -- an operation without a value
-pub operation_without_value : message (item (object (codes "Set") (member (codes "key") (words (codes "k")) (member (codes "operations") (many (item (members (member (codes "operation") (words (codes "add")) no_members)) no_items)) no_members))) no_items) ≡ bad bad_arguments (Some (codes "Set")) (codes "arguments: operations") ∷ []
+pub operation_without_value : message
+    (item (object (codes "Set")
+    (member (codes "key") (words (codes "k"))
+    (member (codes "operations")
+    (many (item (members (member (codes "operation") (words (codes "add")) no_members)) no_items))
+    no_members))) no_items)
+    ≡ bad bad_arguments (Some (codes "Set")) (codes "arguments: operations") ∷ []
 unfolding set_at operations_at operation_at field_at field_or_at
 operation_without_value = refl

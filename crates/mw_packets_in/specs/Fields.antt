@@ -80,7 +80,8 @@ all_whole j ms = if has_not_whole j then refused NotWhole else Ok ms
 
 -- these, where each number in them is whole; else they are refused under a name
 abbrev pub whole_further : List ℕ → Members → Result Members Breach
-whole_further name ms = if members_have_not_whole ms then under (Name name) (refused NotWhole) else Ok ms
+whole_further name ms =
+    if members_have_not_whole ms then under (Name name) (refused NotWhole) else Ok ms
 
 -- the members that have none of these names, each number in them whole
 abbrev pub further_at : List ℕ → List (List ℕ) → Members → Result Members Breach

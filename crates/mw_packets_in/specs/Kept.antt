@@ -12,7 +12,8 @@ is_hint_status status = (status == 0) || (status == 10) || (status == 20) || (st
 
 -- unknown, connected, ready, playing, goal
 abbrev pub is_client_status : ℕ → Bool
-is_client_status status = (status == 0) || (status == 5) || (status == 10) || (status == 20) || (status == 30)
+is_client_status status =
+    (status == 0) || (status == 5) || (status == 10) || (status == 20) || (status == 30)
 
 -- the mask, where there is one, is a mask
 abbrev pub HasMask : Option ℕ → Type 0

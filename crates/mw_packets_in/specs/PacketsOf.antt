@@ -22,7 +22,8 @@ outermost name (Index i ∷ outer) = outermost name outer
 -- a row's packet, or the first of its members that is missing or of another kind
 abbrev pub told : List ℕ → Result Packet Breach → Inbound
 told cmd (Ok packet) = good packet
-told cmd (Err breach) = bad bad_arguments (Some cmd) (codes "arguments: " ++ outermost [] breach.path)
+told cmd (Err breach) =
+    bad bad_arguments (Some cmd) (codes "arguments: " ++ outermost [] breach.path)
 
 -- ---- elements of a message
 
@@ -96,7 +97,9 @@ no_list = all_bad (codes "no JSON list")
 
 -- a list of at most 1,024 elements
 abbrev pub message_of : Json → List Inbound
-message_of (many js) = if nat_le (items_length js) max_packets then each_inbound js else all_bad (codes "more than 1024 packets")
+message_of (many js) =
+    if nat_le (items_length js) max_packets then each_inbound js
+    else all_bad (codes "more than 1024 packets")
 message_of null = no_list
 message_of (flag b) = no_list
 message_of (whole z) = no_list

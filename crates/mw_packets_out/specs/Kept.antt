@@ -20,7 +20,8 @@ abbrev pub retrieved_names : List (List ℕ)
 retrieved_names = codes "cmd" ∷ codes "keys" ∷ []
 
 abbrev pub set_reply_names : List (List ℕ)
-set_reply_names = codes "cmd" ∷ codes "key" ∷ codes "original_value" ∷ codes "slot" ∷ codes "value" ∷ []
+set_reply_names =
+    codes "cmd" ∷ codes "key" ∷ codes "original_value" ∷ codes "slot" ∷ codes "value" ∷ []
 
 abbrev pub bounced_names : List (List ℕ)
 bounced_names = codes "cmd" ∷ codes "games" ∷ codes "tags" ∷ codes "slots" ∷ []

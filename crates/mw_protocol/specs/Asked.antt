@@ -8,7 +8,8 @@ use Rattle.mw_protocol.specs.Checks.{Check, checks_at, distinct, is_owner, recei
 -- the locations of a slot, by id
 abbrev pub locations_among : ℕ → List Held → List ℤ
 locations_among slot [] = []
-locations_among slot (h ∷ hs) = if h.slot == slot then h.location ∷ locations_among slot hs else locations_among slot hs
+locations_among slot (h ∷ hs) =
+    if h.slot == slot then h.location ∷ locations_among slot hs else locations_among slot hs
 
 abbrev pub locations_of : Seed → ℕ → List ℤ
 locations_of seed slot = locations_among slot seed.locations
@@ -17,7 +18,9 @@ locations_of seed slot = locations_among slot seed.locations
 abbrev pub held_for : Seed → ℕ → ℕ → List Held → List Check
 held_for seed team slot [] = []
 held_for seed team slot (h ∷ hs) =
-    if is_owner seed h.receiver slot then record { team = team; slot = h.slot; location = h.location } ∷ held_for seed team slot hs else held_for seed team slot hs
+    if is_owner seed h.receiver slot
+    then record { team = team; slot = h.slot; location = h.location } ∷ held_for seed team slot hs
+    else held_for seed team slot hs
 
 -- a release asks for each location of the slot, a collect for each that holds an item of the slot
 abbrev pub asked_by : Seed → Record → List Check

@@ -22,17 +22,20 @@ abbrev pub CheckedAt : Type 0
 CheckedAt = ℕ → ℕ → ℤ → Bool
 
 abbrev pub is_among : List Check → CheckedAt
-is_among checks team slot location = has_check checks record { team = team; slot = slot; location = location }
+is_among checks team slot location =
+    has_check checks record { team = team; slot = slot; location = location }
 
 -- locations of a slot, checked in a team
 abbrev pub checks_at : ℕ → ℕ → List ℤ → List Check
 checks_at team slot [] = []
-checks_at team slot (location ∷ locations) = record { team = team; slot = slot; location = location } ∷ checks_at team slot locations
+checks_at team slot (location ∷ locations) =
+    record { team = team; slot = slot; location = location } ∷ checks_at team slot locations
 
 -- those of a list that aren't among the seen ones, each once, in order
 abbrev pub unseen : List Check → List Check → List Check
 unseen seen [] = []
-unseen seen (check ∷ others) = if has_check seen check then unseen seen others else check ∷ unseen (seen ++ check ∷ []) others
+unseen seen (check ∷ others) =
+    if has_check seen check then unseen seen others else check ∷ unseen (seen ++ check ∷ []) others
 
 -- Distinct: the first occurrence of each
 abbrev pub distinct : List Check → List Check
@@ -41,7 +44,9 @@ distinct list = unseen [] list
 -- those of the checks that are of a team and slot
 abbrev pub locations_in : ℕ → ℕ → List Check → List ℤ
 locations_in team slot [] = []
-locations_in team slot (c ∷ cs) = if (c.team == team) && (c.slot == slot) then c.location ∷ locations_in team slot cs else locations_in team slot cs
+locations_in team slot (c ∷ cs) =
+    if (c.team == team) && (c.slot == slot) then c.location ∷ locations_in team slot cs
+    else locations_in team slot cs
 
 -- ---- what checks give
 
@@ -63,20 +68,26 @@ is_owner seed receiver slot = receiver == slot
 -- the item that a check gives to a slot of a team, if it does
 abbrev pub item_for : ℕ → ℕ → Check → Option Held → List NetItem
 item_for team slot check None = []
-item_for team slot check (Some h) = if (check.team == team) && (h.receiver == slot) then found_item h ∷ [] else []
+item_for team slot check (Some h) =
+    if (check.team == team) && (h.receiver == slot) then found_item h ∷ [] else []
 
 -- the items that checks give to a slot of a team, in order
 abbrev pub items_found : Seed → ℕ → ℕ → List Check → List NetItem
 items_found seed team slot [] = []
-items_found seed team slot (check ∷ others) = item_for team slot check (held_at seed check.slot check.location) ++ items_found seed team slot others
+items_found seed team slot (check ∷ others) =
+    item_for team slot check (held_at seed check.slot check.location)
+    ++ items_found seed team slot others
 
 -- Received: the starting items, then the items of the distinct checks in journal order
 abbrev pub received_in : Seed → ℕ → ℕ → List Check → List NetItem
-received_in seed team slot checks = start_items (slot_of seed slot) ++ items_found seed team slot checks
+received_in seed team slot checks =
+    start_items (slot_of seed slot) ++ items_found seed team slot checks
 
 -- bit 4 of a mask keeps starting items, bit 2 items of the own world, bit 1 items of other worlds
 abbrev pub keeps : ℕ → ℕ → NetItem → Bool
-keeps mask slot item = if item.player == 0 then mask / 4 % 2 == 1 else (if item.player == slot then mask / 2 % 2 == 1 else mask % 2 == 1)
+keeps mask slot item =
+    if item.player == 0 then mask / 4 % 2 == 1
+    else (if item.player == slot then mask / 2 % 2 == 1 else mask % 2 == 1)
 
 -- View: what a mask keeps of what a slot received
 abbrev pub view_in : Seed → ℕ → ℕ → ℕ → List Check → List NetItem

@@ -29,14 +29,18 @@ abbrev pub where_new : Seed → Standing → Record → List Record
 where_new seed now r = if_some (unseen now.checked (asked_by seed r)) r
 
 abbrev pub at_goal_released : Seed → Standing → ℕ → ℕ → List Record
-at_goal_released seed now team slot = if is_automatic seed.server.release then where_new seed now (release team slot) else []
+at_goal_released seed now team slot =
+    if is_automatic seed.server.release then where_new seed now (release team slot) else []
 
 -- at the goal the slot's items are collected first, and then its world's released
 abbrev pub at_goal_from : Seed → Standing → ℕ → ℕ → List Record → List Record
-at_goal_from seed now team slot collected = collected ++ at_goal_released seed (steps seed now collected) team slot
+at_goal_from seed now team slot collected =
+    collected ++ at_goal_released seed (steps seed now collected) team slot
 
 abbrev pub at_goal : Seed → Standing → ℕ → ℕ → List Record
-at_goal seed now team slot = at_goal_from seed now team slot (if is_automatic seed.server.collect then where_new seed now (collect team slot) else [])
+at_goal seed now team slot =
+    at_goal_from seed now team slot
+    (if is_automatic seed.server.collect then where_new seed now (collect team slot) else [])
 
 -- the records of a new status of a slot that has this one: none once the goal is reached, or where it is the same
 abbrev pub status_after : Seed → Standing → Member → ℕ → ℕ → List Record
@@ -79,21 +83,28 @@ game_of seed slot = game_played seed.games (slot_of seed slot)
 -- the slot's missing locations, and its checked ones, by id
 abbrev pub missing_text : Seed → CheckedAt → ℕ → ℕ → List ℕ
 missing_text seed is_found team slot =
-    counted (codes " missing: ") (map (location_name (game_of seed slot)) (filter (λ l. not (is_found team slot l)) (locations_of seed slot)))
+    counted (codes " missing: ")
+    (map (location_name (game_of seed slot))
+    (filter (λ l. not (is_found team slot l)) (locations_of seed slot)))
 
 abbrev pub checked_text : Seed → CheckedAt → ℕ → ℕ → List ℕ
 checked_text seed is_found team slot =
-    counted (codes " checked: ") (map (location_name (game_of seed slot)) (filter (λ l. is_found team slot l) (locations_of seed slot)))
+    counted (codes " checked: ")
+    (map (location_name (game_of seed slot))
+    (filter (λ l. is_found team slot l) (locations_of seed slot)))
 
 -- the slot's items at unchecked locations, by finder, then id
 abbrev pub remaining_items : Seed → CheckedAt → ℕ → ℕ → List Held → List ℤ
 remaining_items seed is_found team slot [] = []
 remaining_items seed is_found team slot (h ∷ hs) =
-    if is_owner seed h.receiver slot && not (is_found team h.slot h.location) then h.item ∷ remaining_items seed is_found team slot hs else remaining_items seed is_found team slot hs
+    if is_owner seed h.receiver slot && not (is_found team h.slot h.location)
+    then h.item ∷ remaining_items seed is_found team slot hs
+    else remaining_items seed is_found team slot hs
 
 abbrev pub remaining_text : Seed → CheckedAt → ℕ → ℕ → List ℕ
 remaining_text seed is_found team slot =
-    counted (codes " remaining: ") (map (item_name (game_of seed slot)) (remaining_items seed is_found team slot seed.locations))
+    counted (codes " remaining: ")
+    (map (item_name (game_of seed slot)) (remaining_items seed is_found team slot seed.locations))
 
 -- those of a team that are among the members
 abbrev pub plays_in : ℕ → ℕ → List Member → Bool
@@ -103,13 +114,16 @@ plays_in team slot (m ∷ ms) = ((m.team == team) && (m.slot == slot)) || plays_
 -- the names of the team's slots that have a member, by slot, from a slot on
 abbrev pub present : ℕ → ℕ → List Slot → List Member → List (List ℕ)
 present team number [] members = []
-present team number (s ∷ ss) members = (if plays_in team number members then name_in team s ∷ [] else []) ++ present team (number + 1) ss members
+present team number (s ∷ ss) members =
+    (if plays_in team number members then name_in team s ∷ [] else [])
+    ++ present team (number + 1) ss members
 
 abbrev pub players_text : Seed → ℕ → List Member → List ℕ
 players_text seed team members = codes "Connected: " ++ listed (present team 1 seed.slots members)
 
 abbrev pub help_text : List ℕ
-help_text = codes "!help !players !missing !checked !remaining !release !collect !hint !hint_location"
+help_text =
+    codes "!help !players !missing !checked !remaining !release !collect !hint !hint_location"
 
 abbrev pub points_text : ℕ → ℕ → List ℕ
 points_text left price = decimal left ++ codes " points, a hint costs " ++ decimal price

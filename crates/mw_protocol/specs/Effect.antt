@@ -16,14 +16,17 @@ pub record Effect : Type 0 where
 
 -- records, and what is told of them
 abbrev pub recording : List Record → List Announced → Effect
-recording records announced = record { records = records; answers = []; whole = false; member = None; announced = announced }
+recording records announced =
+    record { records = records; answers = []; whole = false; member = None; announced = announced }
 
 abbrev pub nothing : Effect
 nothing = recording [] []
 
 abbrev pub answering : ServerPacket → Effect
-answering packet = record { records = []; answers = packet ∷ []; whole = false; member = None; announced = [] }
+answering packet =
+    record { records = []; answers = packet ∷ []; whole = false; member = None; announced = [] }
 
 -- the sender is told a text
 abbrev pub telling : List ℕ → Effect
-telling text = recording [] (record { audience = sender_hears; packet = printed (command_result text) } ∷ [])
+telling text =
+    recording [] (record { audience = sender_hears; packet = printed (command_result text) } ∷ [])

@@ -19,7 +19,8 @@ use Rattle.mw_protocol.specs.Words.{already_connected}
 -- of a session that plays no slot
 abbrev pub stranger_effect : Seed → Standing → Packet → Effect
 stranger_effect seed now (connect fields) = joining seed now fields (member_by seed fields)
-stranger_effect seed now (get_data_package games) = answering (data_package (package_json seed games))
+stranger_effect seed now (get_data_package games) =
+    answering (data_package (package_json seed games))
 stranger_effect seed now (connect_update u) = nothing
 stranger_effect seed now sync = nothing
 stranger_effect seed now (location_checks numbers) = nothing
@@ -36,13 +37,16 @@ stranger_effect seed now (set_notify keys) = nothing
 abbrev pub member_effect : Seed → Standing → List Member → Member → Packet → Effect
 member_effect seed now members m (connect fields) = answering (invalid_packet already_connected)
 member_effect seed now members m (connect_update u) = updating seed m u
-member_effect seed now members m sync = record { records = []; answers = []; whole = true; member = None; announced = [] }
+member_effect seed now members m sync =
+    record { records = []; answers = []; whole = true; member = None; announced = [] }
 member_effect seed now members m (location_checks numbers) = checking seed now m numbers
-member_effect seed now members m (location_scouts numbers as_hint) = scouting seed now m numbers as_hint
+member_effect seed now members m (location_scouts numbers as_hint) =
+    scouting seed now m numbers as_hint
 member_effect seed now members m (update_hint u) = marking seed now m u
 member_effect seed now members m (status_update s) = stating seed now m s
 member_effect seed now members m (say text) = saying seed now members m (said_of text)
-member_effect seed now members m (get_data_package games) = answering (data_package (package_json seed games))
+member_effect seed now members m (get_data_package games) =
+    answering (data_package (package_json seed games))
 member_effect seed now members m (bounce b) = bouncing m b
 member_effect seed now members m (get keys further) = reading seed now keys further
 member_effect seed now members m (change set) = changing now m set

@@ -45,17 +45,25 @@ same_texts _ _ = false
 -- a member whose tags differ from these
 abbrev pub tags_told : Seed → List (List ℕ) → Member → List Announced
 tags_told seed before m =
-    if same_texts before m.tags then [] else to_team m.team (changed_tags m.team m.slot m.tags (name_of seed m.team m.slot)) ∷ []
+    if same_texts before m.tags then []
+    else to_team m.team (changed_tags m.team m.slot m.tags (name_of seed m.team m.slot)) ∷ []
 
 -- the whole view again where the mask differs
 abbrev pub updating : Seed → Member → ConnectUpdate → Effect
 updating seed m u =
     let new = updated m u in
-    record { records = []; answers = []; whole = not (new.mask == m.mask); member = Some new; announced = tags_told seed m.tags new }
+    record {
+      records = [];
+      answers = [];
+      whole = not (new.mask == m.mask);
+      member = Some new;
+      announced = tags_told seed m.tags new;
+    }
 
 -- ---- the end of a session
 
 -- its team is told who left
 abbrev pub parting : Seed → Option Member → Effect
 parting seed None = nothing
-parting seed (Some m) = recording [] (to_team m.team (left m.team m.slot (name_of seed m.team m.slot)) ∷ [])
+parting seed (Some m) =
+    recording [] (to_team m.team (left m.team m.slot (name_of seed m.team m.slot)) ∷ [])

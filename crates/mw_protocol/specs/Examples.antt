@@ -16,13 +16,23 @@ use Rattle.mw_protocol.specs.Standing.{Standing, start, standing}
 use Rattle.mw_protocol.specs.Words.{already_connected}
 
 abbrev pub held : ℕ → ℤ → ℤ → ℕ → ℕ → Held
-held slot location item receiver flags = record { slot = slot; location = location; item = item; receiver = receiver; flags = flags }
+held slot location item receiver flags =
+    record { slot = slot; location = location; item = item; receiver = receiver; flags = flags }
 
 abbrev pub net_item : ℤ → ℤ → ℕ → ℕ → NetItem
-net_item item location player flags = record { item = item; location = location; player = player; flags = flags }
+net_item item location player flags =
+    record { item = item; location = location; player = player; flags = flags }
 
 abbrev pub options : RoomOptions
-options = record { password = []; hint_cost = 10; location_check_points = 1; release = 2; collect = 2; remaining = 2 }
+options =
+    record {
+      password = [];
+      hint_cost = 10;
+      location_check_points = 1;
+      release = 2;
+      collect = 2;
+      remaining = 2;
+    }
 
 abbrev pub room_a : Seed
 room_a = record {
@@ -30,9 +40,14 @@ room_a = record {
   teams = 1;
   server = options;
   games = [];
-  slots = record { names = codes "Ann" ∷ []; game = codes "G"; start = record { item = pos 5; flags = 0 } ∷ [] }
+  slots = record {
+    names = codes "Ann" ∷ [];
+    game = codes "G";
+    start = record { item = pos 5; flags = 0 } ∷ [];
+  }
       ∷ record { names = codes "Bob" ∷ []; game = codes "G"; start = [] } ∷ [];
-  locations = held 1 (pos 101) (pos 7) 2 1 ∷ held 1 (pos 102) (pos 8) 1 0 ∷ held 2 (pos 201) (pos 9) 1 2 ∷ [];
+  locations = held 1 (pos 101) (pos 7) 2 1 ∷ held 1 (pos 102) (pos 8) 1 0
+      ∷ held 2 (pos 201) (pos 9) 1 2 ∷ [];
   spheres = [];
 }
 
@@ -53,29 +68,35 @@ abbrev pub owed_by : List Record → Member → List ServerPacket
 owed_by records m = growth_owed false room_a start (after records) (Some m)
 
 -- numbers that are no location's and locations that stand twice are left out
-pub each_once : new_checks room_a [] 0 1 (pos 101 ∷ pos 101 ∷ pos 999 ∷ pos 101 ∷ []) ≡ check_of 1 (pos 101) ∷ []
+pub each_once : new_checks room_a [] 0 1 (pos 101 ∷ pos 101 ∷ pos 999 ∷ pos 101 ∷ [])
+    ≡ check_of 1 (pos 101) ∷ []
 each_once = refl
 
 -- a repeated check records nothing
-pub none_twice : new_checks room_a (after (checks 0 1 (pos 101 ∷ []) ∷ [])).checked 0 1 (pos 101 ∷ []) ≡ []
+pub none_twice : new_checks room_a (after (checks 0 1 (pos 101 ∷ []) ∷ [])).checked 0 1
+    (pos 101 ∷ []) ≡ []
 none_twice = refl
 
 -- the starting items come first, then items in the order of the checks
 pub in_order : received room_a 0 1 (checks 0 2 (pos 201 ∷ []) ∷ checks 0 1 (pos 102 ∷ []) ∷ [])
-    ≡ net_item (pos 5) (negsuc 1) 0 0 ∷ net_item (pos 9) (pos 201) 2 2 ∷ net_item (pos 8) (pos 102) 1 0 ∷ []
+    ≡ net_item (pos 5) (negsuc 1) 0 0 ∷ net_item (pos 9) (pos 201) 2 2
+    ∷ net_item (pos 8) (pos 102) 1 0 ∷ []
 in_order = refl
 
 -- mask 1 keeps items of other worlds alone
-pub of_other_worlds : view room_a 1 0 1 (checks 0 2 (pos 201 ∷ []) ∷ checks 0 1 (pos 102 ∷ []) ∷ []) ≡ net_item (pos 9) (pos 201) 2 2 ∷ []
+pub of_other_worlds : view room_a 1 0 1 (checks 0 2 (pos 201 ∷ []) ∷ checks 0 1 (pos 102 ∷ []) ∷ [])
+    ≡ net_item (pos 9) (pos 201) 2 2 ∷ []
 of_other_worlds = refl
 
 -- a release asks for the slot's locations, a collect for those that hold its items, each under its finder
-pub released_and_collected : checked room_a (checks 0 1 (pos 102 ∷ []) ∷ release 0 1 ∷ collect 0 1 ∷ [])
+pub released_and_collected : checked room_a
+    (checks 0 1 (pos 102 ∷ []) ∷ release 0 1 ∷ collect 0 1 ∷ [])
     ≡ check_of 1 (pos 102) ∷ check_of 1 (pos 101) ∷ check_of 2 (pos 201) ∷ []
 released_and_collected = refl
 
 -- Ann's 101 owes Bob his item at index 0
-pub item_reaches_the_other : owed_by (checks 0 1 (pos 101 ∷ []) ∷ []) bob ≡ received_items 0 (net_item (pos 7) (pos 101) 1 1 ∷ []) ∷ []
+pub item_reaches_the_other : owed_by (checks 0 1 (pos 101 ∷ []) ∷ []) bob
+    ≡ received_items 0 (net_item (pos 7) (pos 101) 1 1 ∷ []) ∷ []
 item_reaches_the_other = refl
 
 -- Ann's 102 owes her sessions the location and the item, whose index is the view's length before
@@ -84,7 +105,8 @@ pub two_sessions_of_a_slot : owed_by (checks 0 1 (pos 102 ∷ []) ∷ []) (ann 7
 two_sessions_of_a_slot = refl
 
 -- without own items in the mask the location alone
-pub mask_without_own_items : owed_by (checks 0 1 (pos 102 ∷ []) ∷ []) (ann 1) ≡ room_update (pos 102 ∷ []) 1 ∷ []
+pub mask_without_own_items : owed_by (checks 0 1 (pos 102 ∷ []) ∷ []) (ann 1)
+    ≡ room_update (pos 102 ∷ []) 1 ∷ []
 mask_without_own_items = refl
 
 -- Ann, with these tags, is told of a check of her own
@@ -94,7 +116,8 @@ check_owed tags =
     let effect = effect_of room_a start [] (Some m) (location_checks (pos 101 ∷ [])) in
     owed room_a start (after effect.records) effect true (Some m)
 
-pub item_is_sent : check_owed [] ≡ room_update (pos 101 ∷ []) 1 ∷ printed (item_send (net_item (pos 7) (pos 101) 1 1) 2) ∷ []
+pub item_is_sent : check_owed []
+    ≡ room_update (pos 101 ∷ []) 1 ∷ printed (item_send (net_item (pos 7) (pos 101) 1 1) 2) ∷ []
 item_is_sent = refl
 
 -- with the tag NoText nothing is printed
@@ -102,11 +125,14 @@ pub no_text : check_owed (codes "NoText" ∷ []) ≡ room_update (pos 101 ∷ []
 no_text = refl
 
 -- Ann's scouting gives what stands at her own locations, with the receiver as player
-pub scouted_once : scouted room_a 0 1 (pos 201 ∷ pos 101 ∷ pos 101 ∷ []) ≡ net_item (pos 7) (pos 101) 2 1 ∷ []
+pub scouted_once : scouted room_a 0 1 (pos 201 ∷ pos 101 ∷ pos 101 ∷ [])
+    ≡ net_item (pos 7) (pos 101) 2 1 ∷ []
 scouted_once = refl
 
 -- a session that plays a slot can't connect again
-pub not_twice : (c : Connect) → (effect_of room_a start [] (Some (ann 7)) (connect c)).answers ≡ invalid_packet already_connected ∷ []
+pub not_twice : (c : Connect)
+    → (effect_of room_a start [] (Some (ann 7)) (connect c)).answers
+    ≡ invalid_packet already_connected ∷ []
 not_twice c = refl
 
 abbrev pub cat : Connect
@@ -123,7 +149,14 @@ abbrev pub locked : Seed
 locked = record {
   seed_name = room_a.seed_name;
   teams = room_a.teams;
-  server = record { password = codes "pw"; hint_cost = 10; location_check_points = 1; release = 2; collect = 2; remaining = 2 };
+  server = record {
+    password = codes "pw";
+    hint_cost = 10;
+    location_check_points = 1;
+    release = 2;
+    collect = 2;
+    remaining = 2;
+  };
   games = room_a.games;
   slots = room_a.slots;
   locations = room_a.locations;
@@ -131,5 +164,6 @@ locked = record {
 }
 
 -- all refusals that apply, in their order
-pub refused_connect : connect_errors locked cat ≡ codes "InvalidPassword" ∷ codes "InvalidSlot" ∷ codes "InvalidItemsHandling" ∷ []
+pub refused_connect : connect_errors locked cat
+    ≡ codes "InvalidPassword" ∷ codes "InvalidSlot" ∷ codes "InvalidItemsHandling" ∷ []
 refused_connect = refl

@@ -47,14 +47,17 @@ share_text [] texts = false
 share_text (t ∷ ts) texts = has_text texts t || share_text ts texts
 
 abbrev pub is_named : Seed → Named → Member → Bool
-is_named seed n m = is_game_among n.games (slot_of seed m.slot) || has_number n.slots (pos m.slot) || share_text n.tags m.tags
+is_named seed n m =
+    is_game_among n.games (slot_of seed m.slot) || has_number n.slots (pos m.slot)
+    || share_text n.tags m.tags
 
 -- ---- who hears
 
 -- whether a member hears what is for an audience, which sent the packet or not
 abbrev pub hears : Seed → Audience → Bool → Member → Bool
 hears seed (team_hears team) sends m = not (wants_no_text m) && (m.team == team)
-hears seed (slots_hear team a b) sends m = not (wants_no_text m) && (m.team == team) && ((m.slot == a) || (m.slot == b))
+hears seed (slots_hear team a b) sends m =
+    not (wants_no_text m) && (m.team == team) && ((m.slot == a) || (m.slot == b))
 hears seed sender_hears sends m = not (wants_no_text m) && sends
 hears seed (watchers_hear key replies) sends m = (sends && replies) || has_text m.keys key
 hears seed (named_hear team n) sends m = (m.team == team) && is_named seed n m
@@ -62,7 +65,8 @@ hears seed (named_hear team n) sends m = (m.team == team) && is_named seed n m
 abbrev pub heard : Seed → List Announced → Bool → Member → List ServerPacket
 heard seed [] sends m = []
 heard seed (a ∷ others) sends m =
-    if hears seed a.audience sends m then a.packet ∷ heard seed others sends m else heard seed others sends m
+    if hears seed a.audience sends m then a.packet ∷ heard seed others sends m
+    else heard seed others sends m
 
 -- what of it a session is owed, which is this member, if it is one
 abbrev pub heard_by : Seed → List Announced → Bool → Option Member → List ServerPacket

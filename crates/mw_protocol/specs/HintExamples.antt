@@ -13,8 +13,10 @@ named name id = record { name = name; id = id }
 abbrev pub game_g : Game
 game_g = record {
   name = codes "G";
-  item_name_to_id = named (codes "Boots") (pos 5) ∷ named (codes "Coin") (pos 8) ∷ named (codes "Map") (pos 9) ∷ named (codes "Sword") (pos 7) ∷ [];
-  location_name_to_id = named (codes "A1") (pos 101) ∷ named (codes "A2") (pos 102) ∷ named (codes "B1") (pos 201) ∷ [];
+  item_name_to_id = named (codes "Boots") (pos 5) ∷ named (codes "Coin") (pos 8)
+      ∷ named (codes "Map") (pos 9) ∷ named (codes "Sword") (pos 7) ∷ [];
+  location_name_to_id = named (codes "A1") (pos 101) ∷ named (codes "A2") (pos 102)
+      ∷ named (codes "B1") (pos 201) ∷ [];
 }
 
 abbrev pub with_names : Seed
@@ -33,23 +35,27 @@ both = checks 0 1 (pos 101 ∷ pos 102 ∷ []) ∷ []
 
 -- the Map lies at Bob's 201
 abbrev pub map_hint : Hint
-map_hint = record { team = 0; finder = 2; location = pos 201; bought = true; buyer = 1; status = 30 }
+map_hint =
+    record { team = 0; finder = 2; location = pos 201; bought = true; buyer = 1; status = 30 }
 
 -- what Ann is answered after a journal
 abbrev pub ann_wants : List Record → Wanted → Answer
 ann_wants journal wanted =
-    bought_for with_names (is_checked (standing with_names journal)) (points with_names (standing with_names journal) 0 1) (hints journal) 0 1 wanted
+    bought_for with_names (is_checked (standing with_names journal))
+    (points with_names (standing with_names journal) 0 1) (hints journal) 0 1 wanted
 
 -- with two points Ann buys the hint of her Map
 pub map_is_bought : ann_wants both (item_wanted (codes "Map")) ≡ bought map_hint
 map_is_bought = refl
 
 -- and has one point left
-pub one_point_left : points with_names (standing with_names (checks 0 1 (pos 101 ∷ pos 102 ∷ []) ∷ hint map_hint ∷ [])) 0 1 ≡ 1
+pub one_point_left : points with_names
+    (standing with_names (checks 0 1 (pos 101 ∷ pos 102 ∷ []) ∷ hint map_hint ∷ [])) 0 1 ≡ 1
 one_point_left = refl
 
 -- a location has one hint
-pub not_twice : ann_wants (checks 0 1 (pos 101 ∷ pos 102 ∷ []) ∷ hint map_hint ∷ []) (item_wanted (codes "Map")) ≡ nothing_to_hint
+pub not_twice : ann_wants (checks 0 1 (pos 101 ∷ pos 102 ∷ []) ∷ hint map_hint ∷ [])
+    (item_wanted (codes "Map")) ≡ nothing_to_hint
 not_twice = refl
 
 -- without a point it is too dear
@@ -67,18 +73,31 @@ pub of_another_world : ann_wants both (location_wanted (codes "B1")) ≡ no_such
 of_another_world = refl
 
 -- a scouted location that is checked gets no hint, and one that stands twice gets one
-pub scouted_once : scouted_for with_names (is_checked (after (checks 0 1 (pos 102 ∷ []) ∷ []))) [] 0 1 (pos 101 ∷ pos 102 ∷ pos 101 ∷ pos 201 ∷ [])
-    ≡ record { team = 0; finder = 1; location = pos 101; bought = false; buyer = 1; status = 0 } ∷ []
+pub scouted_once : scouted_for with_names (is_checked (after (checks 0 1 (pos 102 ∷ []) ∷ []))) [] 0
+    1 (pos 101 ∷ pos 102 ∷ pos 101 ∷ pos 201 ∷ [])
+    ≡ record { team = 0; finder = 1; location = pos 101; bought = false; buyer = 1; status = 0 }
+    ∷ []
 scouted_once = refl
 
 -- who receives what stands there gives it another status, and not who finds it
-pub by_its_receiver : marks with_names (is_checked (after [])) (map_hint ∷ []) 0 1 2 (pos 201) 10 ≡ true
+pub by_its_receiver : marks with_names (is_checked (after [])) (map_hint ∷ []) 0 1 2 (pos 201) 10
+    ≡ true
 by_its_receiver = refl
 
-pub not_by_its_finder : marks with_names (is_checked (after [])) (map_hint ∷ []) 0 2 2 (pos 201) 10 ≡ false
+pub not_by_its_finder : marks with_names (is_checked (after [])) (map_hint ∷ []) 0 2 2 (pos 201) 10
+    ≡ false
 not_by_its_finder = refl
 
 -- what is found shows status 40
-pub found_hint : told_hints with_names (is_checked (after (checks 0 2 (pos 201 ∷ []) ∷ []))) 0 2 (hints (hint map_hint ∷ hint_status 0 2 (pos 201) 10 ∷ []))
-    ≡ record { receiving_player = 1; finding_player = 2; location = pos 201; item = pos 9; found = true; item_flags = 2; status = 40 } ∷ []
+pub found_hint : told_hints with_names (is_checked (after (checks 0 2 (pos 201 ∷ []) ∷ []))) 0 2
+    (hints (hint map_hint ∷ hint_status 0 2 (pos 201) 10 ∷ []))
+    ≡ record {
+      receiving_player = 1;
+      finding_player = 2;
+      location = pos 201;
+      item = pos 9;
+      found = true;
+      item_flags = 2;
+      status = 40;
+    } ∷ []
 found_hint = refl

@@ -5,20 +5,32 @@ use Rattle.mw_protocol.specs.Records.{Record, Hint, checks, release, collect, st
 
 -- it is the hint of a finder's location in a team
 abbrev pub is_at : ℕ → ℕ → ℤ → Hint → Bool
-is_at team finder location h = (h.team == team) && (h.finder == finder) && int_eq h.location location
+is_at team finder location h =
+    (h.team == team) && (h.finder == finder) && int_eq h.location location
 
 -- the hint of a finder's location in a team, if there is one
 abbrev pub hint_at : List Hint → ℕ → ℕ → ℤ → Option Hint
 hint_at [] team finder location = None
-hint_at (h ∷ hs) team finder location = if is_at team finder location h then Some h else hint_at hs team finder location
+hint_at (h ∷ hs) team finder location =
+    if is_at team finder location h then Some h else hint_at hs team finder location
 
 abbrev pub with_status : ℕ → Hint → Hint
-with_status s h = record { team = h.team; finder = h.finder; location = h.location; bought = h.bought; buyer = h.buyer; status = s }
+with_status s h =
+    record {
+      team = h.team;
+      finder = h.finder;
+      location = h.location;
+      bought = h.bought;
+      buyer = h.buyer;
+      status = s;
+    }
 
 -- the hint of a finder's location in a team has another status, where there is one
 abbrev pub marked : List Hint → ℕ → ℕ → ℤ → ℕ → List Hint
 marked [] team finder location s = []
-marked (h ∷ hs) team finder location s = if is_at team finder location h then with_status s h ∷ hs else h ∷ marked hs team finder location s
+marked (h ∷ hs) team finder location s =
+    if is_at team finder location h then with_status s h ∷ hs
+    else h ∷ marked hs team finder location s
 
 -- a location has one hint at most
 abbrev pub made : List Hint → Hint → List Hint

@@ -54,7 +54,8 @@ pub data Answer : Type 0 where
 
 -- it isn't checked and has no hint
 abbrev pub is_open : CheckedAt → List Hint → ℕ → Held → Bool
-is_open is_found hs team h = not (is_found team h.slot h.location) && not (is_some (hint_at hs team h.slot h.location))
+is_open is_found hs team h =
+    not (is_found team h.slot h.location) && not (is_some (hint_at hs team h.slot h.location))
 
 abbrev pub first_where : (Held → Bool) → List Held → Option Held
 first_where p [] = None
@@ -69,19 +70,29 @@ abbrev pub bought_status : ℕ → ℕ
 bought_status flags = if flags == 4 then 20 else 30
 
 abbrev pub bought_hint : ℕ → ℕ → Held → Hint
-bought_hint team slot h = record { team = team; finder = h.slot; location = h.location; bought = true; buyer = slot; status = bought_status h.flags }
+bought_hint team slot h =
+    record {
+      team = team;
+      finder = h.slot;
+      location = h.location;
+      bought = true;
+      buyer = slot;
+      status = bought_status h.flags;
+    }
 
 -- the hint that is there to buy, where the points reach
 abbrev pub paid : ℕ → ℕ → ℕ → ℕ → Option Held → Answer
 paid team slot price left None = nothing_to_hint
-paid team slot price left (Some h) = if nat_lt left price then too_dear price left else bought (bought_hint team slot h)
+paid team slot price left (Some h) =
+    if nat_lt left price then too_dear price left else bought (bought_hint team slot h)
 
 -- the first location by finder, then id, that holds the slot's item
 abbrev pub item_bought : Seed → CheckedAt → ℕ → List Hint → ℕ → ℕ → Option ℤ → Answer
 item_bought seed is_found left hs team slot None = no_such_name
 item_bought seed is_found left hs team slot (Some id) =
     paid team slot (cost seed slot) left
-    (first_where (λ h. is_owner seed h.receiver slot && int_eq h.item id && is_open is_found hs team h) seed.locations)
+    (first_where (λ h. is_owner seed h.receiver slot && int_eq h.item id
+    && is_open is_found hs team h) seed.locations)
 
 abbrev pub location_bought : Seed → CheckedAt → ℕ → List Hint → ℕ → ℕ → Option Held → Answer
 location_bought seed is_found left hs team slot None = no_such_name
@@ -94,23 +105,36 @@ held_named seed slot (Some id) = held_at seed slot id
 
 -- what a slot of a team is answered that wants to buy a hint with the points that it has left
 abbrev pub bought_for : Seed → CheckedAt → ℕ → List Hint → ℕ → ℕ → Wanted → Answer
-bought_for seed is_found left hs team slot (item_wanted name) = item_bought seed is_found left hs team slot (item_named seed slot name)
-bought_for seed is_found left hs team slot (location_wanted name) = location_bought seed is_found left hs team slot (held_named seed slot (location_named seed slot name))
+bought_for seed is_found left hs team slot (item_wanted name) =
+    item_bought seed is_found left hs team slot (item_named seed slot name)
+bought_for seed is_found left hs team slot (location_wanted name) =
+    location_bought seed is_found left hs team slot
+    (held_named seed slot (location_named seed slot name))
 
 -- ---- hints that are scouted, and their statuses
 
 abbrev pub scouted_hint : ℕ → ℕ → Check → Hint
-scouted_hint team slot c = record { team = team; finder = slot; location = c.location; bought = false; buyer = slot; status = 0 }
+scouted_hint team slot c =
+    record {
+      team = team;
+      finder = slot;
+      location = c.location;
+      bought = false;
+      buyer = slot;
+      status = 0;
+    }
 
 -- one for each known location among the numbers that isn't checked and has no hint, once, in order
 abbrev pub scouted_among : CheckedAt → List Hint → ℕ → ℕ → List Check → List Hint
 scouted_among is_found hs team slot [] = []
 scouted_among is_found hs team slot (c ∷ cs) =
-    if is_found team slot c.location || is_some (hint_at hs team slot c.location) then scouted_among is_found hs team slot cs
+    if is_found team slot c.location || is_some (hint_at hs team slot c.location)
+    then scouted_among is_found hs team slot cs
     else scouted_hint team slot c ∷ scouted_among is_found hs team slot cs
 
 abbrev pub scouted_for : Seed → CheckedAt → List Hint → ℕ → ℕ → List ℤ → List Hint
-scouted_for seed is_found hs team slot numbers = scouted_among is_found hs team slot (known_checks seed team slot numbers)
+scouted_for seed is_found hs team slot numbers =
+    scouted_among is_found hs team slot (known_checks seed team slot numbers)
 
 abbrev pub receives : Seed → ℕ → Option Held → Bool
 receives seed slot None = false
@@ -123,7 +147,8 @@ differs (Some h) s = not (h.status == s)
 -- whether a slot of a team gives the hint of a finder's location this status: it receives what stands there, which isn't found, and the status is another
 abbrev pub marks : Seed → CheckedAt → List Hint → ℕ → ℕ → ℕ → ℤ → ℕ → Bool
 marks seed is_found hs team slot finder location s =
-    receives seed slot (held_at seed finder location) && not (is_found team finder location) && differs (hint_at hs team finder location) s
+    receives seed slot (held_at seed finder location) && not (is_found team finder location)
+    && differs (hint_at hs team finder location) s
 
 -- ---- hints as they are told
 
@@ -157,5 +182,7 @@ told_hint is_found h (Some at) = record {
 abbrev pub told_hints : Seed → CheckedAt → ℕ → ℕ → List Hint → List ToldHint
 told_hints seed is_found team slot [] = []
 told_hints seed is_found team slot (h ∷ hs) =
-    (if (h.team == team) && ((h.finder == slot) || receives seed slot (held_at seed h.finder h.location)) then told_hint is_found h (held_at seed h.finder h.location) else [])
+    (if (h.team == team)
+    && ((h.finder == slot) || receives seed slot (held_at seed h.finder h.location))
+    then told_hint is_found h (held_at seed h.finder h.location) else [])
     ++ told_hints seed is_found team slot hs

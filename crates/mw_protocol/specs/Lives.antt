@@ -43,7 +43,8 @@ pub record Life : Type 0 where
 
 -- a life begins with the journal that it finds, and nobody in its room
 abbrev pub new_life : Seed → List Record → ℕ → Life
-new_life seed journal place = record { room = replayed seed journal; place = place; stopped = None; calls = 0; risked = [] }
+new_life seed journal place =
+    record { room = replayed seed journal; place = place; stopped = None; calls = 0; risked = [] }
 
 -- ---- refusals
 
@@ -82,11 +83,13 @@ refused_in room ending (Some number) = refused_to ending (session_in room.sessio
 -- that of a room that has stopped, or has had 2^63 calls
 abbrev pub refused_by : Option StopCause → ℕ → Option Reply → Option Reply
 refused_by (Some cause) calls otherwise = Some (stopped cause)
-refused_by None calls otherwise = if nat_le (2 ^ 63) calls then Some (stopped (too_many_calls (2 ^ 63))) else otherwise
+refused_by None calls otherwise =
+    if nat_le (2 ^ 63) calls then Some (stopped (too_many_calls (2 ^ 63))) else otherwise
 
 -- the refusal of a call, if it is refused: it then does nothing
 abbrev pub refusal : Life → Call → Option Reply
-refusal life call = refused_by life.stopped life.calls (refused_in life.room (ends call) (named_by call))
+refusal life call =
+    refused_by life.stopped life.calls (refused_in life.room (ends call) (named_by call))
 
 -- ---- appends
 
@@ -123,7 +126,8 @@ length_with place records = place + 6 + length (records_bytes records)
 -- more than 1,073,741,824 bytes are refused
 abbrev pub or_full : ℕ → List Record → Outcome → Outcome
 or_full place records otherwise =
-    if nat_lt (2 ^ 30) (length_with place records) then stops (journal_full (length_with place records)) else otherwise
+    if nat_lt (2 ^ 30) (length_with place records)
+    then stops (journal_full (length_with place records)) else otherwise
 
 -- each event that makes records appends them before it is answered
 abbrev pub append : ℕ → Luck → List Record → Outcome
@@ -163,7 +167,8 @@ reply_unless (Some reply) otherwise = reply
 
 -- what a call answers
 abbrev pub reply_to : Life → Call → Luck → Reply
-reply_to life call luck = reply_unless (refusal life call) (reply_of life.room call (outcome life call luck))
+reply_to life call luck =
+    reply_unless (refusal life call) (reply_of life.room call (outcome life call luck))
 
 -- ---- what a call leaves
 
@@ -193,13 +198,41 @@ risked_by (journal_full len) risked records = risked
 risked_by (too_many_calls count) risked records = risked
 
 abbrev pub life_of : Life → Call → List Record → Outcome → Life
-life_of life call records passes = record { room = room_then life.room call; place = place_then life.place records; stopped = life.stopped; calls = life.calls + 1; risked = risked_then life.risked records }
-life_of life call records lacks = record { room = life.room; place = life.place; stopped = life.stopped; calls = life.calls + 1; risked = with_risk life.risked records }
-life_of life call records (stops cause) = record { room = life.room; place = life.place; stopped = Some cause; calls = life.calls + 1; risked = risked_by cause life.risked records }
+life_of life call records passes =
+    record {
+      room = room_then life.room call;
+      place = place_then life.place records;
+      stopped = life.stopped;
+      calls = life.calls + 1;
+      risked = risked_then life.risked records;
+    }
+life_of life call records lacks =
+    record {
+      room = life.room;
+      place = life.place;
+      stopped = life.stopped;
+      calls = life.calls + 1;
+      risked = with_risk life.risked records;
+    }
+life_of life call records (stops cause) =
+    record {
+      room = life.room;
+      place = life.place;
+      stopped = Some cause;
+      calls = life.calls + 1;
+      risked = risked_by cause life.risked records;
+    }
 
 -- a refused call counts as one, and changes nothing
 abbrev pub counted : Life → Life
-counted life = record { room = life.room; place = life.place; stopped = life.stopped; calls = life.calls + 1; risked = life.risked }
+counted life =
+    record {
+      room = life.room;
+      place = life.place;
+      stopped = life.stopped;
+      calls = life.calls + 1;
+      risked = life.risked;
+    }
 
 abbrev pub life_unless : Option Reply → Life → Life → Life
 life_unless None life otherwise = otherwise
@@ -207,7 +240,9 @@ life_unless (Some reply) life otherwise = counted life
 
 -- the life after a call
 abbrev pub life_after : Life → Call → Luck → Life
-life_after life call luck = life_unless (refusal life call) life (life_of life call (records_of life.room call) (outcome life call luck))
+life_after life call luck =
+    life_unless (refusal life call) life
+    (life_of life call (records_of life.room call) (outcome life call luck))
 
 -- ---- crashes
 

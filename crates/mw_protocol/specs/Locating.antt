@@ -43,17 +43,23 @@ checking seed now m numbers =
 abbrev pub hint_told : Standing → Hint → Option Held → List Announced
 hint_told now h None = []
 hint_told now h (Some at) =
-    record { audience = slots_hear h.team h.finder at.receiver; packet = printed (hint_print (found_item at) at.receiver (is_checked now h.team h.finder h.location)) } ∷ []
+    record {
+      audience = slots_hear h.team h.finder at.receiver;
+      packet = printed
+          (hint_print (found_item at) at.receiver (is_checked now h.team h.finder h.location));
+    } ∷ []
 
 abbrev pub hints_told : Seed → Standing → List Hint → List Announced
 hints_told seed now [] = []
-hints_told seed now (h ∷ hs) = hint_told now h (held_at seed h.finder h.location) ++ hints_told seed now hs
+hints_told seed now (h ∷ hs) =
+    hint_told now h (held_at seed h.finder h.location) ++ hints_told seed now hs
 
 -- ---- scouts
 
 -- a scouting makes hints where it is asked to
 abbrev pub hints_scouted : Seed → Standing → Member → List ℤ → ℕ → List Hint
-hints_scouted seed now m numbers as_hint = if as_hint == 0 then [] else scouted_for seed (is_checked now) now.hints m.team m.slot numbers
+hints_scouted seed now m numbers as_hint =
+    if as_hint == 0 then [] else scouted_for seed (is_checked now) now.hints m.team m.slot numbers
 
 abbrev pub hint_list : Option Hint → List Hint
 hint_list None = []
@@ -62,12 +68,15 @@ hint_list (Some h) = h ∷ []
 -- the hints that there are of a slot's locations
 abbrev pub hints_at : List Hint → ℕ → ℕ → List Check → List Hint
 hints_at hs team slot [] = []
-hints_at hs team slot (c ∷ cs) = hint_list (hint_at hs team slot c.location) ++ hints_at hs team slot cs
+hints_at hs team slot (c ∷ cs) =
+    hint_list (hint_at hs team slot c.location) ++ hints_at hs team slot cs
 
 -- with 1 the hints of all scouted locations are told, with 2 those that were just made
 abbrev pub scouts_told : Seed → Standing → Member → List ℤ → ℕ → List Hint → List Hint
 scouts_told seed now m numbers as_hint new =
-    if as_hint == 1 then hints_at (hinted_all now.hints (map hint new)) m.team m.slot (known_checks seed m.team m.slot numbers) else new
+    if as_hint == 1
+    then hints_at (hinted_all now.hints (map hint new)) m.team m.slot
+    (known_checks seed m.team m.slot numbers) else new
 
 abbrev pub scouting : Seed → Standing → Member → List ℤ → ℕ → Effect
 scouting seed now m numbers as_hint =
@@ -90,7 +99,9 @@ slot_number _ = 0
 abbrev pub mark_record : Seed → Standing → Member → ℕ → ℤ → Option ℕ → List Record
 mark_record seed now m finder location None = []
 mark_record seed now m finder location (Some s) =
-    if marks seed (is_checked now) now.hints m.team m.slot finder location s then hint_status m.team finder location s ∷ [] else []
+    if marks seed (is_checked now) now.hints m.team m.slot finder location s
+    then hint_status m.team finder location s ∷ [] else []
 
 abbrev pub marking : Seed → Standing → Member → UpdateHint → Effect
-marking seed now m u = recording (mark_record seed now m (slot_number u.player) u.location u.status) []
+marking seed now m u =
+    recording (mark_record seed now m (slot_number u.player) u.location u.status) []

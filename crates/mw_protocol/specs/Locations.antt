@@ -17,16 +17,19 @@ known_checks seed team slot numbers = distinct (checks_at team slot (known seed 
 
 -- the known locations that aren't among the checked ones, each once, in order
 abbrev pub new_checks : Seed → List Check → ℕ → ℕ → List ℤ → List Check
-new_checks seed checked team slot numbers = unseen checked (checks_at team slot (known seed slot numbers))
+new_checks seed checked team slot numbers =
+    unseen checked (checks_at team slot (known seed slot numbers))
 
 -- an item beside its receiver
 abbrev pub scouted_item : Option Held → List NetItem
 scouted_item None = []
-scouted_item (Some h) = record { item = h.item; location = h.location; player = h.receiver; flags = h.flags } ∷ []
+scouted_item (Some h) =
+    record { item = h.item; location = h.location; player = h.receiver; flags = h.flags } ∷ []
 
 abbrev pub scouted_at : Seed → ℕ → List Check → List NetItem
 scouted_at seed slot [] = []
-scouted_at seed slot (c ∷ cs) = scouted_item (held_at seed slot c.location) ++ scouted_at seed slot cs
+scouted_at seed slot (c ∷ cs) =
+    scouted_item (held_at seed slot c.location) ++ scouted_at seed slot cs
 
 -- what stands at the known locations, each once, in order
 abbrev pub scouted : Seed → ℕ → ℕ → List ℤ → List NetItem

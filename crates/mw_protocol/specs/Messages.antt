@@ -214,7 +214,9 @@ print_json p =
 
 -- the packet's own members at their places among the further ones
 abbrev pub retrieved_json : Retrieved → Json
-retrieved_json r = members (put_member (codes "cmd") (words (codes "Retrieved")) (put_member (codes "keys") (members r.keys) r.further))
+retrieved_json r =
+    members (put_member (codes "cmd") (words (codes "Retrieved"))
+    (put_member (codes "keys") (members r.keys) r.further))
 
 abbrev pub set_reply_json : SetReply → Json
 set_reply_json r =

@@ -9,7 +9,8 @@ has_player seed team slot = nat_lt team seed.teams && is_some (slot_of seed slot
 
 -- a location of a slot of a team
 abbrev pub has_location : Seed → ℕ → ℕ → ℤ → Bool
-has_location seed team slot location = has_player seed team slot && is_some (held_at seed slot location)
+has_location seed team slot location =
+    has_player seed team slot && is_some (held_at seed slot location)
 
 abbrev pub has_locations : Seed → ℕ → List ℤ → Bool
 has_locations seed slot [] = true
@@ -17,11 +18,13 @@ has_locations seed slot (l ∷ ls) = is_some (held_at seed slot l) && has_locati
 
 -- its team, its slots and its locations are the seed's; a key and its value name nothing
 abbrev pub is_named : Seed → Record → Bool
-is_named seed (checks team slot locations) = has_player seed team slot && has_locations seed slot locations
+is_named seed (checks team slot locations) =
+    has_player seed team slot && has_locations seed slot locations
 is_named seed (release team slot) = has_player seed team slot
 is_named seed (collect team slot) = has_player seed team slot
 is_named seed (status team slot number) = has_player seed team slot
-is_named seed (hint h) = has_location seed h.team h.finder h.location && is_some (slot_of seed h.buyer)
+is_named seed (hint h) =
+    has_location seed h.team h.finder h.location && is_some (slot_of seed h.buyer)
 is_named seed (hint_status team finder location number) = has_location seed team finder location
 is_named seed (store key value) = true
 

@@ -47,7 +47,8 @@ abbrev pub modulo : ℤ → ℤ → ℤ
 modulo z divisor = z -ℤ divisor *ℤ floor_quotient z divisor
 
 abbrev pub remainder : ℤ → ℤ → Result Json Fault
-remainder z divisor = if int_eq divisor (pos 0) then Err bad_operation else in_range (modulo z divisor)
+remainder z divisor =
+    if int_eq divisor (pos 0) then Err bad_operation else in_range (modulo z divisor)
 
 -- by how many bits a number shifts: 0 to 63
 abbrev pub shift_by : ℤ → Option ℕ
@@ -125,7 +126,8 @@ without_first wanted js = without_place (place_from 0 wanted js) js
 -- those of the second list that are no element of the first
 abbrev pub lacking : Items → Items → Items
 lacking js no_items = no_items
-lacking js (item k ks) = if is_some (place_from 0 k js) then lacking js ks else item k (lacking js ks)
+lacking js (item k ks) =
+    if is_some (place_from 0 k js) then lacking js ks else item k (lacking js ks)
 
 -- an index of a list, where there is no element at a negative one
 abbrev pub without_index : ℤ → Items → Items
@@ -137,13 +139,19 @@ without_index (negsuc i) js = js
 -- without the first member of this name
 abbrev pub without_member : List ℕ → Members → Members
 without_member name no_members = no_members
-without_member name (member k j ms) = if bytes_eq k name then ms else member k j (without_member name ms)
+without_member name (member k j ms) =
+    if bytes_eq k name then ms else member k j (without_member name ms)
 
 -- a member with this value: the one of this name, or a new one at its place in byte order
 abbrev pub set_member : List ℕ → Json → Members → Members
 set_member name value no_members = member name value no_members
 set_member name value (member k j ms) =
-    elim (slice_cmp nat_cmp name k) [ Less ↦ member name value (member k j ms) | Equal ↦ member k value ms | Greater ↦ member k j (set_member name value ms) ]
+    elim (slice_cmp nat_cmp name k) [
+      | Less ↦ member name value (member k j ms)
+      | Equal ↦ member k value ms
+      | Greater ↦ member k j
+          (set_member name value ms)
+    ]
 
 -- each of these members set in turn
 abbrev pub set_members : Members → Members → Members

@@ -32,12 +32,14 @@ view_of seed now m = view_in seed m.mask m.team m.slot now.checked
 abbrev pub items_owed : Bool → Seed → Standing → Standing → Member → List ServerPacket
 items_owed whole seed before after m =
     if whole then items_from 0 (view_of seed after m)
-    else items_from (length (view_of seed before m)) (drop (length (view_of seed before m)) (view_of seed after m))
+    else items_from (length (view_of seed before m))
+    (drop (length (view_of seed before m)) (view_of seed after m))
 
 -- what a member is owed beside the answer to its own packet
 abbrev pub growth_owed : Bool → Seed → Standing → Standing → Option Member → List ServerPacket
 growth_owed whole seed before after None = []
-growth_owed whole seed before after (Some m) = update_owed seed before after m ++ items_owed whole seed before after m
+growth_owed whole seed before after (Some m) =
+    update_owed seed before after m ++ items_owed whole seed before after m
 
 abbrev pub answers_to : Bool → Effect → List ServerPacket
 answers_to sends effect = if sends then effect.answers else []
@@ -45,4 +47,5 @@ answers_to sends effect = if sends then effect.answers else []
 -- Owed: to a session that is this member after the event, and sent it or not
 abbrev pub owed : Seed → Standing → Standing → Effect → Bool → Option Member → List ServerPacket
 owed seed before after effect sends member =
-    answers_to sends effect ++ growth_owed (effect.whole && sends) seed before after member ++ heard_by seed effect.announced sends member
+    answers_to sends effect ++ growth_owed (effect.whole && sends) seed before after member
+    ++ heard_by seed effect.announced sends member

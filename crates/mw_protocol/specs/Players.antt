@@ -14,7 +14,10 @@ plays (s ∷ ss) game = bytes_eq s.game game || plays ss game
 -- the games that a slot plays, each with its checksum
 abbrev pub games_played : List Slot → List Game → List GameSum
 games_played slots [] = []
-games_played slots (g ∷ gs) = if plays slots g.name then record { game = g.name; checksum = checksum_of g } ∷ games_played slots gs else games_played slots gs
+games_played slots (g ∷ gs) =
+    if plays slots g.name
+    then record { game = g.name; checksum = checksum_of g } ∷ games_played slots gs
+    else games_played slots gs
 
 -- what a session is told when it is opened at a time
 abbrev pub room_info_of : Seed → ℕ → RoomInfo
@@ -37,7 +40,8 @@ name_in team slot = unwrap_or (slice_get slot.names team) []
 -- the players of a team, from a slot on
 abbrev pub team_players : ℕ → ℕ → List Slot → List NetworkPlayer
 team_players team number [] = []
-team_players team number (s ∷ ss) = record { team = team; slot = number; name = name_in team s } ∷ team_players team (number + 1) ss
+team_players team number (s ∷ ss) =
+    record { team = team; slot = number; name = name_in team s } ∷ team_players team (number + 1) ss
 
 -- the players of this many teams, by team, then slot
 abbrev pub players_of : ℕ → List Slot → List NetworkPlayer
@@ -46,7 +50,8 @@ players_of (suc team) slots = players_of team slots ++ team_players team 1 slots
 
 abbrev pub slot_infos : ℕ → ℕ → List Slot → List NetworkSlot
 slot_infos team number [] = []
-slot_infos team number (s ∷ ss) = record { slot = number; name = name_in team s; game = s.game } ∷ slot_infos team (number + 1) ss
+slot_infos team number (s ∷ ss) =
+    record { slot = number; name = name_in team s; game = s.game } ∷ slot_infos team (number + 1) ss
 
 -- what a session is told when it has become a member
 abbrev pub connected_of : Seed → Standing → Member → Connected

@@ -62,7 +62,9 @@ of_tagged team slot tags =
 
 -- an item, with the finder as its player, and who receives it
 abbrev pub of_item : NetItem → ℕ → Members
-of_item i receiver = member (codes "item") (item_json i) (member (codes "receiving") (whole (pos receiver)) no_members)
+of_item i receiver =
+    member (codes "item") (item_json i)
+    (member (codes "receiving") (whole (pos receiver)) no_members)
 
 abbrev pub one_text : List ℕ → List Part
 one_text t = text t ∷ []
@@ -70,14 +72,28 @@ one_text t = text t ∷ []
 -- ---- the prints, each by its row; `name` is the slot's name in its team
 
 abbrev pub joined : ℕ → ℕ → List (List ℕ) → List ℕ → Print
-joined team slot tags name = record { kind = codes "Join"; further = of_tagged team slot tags; content = one_text (name ++ codes " joined") }
+joined team slot tags name =
+    record {
+      kind = codes "Join";
+      further = of_tagged team slot tags;
+      content = one_text (name ++ codes " joined");
+    }
 
 abbrev pub left : ℕ → ℕ → List ℕ → Print
-left team slot name = record { kind = codes "Part"; further = of_player team slot; content = one_text (name ++ codes " left") }
+left team slot name =
+    record {
+      kind = codes "Part";
+      further = of_player team slot;
+      content = one_text (name ++ codes " left");
+    }
 
 abbrev pub changed_tags : ℕ → ℕ → List (List ℕ) → List ℕ → Print
 changed_tags team slot tags name =
-    record { kind = codes "TagsChanged"; further = of_tagged team slot tags; content = one_text (name ++ codes " changed tags") }
+    record {
+      kind = codes "TagsChanged";
+      further = of_tagged team slot tags;
+      content = one_text (name ++ codes " changed tags");
+    }
 
 abbrev pub chatted : ℕ → ℕ → List ℕ → List ℕ → Print
 chatted team slot name message = record {
@@ -89,7 +105,8 @@ chatted team slot name message = record {
 -- an item at a location of the world of its player, on the way to another player or found by its own
 abbrev pub sent_parts : NetItem → ℕ → List Part
 sent_parts i receiver =
-    player i.player ∷ text (codes " sent ") ∷ item i.item receiver i.flags ∷ text (codes " to ") ∷ player receiver
+    player i.player ∷ text (codes " sent ") ∷ item i.item receiver i.flags ∷ text (codes " to ")
+    ∷ player receiver
     ∷ text (codes " (") ∷ location i.location i.player ∷ text (codes ")") ∷ []
 
 abbrev pub found_parts : NetItem → List Part
@@ -106,25 +123,40 @@ item_send i receiver = record {
 
 abbrev pub reached_goal : ℕ → ℕ → List ℕ → Print
 reached_goal team slot name =
-    record { kind = codes "Goal"; further = of_player team slot; content = one_text (name ++ codes " reached the goal") }
+    record {
+      kind = codes "Goal";
+      further = of_player team slot;
+      content = one_text (name ++ codes " reached the goal");
+    }
 
 abbrev pub released : ℕ → ℕ → List ℕ → Print
 released team slot name =
-    record { kind = codes "Release"; further = of_player team slot; content = one_text (name ++ codes " released") }
+    record {
+      kind = codes "Release";
+      further = of_player team slot;
+      content = one_text (name ++ codes " released");
+    }
 
 abbrev pub collected : ℕ → ℕ → List ℕ → Print
 collected team slot name =
-    record { kind = codes "Collect"; further = of_player team slot; content = one_text (name ++ codes " collected") }
+    record {
+      kind = codes "Collect";
+      further = of_player team slot;
+      content = one_text (name ++ codes " collected");
+    }
 
 -- what stands at a location, for whom, and whether it is found
 abbrev pub hint_print : NetItem → ℕ → Bool → Print
 hint_print i receiver found = record {
   kind = codes "Hint";
   further = member (codes "found") (flag found) (of_item i receiver);
-  content = text (codes "[Hint]: ") ∷ player receiver ∷ text (codes "'s ") ∷ item i.item receiver i.flags ∷ text (codes " is at ")
-      ∷ location i.location i.player ∷ text (codes " in ") ∷ player i.player ∷ text (codes "'s world") ∷ [];
+  content = text (codes "[Hint]: ") ∷ player receiver ∷ text (codes "'s ")
+      ∷ item i.item receiver i.flags ∷ text (codes " is at ")
+      ∷ location i.location i.player ∷ text (codes " in ") ∷ player i.player
+      ∷ text (codes "'s world") ∷ [];
 }
 
 -- the answer to a command
 abbrev pub command_result : List ℕ → Print
-command_result answer = record { kind = codes "CommandResult"; further = no_members; content = one_text answer }
+command_result answer =
+    record { kind = codes "CommandResult"; further = no_members; content = one_text answer }

@@ -74,15 +74,31 @@ greatest [] = 0
 greatest (m ∷ ms) = max m.carries (greatest ms)
 
 abbrev pub with_message : Message → Session → Session
-with_message m s = record { number = s.number; member = s.member; owed = s.owed ++ m ∷ []; taken = s.taken; overrun = s.overrun }
+with_message m s =
+    record {
+      number = s.number;
+      member = s.member;
+      owed = s.owed ++ m ∷ [];
+      taken = s.taken;
+      overrun = s.overrun;
+    }
 
 -- what it hasn't taken is dropped
 abbrev pub overrun_by : Session → Session
-overrun_by s = record { number = s.number; member = s.member; owed = take s.taken s.owed; taken = s.taken; overrun = true }
+overrun_by s =
+    record {
+      number = s.number;
+      member = s.member;
+      owed = take s.taken s.owed;
+      taken = s.taken;
+      overrun = true;
+    }
 
 -- one message more, unless it was or now is owed too many
 abbrev pub owing : Message → Session → Session
-owing m s = if s.overrun then s else (if is_full (map text_of (untaken s)) then overrun_by s else with_message m s)
+owing m s =
+    if s.overrun then s
+    else (if is_full (map text_of (untaken s)) then overrun_by s else with_message m s)
 
 -- a message without packets isn't owed
 abbrev pub told : List ServerPacket → ℕ → Session → Session
@@ -118,7 +134,9 @@ without number (s ∷ ss) = if s.number == number then ss else s ∷ without num
 -- what an event records, answers and changes
 abbrev pub effect_in : Room → Event → Effect
 effect_in room (opened time) = nothing
-effect_in room (sent number packet) = effect_of room.seed (standing room.seed room.journal) (members_in room.sessions) (member_in room.sessions number) packet
+effect_in room (sent number packet) =
+    effect_of room.seed (standing room.seed room.journal) (members_in room.sessions)
+    (member_in room.sessions number) packet
 effect_in room (failed number bad) = bad_effect bad
 effect_in room (lost number) = parting room.seed (member_in room.sessions number)
 
@@ -131,7 +149,14 @@ abbrev pub member_after : Effect → Bool → Option Member → Option Member
 member_after effect sends member = if sends then or_else effect.member member else member
 
 abbrev pub with_member : Option Member → Session → Session
-with_member member s = record { number = s.number; member = member; owed = s.owed; taken = s.taken; overrun = s.overrun }
+with_member member s =
+    record {
+      number = s.number;
+      member = member;
+      owed = s.owed;
+      taken = s.taken;
+      overrun = s.overrun;
+    }
 
 -- a session after an effect of the sender's
 abbrev pub session_after : Seed → Standing → Standing → ℕ → Effect → ℕ → Session → Session
@@ -147,21 +172,36 @@ affected room sender effect =
       seed = room.seed;
       journal = journal;
       opened = room.opened;
-      sessions = map (session_after room.seed (standing room.seed room.journal) (standing room.seed journal) (length journal) effect sender) room.sessions;
+      sessions = map
+          (session_after room.seed (standing room.seed room.journal) (standing room.seed journal)
+          (length journal) effect sender) room.sessions;
     }
 
 -- a session that was just opened is owed RoomInfo
 abbrev pub new_session : Room → ℕ → Session
 new_session room time =
-    told (room_info (room_info_of room.seed time) ∷ []) (length room.journal) record { number = room.opened + 1; member = None; owed = []; taken = 0; overrun = false }
+    told (room_info (room_info_of room.seed time) ∷ []) (length room.journal)
+    record { number = room.opened + 1; member = None; owed = []; taken = 0; overrun = false }
 
 -- a session has ended
 abbrev pub closed : Room → ℕ → Room
-closed room number = record { seed = room.seed; journal = room.journal; opened = room.opened; sessions = without number room.sessions }
+closed room number =
+    record {
+      seed = room.seed;
+      journal = room.journal;
+      opened = room.opened;
+      sessions = without number room.sessions;
+    }
 
 -- the room after an event
 abbrev pub next : Room → Event → Room
-next room (opened time) = record { seed = room.seed; journal = room.journal; opened = room.opened + 1; sessions = room.sessions ++ new_session room time ∷ [] }
+next room (opened time) =
+    record {
+      seed = room.seed;
+      journal = room.journal;
+      opened = room.opened + 1;
+      sessions = room.sessions ++ new_session room time ∷ [];
+    }
 next room (sent number packet) = affected room number (effect_in room (sent number packet))
 next room (failed number bad) = affected room number (effect_in room (failed number bad))
 next room (lost number) = affected (closed room number) number (effect_in room (lost number))
@@ -169,15 +209,29 @@ next room (lost number) = affected (closed room number) number (effect_in room (
 -- ---- taking
 
 abbrev pub taken_all : Session → Session
-taken_all s = record { number = s.number; member = s.member; owed = s.owed; taken = length s.owed; overrun = s.overrun }
+taken_all s =
+    record {
+      number = s.number;
+      member = s.member;
+      owed = s.owed;
+      taken = length s.owed;
+      overrun = s.overrun;
+    }
 
 abbrev pub taken_among : ℕ → List Session → List Session
 taken_among number [] = []
-taken_among number (s ∷ ss) = if s.number == number then taken_all s ∷ ss else s ∷ taken_among number ss
+taken_among number (s ∷ ss) =
+    if s.number == number then taken_all s ∷ ss else s ∷ taken_among number ss
 
 -- the room once a session has taken its messages
 abbrev pub taken : Room → ℕ → Room
-taken room number = record { seed = room.seed; journal = room.journal; opened = room.opened; sessions = taken_among number room.sessions }
+taken room number =
+    record {
+      seed = room.seed;
+      journal = room.journal;
+      opened = room.opened;
+      sessions = taken_among number room.sessions;
+    }
 
 -- the untaken messages of a session, if it is open
 abbrev pub untaken_of : Option Session → List Message

@@ -22,7 +22,8 @@ at_locations cs = filter (λ c. int_le (pos 1) c.location) cs
 
 -- a location of a player, by their numbers
 abbrev pub check_named : ℕ → Option Json → Option Json → List Check
-check_named team (Some (whole (pos player))) (Some (whole location)) = record { team = team; slot = player; location = location } ∷ []
+check_named team (Some (whole (pos player))) (Some (whole location)) =
+    record { team = team; slot = player; location = location } ∷ []
 check_named team player location = []
 
 abbrev pub is_flagged : Option Json → Bool
@@ -32,20 +33,25 @@ is_flagged j = false
 -- the player and the location of an item
 abbrev pub item_shown : ℕ → Option Json → List Check
 item_shown team None = []
-item_shown team (Some i) = at_locations (check_named team (field_of (codes "player") i) (field_of (codes "location") i))
+item_shown team (Some i) =
+    at_locations (check_named team (field_of (codes "player") i) (field_of (codes "location") i))
 
 -- the item of an ItemSend, and that of a Hint which is found
 abbrev pub print_shown : ℕ → PrintJson → List Check
 print_shown team p =
-    if bytes_eq p.kind (codes "ItemSend") then item_shown team (find_member (codes "item") p.further)
-    else (if bytes_eq p.kind (codes "Hint") && is_flagged (find_member (codes "found") p.further) then item_shown team (find_member (codes "item") p.further) else [])
+    if bytes_eq p.kind (codes "ItemSend")
+    then item_shown team (find_member (codes "item") p.further)
+    else (if bytes_eq p.kind (codes "Hint") && is_flagged (find_member (codes "found") p.further)
+    then item_shown team (find_member (codes "item") p.further) else [])
 
 -- ---- the hints of a player, as a Get is answered
 
 -- where a hint is found, the location of its finder
 abbrev pub hint_shown : ℕ → Json → List Check
 hint_shown team h =
-    if is_flagged (field_of (codes "found") h) then check_named team (field_of (codes "finding_player") h) (field_of (codes "location") h) else []
+    if is_flagged (field_of (codes "found") h)
+    then check_named team (field_of (codes "finding_player") h) (field_of (codes "location") h)
+    else []
 
 abbrev pub hints_shown : ℕ → Items → List Check
 hints_shown team no_items = []
@@ -67,11 +73,14 @@ team_with team (Some slot) = team
 -- the team of a text that names a team and a slot, with an underscore between them
 abbrev pub team_at : List ℕ → Option ℕ
 team_at text =
-    if nat_lt (position_or_len is_underscore text) (length text) then team_with (numbered (before_first is_underscore text)) (numbered (after_first is_underscore text)) else None
+    if nat_lt (position_or_len is_underscore text) (length text)
+    then team_with (numbered (before_first is_underscore text))
+    (numbered (after_first is_underscore text)) else None
 
 -- the team whose slot's hints a key names
 abbrev pub hints_team : List ℕ → Option ℕ
-hints_team key = if bytes_eq (take 12 key) (codes "_read_hints_") then team_at (drop 12 key) else None
+hints_team key =
+    if bytes_eq (take 12 key) (codes "_read_hints_") then team_at (drop 12 key) else None
 
 abbrev pub key_shown : Option ℕ → Json → List Check
 key_shown None value = []

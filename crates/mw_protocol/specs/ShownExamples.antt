@@ -23,10 +23,13 @@ abbrev there : List Check
 there = record { team = 0; slot = 1; location = pos 101 } ∷ []
 
 -- a starting item is at no location
-pub items : to_bob (received_items 0 (record { item = pos 8; location = negsuc 1; player = 0; flags = 0 } ∷ sword ∷ [])) ≡ there
+pub items : to_bob
+    (received_items 0
+    (record { item = pos 8; location = negsuc 1; player = 0; flags = 0 } ∷ sword ∷ [])) ≡ there
 items = refl
 
-pub locations : to_bob (room_update (pos 201 ∷ []) 3) ≡ record { team = 0; slot = 2; location = pos 201 } ∷ []
+pub locations : to_bob (room_update (pos 201 ∷ []) 3)
+    ≡ record { team = 0; slot = 2; location = pos 201 } ∷ []
 locations = refl
 
 pub sending : to_bob (printed (item_send sword 2)) ≡ there
@@ -43,17 +46,31 @@ chat = refl
 
 -- Bob's Sword at Ann's 101, as a Get tells it
 abbrev told : Bool → ToldHint
-told found = record { receiving_player = 2; finding_player = 1; location = pos 101; item = pos 7; found = found; item_flags = 1; status = 0 }
+told found =
+    record {
+      receiving_player = 2;
+      finding_player = 1;
+      location = pos 101;
+      item = pos 7;
+      found = found;
+      item_flags = 1;
+      status = 0;
+    }
 
 abbrev under : List ℕ → Items → ServerPacket
-under key hints = retrieved record { keys = member key (many hints) no_members; further = no_members }
+under key hints =
+    retrieved record { keys = member key (many hints) no_members; further = no_members }
 
-pub hints_of_a_player : to_bob (under (codes "_read_hints_0_2") (item (hint_json (told false)) (item (hint_json (told true)) no_items))) ≡ there
+pub hints_of_a_player : to_bob
+    (under (codes "_read_hints_0_2")
+    (item (hint_json (told false)) (item (hint_json (told true)) no_items))) ≡ there
 unfolding digits
 hints_of_a_player = refl
 
 -- of another team
-pub hints_of_a_team : to_bob (under (codes "_read_hints_1_2") (item (hint_json (told true)) no_items)) ≡ record { team = 1; slot = 1; location = pos 101 } ∷ []
+pub hints_of_a_team : to_bob
+    (under (codes "_read_hints_1_2") (item (hint_json (told true)) no_items))
+    ≡ record { team = 1; slot = 1; location = pos 101 } ∷ []
 unfolding digits
 hints_of_a_team = refl
 

@@ -18,9 +18,12 @@ use Rattle.mw_protocol.specs.Standing.{Standing, is_checked, status_in, cost, po
 -- the team is told of a goal, a release and a collect
 abbrev pub record_told : Seed → Record → List Announced
 record_told seed (checks team slot locations) = []
-record_told seed (release team slot) = to_team team (released team slot (name_of seed team slot)) ∷ []
-record_told seed (collect team slot) = to_team team (collected team slot (name_of seed team slot)) ∷ []
-record_told seed (status team slot s) = if s == 30 then to_team team (reached_goal team slot (name_of seed team slot)) ∷ [] else []
+record_told seed (release team slot) =
+    to_team team (released team slot (name_of seed team slot)) ∷ []
+record_told seed (collect team slot) =
+    to_team team (collected team slot (name_of seed team slot)) ∷ []
+record_told seed (status team slot s) =
+    if s == 30 then to_team team (reached_goal team slot (name_of seed team slot)) ∷ [] else []
 record_told seed (hint h) = []
 record_told seed (hint_status team finder location s) = []
 record_told seed (store key value) = []
@@ -39,7 +42,8 @@ stating seed now m s = announcing seed (status_records seed now m s)
 -- ---- texts
 
 abbrev pub chatting : Seed → Member → List ℕ → Effect
-chatting seed m text = recording [] (to_team m.team (chatted m.team m.slot (name_of seed m.team m.slot) text) ∷ [])
+chatting seed m text =
+    recording [] (to_team m.team (chatted m.team m.slot (name_of seed m.team m.slot) text) ∷ [])
 
 -- the record, where it asks for a check that isn't there yet
 abbrev pub giving : Seed → List Record → Effect
@@ -47,17 +51,23 @@ giving seed [] = telling (codes "nothing left")
 giving seed (r ∷ rs) = announcing seed (r ∷ rs)
 
 abbrev pub where_allowed : ℕ → ℕ → Effect → Effect
-where_allowed permission s effect = if is_allowed permission s then effect else telling (codes "not allowed")
+where_allowed permission s effect =
+    if is_allowed permission s then effect else telling (codes "not allowed")
 
 -- a hint that is bought is told to those whom it concerns, and why it isn't to the sender
 abbrev pub buying : Seed → Standing → Answer → Effect
-buying seed now (bought h) = recording (hint h ∷ []) (hint_told now h (held_at seed h.finder h.location))
+buying seed now (bought h) =
+    recording (hint h ∷ []) (hint_told now h (held_at seed h.finder h.location))
 buying seed now no_such_name = telling (codes "no such name")
 buying seed now nothing_to_hint = telling (codes "nothing to hint")
-buying seed now (too_dear price left) = telling (decimal price ++ codes " points needed, " ++ decimal left ++ codes " there")
+buying seed now (too_dear price left) =
+    telling (decimal price ++ codes " points needed, " ++ decimal left ++ codes " there")
 
 abbrev pub wanting : Seed → Standing → Member → Wanted → Effect
-wanting seed now m wanted = buying seed now (bought_for seed (is_checked now) (points seed now m.team m.slot) now.hints m.team m.slot wanted)
+wanting seed now m wanted =
+    buying seed now
+    (bought_for seed (is_checked now) (points seed now m.team m.slot) now.hints m.team m.slot
+    wanted)
 
 -- of a member, among the members of all open sessions
 abbrev pub saying : Seed → Standing → List Member → Member → said.Said → Effect
@@ -67,12 +77,16 @@ saying seed now members m said.players = telling (players_text seed m.team membe
 saying seed now members m said.missing = telling (missing_text seed (is_checked now) m.team m.slot)
 saying seed now members m said.checked = telling (checked_text seed (is_checked now) m.team m.slot)
 saying seed now members m said.remaining =
-    where_allowed seed.server.remaining (status_in now m.team m.slot) (telling (remaining_text seed (is_checked now) m.team m.slot))
+    where_allowed seed.server.remaining (status_in now m.team m.slot)
+    (telling (remaining_text seed (is_checked now) m.team m.slot))
 saying seed now members m said.release =
-    where_allowed seed.server.release (status_in now m.team m.slot) (giving seed (where_new seed now (release m.team m.slot)))
+    where_allowed seed.server.release (status_in now m.team m.slot)
+    (giving seed (where_new seed now (release m.team m.slot)))
 saying seed now members m said.collect =
-    where_allowed seed.server.collect (status_in now m.team m.slot) (giving seed (where_new seed now (collect m.team m.slot)))
-saying seed now members m (said.hint []) = telling (points_text (points seed now m.team m.slot) (cost seed m.slot))
+    where_allowed seed.server.collect (status_in now m.team m.slot)
+    (giving seed (where_new seed now (collect m.team m.slot)))
+saying seed now members m (said.hint []) =
+    telling (points_text (points seed now m.team m.slot) (cost seed m.slot))
 saying seed now members m (said.hint (c ∷ cs)) = wanting seed now m (item_wanted (c ∷ cs))
 saying seed now members m (said.hint_location name) = wanting seed now m (location_wanted name)
 saying seed now members m said.unknown_command = telling (codes "unknown command")

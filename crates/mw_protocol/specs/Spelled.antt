@@ -42,7 +42,9 @@ record_bytes (checks team slot locations) = 1 ∷ place_bytes team slot ++ locat
 record_bytes (release team slot) = 2 ∷ place_bytes team slot
 record_bytes (collect team slot) = 3 ∷ place_bytes team slot
 record_bytes (status team slot s) = 4 ∷ place_bytes team slot ++ s ∷ []
-record_bytes (hint h) = 5 ∷ target_bytes h.team h.finder h.location ++ flag_byte h.bought ∷ to_be_bytes w16 h.buyer ++ h.status ∷ []
+record_bytes (hint h) =
+    5 ∷ target_bytes h.team h.finder h.location ++ flag_byte h.bought ∷ to_be_bytes w16 h.buyer
+    ++ h.status ∷ []
 record_bytes (hint_status team finder location s) = 6 ∷ target_bytes team finder location ++ s ∷ []
 record_bytes (store key value) = 7 ∷ text_bytes key ++ text_bytes (spelling value)
 
@@ -66,7 +68,8 @@ IsTarget team finder location = IsPlace team finder × IsLocation location
 
 -- some locations
 abbrev pub AreLocations : List ℤ → Type 0
-AreLocations locations = (1 ≤ length locations) × (length locations < 2 ^ 32) × AllByRecursion IsLocation locations
+AreLocations locations =
+    (1 ≤ length locations) × (length locations < 2 ^ 32) × AllByRecursion IsLocation locations
 
 -- its compact text is text, short enough for its length, and is read as this very value
 pub record IsValue (value : Json) : Type 0 where
@@ -85,8 +88,10 @@ IsRecord (checks team slot locations) = IsPlace team slot × AreLocations locati
 IsRecord (release team slot) = IsPlace team slot
 IsRecord (collect team slot) = IsPlace team slot
 IsRecord (status team slot s) = IsPlace team slot × IsTrue (is_client_status s)
-IsRecord (hint h) = IsTarget h.team h.finder h.location × IsSlot h.buyer × IsTrue (is_hint_status h.status)
-IsRecord (hint_status team finder location s) = IsTarget team finder location × IsTrue (is_hint_status s)
+IsRecord (hint h) =
+    IsTarget h.team h.finder h.location × IsSlot h.buyer × IsTrue (is_hint_status h.status)
+IsRecord (hint_status team finder location s) =
+    IsTarget team finder location × IsTrue (is_hint_status s)
 IsRecord (store key value) = IsKey key × IsValue value
 
 -- ---- where records stand

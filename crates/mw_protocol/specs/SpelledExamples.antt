@@ -7,11 +7,20 @@ use Rattle.mw_protocol.specs.Records.{checks, hint, store}
 use Rattle.mw_protocol.specs.Spelled.{record_bytes}
 
 -- slot 1 of team 0 checked location 101
-pub one_check : record_bytes (checks 0 1 (pos 101 ∷ [])) ≡ 1 ∷ 0 ∷ 0 ∷ 1 ∷ 0 ∷ 0 ∷ 0 ∷ 1 ∷ 0 ∷ 0 ∷ 0 ∷ 0 ∷ 0 ∷ 0 ∷ 0 ∷ 101 ∷ []
+pub one_check : record_bytes (checks 0 1 (pos 101 ∷ []))
+    ≡ 1 ∷ 0 ∷ 0 ∷ 1 ∷ 0 ∷ 0 ∷ 0 ∷ 1 ∷ 0 ∷ 0 ∷ 0 ∷ 0 ∷ 0 ∷ 0 ∷ 0 ∷ 101 ∷ []
 one_check = refl
 
 -- a hint of location 201 of slot 2, with priority, which slot 1 bought
-pub bought_hint : record_bytes (hint record { team = 0; finder = 2; location = pos 201; bought = true; buyer = 1; status = 30 })
+pub bought_hint : record_bytes
+    (hint record {
+      team = 0;
+      finder = 2;
+      location = pos 201;
+      bought = true;
+      buyer = 1;
+      status = 30;
+    })
     ≡ 5 ∷ 0 ∷ 0 ∷ 2 ∷ 0 ∷ 0 ∷ 0 ∷ 0 ∷ 0 ∷ 0 ∷ 0 ∷ 201 ∷ 1 ∷ 0 ∷ 1 ∷ 30 ∷ []
 bought_hint = refl
 

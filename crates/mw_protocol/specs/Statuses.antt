@@ -10,13 +10,16 @@ pub record SlotStatus : Type 0 where
 -- the status of a slot in a team, 0 where none was given
 abbrev pub status_of : List SlotStatus → ℕ → ℕ → ℕ
 status_of [] team slot = 0
-status_of (s ∷ ss) team slot = if (s.team == team) && (s.slot == slot) then s.status else status_of ss team slot
+status_of (s ∷ ss) team slot =
+    if (s.team == team) && (s.slot == slot) then s.status else status_of ss team slot
 
 -- a slot's status set where one stands, or at the end
 abbrev pub set_status : ℕ → ℕ → ℕ → List SlotStatus → List SlotStatus
 set_status team slot number [] = record { team = team; slot = slot; status = number } ∷ []
 set_status team slot number (s ∷ ss) =
-    if (s.team == team) && (s.slot == slot) then record { team = s.team; slot = s.slot; status = number } ∷ ss else s ∷ set_status team slot number ss
+    if (s.team == team) && (s.slot == slot)
+    then record { team = s.team; slot = s.slot; status = number } ∷ ss
+    else s ∷ set_status team slot number ss
 
 abbrev pub stated : List SlotStatus → Record → List SlotStatus
 stated ss (checks team slot locations) = ss

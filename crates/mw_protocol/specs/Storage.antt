@@ -19,7 +19,8 @@ value_of key (k ∷ ks) = if bytes_eq key k.key then Some k.value else value_of 
 -- a key's value set where the key stands, or at the end
 abbrev pub put : List ℕ → Json → List Kept → List Kept
 put key value [] = record { key = key; value = value } ∷ []
-put key value (k ∷ ks) = if bytes_eq key k.key then record { key = k.key; value = value } ∷ ks else k ∷ put key value ks
+put key value (k ∷ ks) =
+    if bytes_eq key k.key then record { key = k.key; value = value } ∷ ks else k ∷ put key value ks
 
 -- the bytes of the keys and of the values' compact texts
 abbrev pub bytes_kept : List Kept → ℕ
@@ -95,11 +96,16 @@ before kept set = value_or set.fallback (value_of set.key kept)
 
 -- what would stand has to be within the limits
 abbrev pub within_limits : List Kept → Changed → Result Changed Refused
-within_limits standing changed = if is_too_much standing then Err (store_full (bytes_kept standing) (length standing)) else Ok changed
+within_limits standing changed =
+    if is_too_much standing then Err (store_full (bytes_kept standing) (length standing))
+    else Ok changed
 
 abbrev pub kept_after : List Kept → SetPacket → Json → Result Changed Refused
-kept_after kept set new = within_limits (put set.key new kept) record { old = before kept set; new = new }
+kept_after kept set new =
+    within_limits (put set.key new kept) record { old = before kept set; new = new }
 
 -- SetCase: the old and the new value, or the first refusal
 abbrev pub set_case : List Kept → SetPacket → Result Changed Refused
-set_case kept set = if is_private set.key then Err private_key else (run_from 0 set.operations (before kept set) then kept_after kept set)
+set_case kept set =
+    if is_private set.key then Err private_key
+    else (run_from 0 set.operations (before kept set) then kept_after kept set)

@@ -10,7 +10,14 @@ abbrev pub operation : List ℕ → Json → Operation
 operation name value = record { name = name; value = value }
 
 abbrev pub change_of : List ℕ → Json → List Operation → SetPacket
-change_of key fallback operations = record { key = key; fallback = fallback; want_reply = true; operations = operations; further = no_members }
+change_of key fallback operations =
+    record {
+      key = key;
+      fallback = fallback;
+      want_reply = true;
+      operations = operations;
+      further = no_members;
+    }
 
 abbrev pub one : ℕ → Json
 one n = many (item (whole (pos n)) no_items)
@@ -27,19 +34,23 @@ from_default set = run_from 0 set.operations (before [] set)
 
 -- the first 3 goes, then the element at index 0, and 5 comes
 pub list_operations : from_default (change_of (codes "q") (three 3 4 3)
-    (operation (codes "remove") (whole (pos 3)) ∷ operation (codes "pop") (whole (pos 0)) ∷ operation (codes "add") (one 5) ∷ []))
+    (operation (codes "remove") (whole (pos 3)) ∷ operation (codes "pop") (whole (pos 0))
+    ∷ operation (codes "add") (one 5) ∷ []))
     ≡ Ok (two 3 5)
 unfolding operated
 list_operations = refl
 
 -- -7 modulo 3 is 2, which is 8 two bits to the left and 4 one bit to the right
 pub floor_and_shifts : from_default (change_of (codes "k") (whole (negsuc 6))
-    (operation (codes "mod") (whole (pos 3)) ∷ operation (codes "left_shift") (whole (pos 2)) ∷ operation (codes "right_shift") (whole (pos 1)) ∷ []))
+    (operation (codes "mod") (whole (pos 3)) ∷ operation (codes "left_shift") (whole (pos 2))
+    ∷ operation (codes "right_shift") (whole (pos 1)) ∷ []))
     ≡ Ok (whole (pos 4))
 unfolding operated of_numbers of_bits
 floor_and_shifts = refl
 
-pub no_modulo_of_zero : set_case [] (change_of (codes "k") (whole (pos 1)) (operation (codes "mod") (whole (pos 0)) ∷ [])) ≡ Err (bad_operation_at 0)
+pub no_modulo_of_zero : set_case []
+    (change_of (codes "k") (whole (pos 1)) (operation (codes "mod") (whole (pos 0)) ∷ []))
+    ≡ Err (bad_operation_at 0)
 unfolding operated of_numbers of_bits
 no_modulo_of_zero = refl
 
@@ -47,29 +58,37 @@ pub private_keys : set_case [] (change_of (codes "_read_x") (whole (pos 0)) []) 
 private_keys = refl
 
 -- elements that the list has already aren't appended
-pub update_of_a_list : from_default (change_of (codes "k") (two 3 4) (operation (codes "update") (two 4 5) ∷ [])) ≡ Ok (three 3 4 5)
+pub update_of_a_list : from_default
+    (change_of (codes "k") (two 3 4) (operation (codes "update") (two 4 5) ∷ [])) ≡ Ok (three 3 4 5)
 unfolding operated
 update_of_a_list = refl
 
-pub storage_out_of_range : set_case [] (change_of (codes "k") (whole (pos 9223372036854775807)) (operation (codes "add") (whole (pos 1)) ∷ [])) ≡ Err (out_of_range_at 0)
+pub storage_out_of_range : set_case []
+    (change_of (codes "k") (whole (pos 9223372036854775807))
+    (operation (codes "add") (whole (pos 1)) ∷ [])) ≡ Err (out_of_range_at 0)
 unfolding operated of_numbers of_bits
 storage_out_of_range = refl
 
 -- a refusal names the first operation that fails
 pub first_that_fails : set_case [] (change_of (codes "k") (whole (pos 1))
-    (operation (codes "add") (whole (pos 1)) ∷ operation (codes "fly") (whole (pos 1)) ∷ operation (codes "mod") (whole (pos 0)) ∷ []))
+    (operation (codes "add") (whole (pos 1)) ∷ operation (codes "fly") (whole (pos 1))
+    ∷ operation (codes "mod") (whole (pos 0)) ∷ []))
     ≡ Err (bad_operation_at 1)
 unfolding operated of_numbers of_bits
 first_that_fails = refl
 
 -- the least number modulo -1 is 0, and in two's complement -1 has every bit
 pub at_the_edges : from_default (change_of (codes "k") (whole (negsuc 9223372036854775807))
-    (operation (codes "mod") (whole (negsuc 0)) ∷ operation (codes "or") (whole (negsuc 0)) ∷ operation (codes "and") (whole (pos 12)) ∷ operation (codes "xor") (whole (negsuc 0)) ∷ []))
+    (operation (codes "mod") (whole (negsuc 0)) ∷ operation (codes "or") (whole (negsuc 0))
+    ∷ operation (codes "and") (whole (pos 12)) ∷ operation (codes "xor") (whole (negsuc 0)) ∷ []))
     ≡ Ok (whole (negsuc 12))
 unfolding operated of_numbers of_bits
 at_the_edges = refl
 
 -- a key keeps its place
-pub put_where_it_stands : storage (store (codes "a") (whole (pos 1)) ∷ store (codes "b") (whole (pos 2)) ∷ release 0 1 ∷ store (codes "a") (whole (pos 3)) ∷ [])
-    ≡ record { key = codes "a"; value = whole (pos 3) } ∷ record { key = codes "b"; value = whole (pos 2) } ∷ []
+pub put_where_it_stands : storage
+    (store (codes "a") (whole (pos 1)) ∷ store (codes "b") (whole (pos 2)) ∷ release 0 1
+    ∷ store (codes "a") (whole (pos 3)) ∷ [])
+    ≡ record { key = codes "a"; value = whole (pos 3) }
+    ∷ record { key = codes "b"; value = whole (pos 2) } ∷ []
 put_where_it_stands = refl

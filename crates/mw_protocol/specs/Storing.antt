@@ -18,7 +18,8 @@ use Rattle.mw_protocol.specs.Storage.{Kept, Refused, private_key, bad_operation_
 
 abbrev pub refused_text : Refused → List ℕ
 refused_text private_key = codes "private key"
-refused_text (bad_operation_at place) = codes "operation " ++ decimal place ++ codes ": bad operation"
+refused_text (bad_operation_at place) =
+    codes "operation " ++ decimal place ++ codes ": bad operation"
 refused_text (out_of_range_at place) = codes "operation " ++ decimal place ++ codes ": out of range"
 refused_text (store_full bytes keys) = codes "store full: " ++ decimal bytes
 
@@ -38,13 +39,24 @@ abbrev pub reply_names : List (List ℕ)
 reply_names = codes "original_value" ∷ codes "slot" ∷ codes "value" ∷ []
 
 abbrev pub reply_to : Member → SetPacket → Changed → SetReply
-reply_to m set c = record { key = set.key; value = c.new; original_value = c.old; slot = m.slot; further = others reply_names set.further }
+reply_to m set c =
+    record {
+      key = set.key;
+      value = c.new;
+      original_value = c.old;
+      slot = m.slot;
+      further = others reply_names set.further;
+    }
 
 -- a change is told to who watches its key, and to the sender where it asks for that; why it is refused to the sender
 abbrev pub storing : Standing → Member → SetPacket → Result Changed Refused → Effect
 storing now m set (Err r) = answering (invalid_packet (refused_by r))
 storing now m set (Ok c) =
-    recording (store_records now.storage set.key c.new) (record { audience = watchers_hear set.key set.want_reply; packet = set_reply (reply_to m set c) } ∷ [])
+    recording (store_records now.storage set.key c.new)
+    (record {
+      audience = watchers_hear set.key set.want_reply;
+      packet = set_reply (reply_to m set c);
+    } ∷ [])
 
 abbrev pub changing : Standing → Member → SetPacket → Effect
 changing now m set = storing now m set (set_case now.storage set)
@@ -61,8 +73,16 @@ watched keys [] = keys
 watched keys (k ∷ ks) = watched (if is_passed_over keys k then keys else keys ++ k ∷ []) ks
 
 abbrev pub with_keys : List (List ℕ) → Member → Member
-with_keys keys m = record { team = m.team; slot = m.slot; mask = m.mask; tags = m.tags; keys = keys }
+with_keys keys m =
+    record { team = m.team; slot = m.slot; mask = m.mask; tags = m.tags; keys = keys }
 
 -- the session is told of changes of these keys too
 abbrev pub watching : Member → List (List ℕ) → Effect
-watching m keys = record { records = []; answers = []; whole = false; member = Some (with_keys (watched m.keys keys) m); announced = [] }
+watching m keys =
+    record {
+      records = [];
+      answers = [];
+      whole = false;
+      member = Some (with_keys (watched m.keys keys) m);
+      announced = [];
+    }

@@ -23,7 +23,8 @@ sum_at f p (d ∷ ds) = (if d then f p else 0) + sum_at f (suc p) ds
 
 -- once for each place of the list that the step's rule names, and once for each item there that it names
 abbrev pub times_named : Placed → List Bool → Step → ℕ
-times_named placed w step = sum_at (λ p. one_if (names_place_at step p) + items_named step (slice_index_or placed p [])) 0 w
+times_named placed w step =
+    sum_at (λ p. one_if (names_place_at step p) + items_named step (slice_index_or placed p [])) 0 w
 
 -- how often the step's rule may be asked: a step from nowhere has none to ask
 abbrev pub step_asks : Placed → List Bool → Step → ℕ
@@ -49,7 +50,8 @@ waits_for_place step p = is_at step.from p || names_place_at step p
 
 -- how often the step's rule may be asked for a place: once where it waits for it, and once for each item there that it names
 abbrev pub asks_for : Placed → Step → ℕ → ℕ
-asks_for placed step p = one_if (waits_for_place step p) + items_named step (slice_index_or placed p [])
+asks_for placed step p =
+    one_if (waits_for_place step p) + items_named step (slice_index_or placed p [])
 
 -- each rule so often for each place of the list
 abbrev pub asks_at : List Step → Placed → List Bool → ℕ

@@ -11,7 +11,8 @@ use Rattle.mw_reach.specs.Worklist.{AreRows}
 use Rattle.mw_reach.specs.declared.row.Rows.{Rows}
 
 -- the step starts at this place, and its rule, of the slot with these first numbers, names these items and places
-pub record StartsThere (from first_place first_item : ℕ) (items places : List ℕ) (step : Step) : Type 0 where
+pub record StartsThere (from first_place first_item : ℕ) (items places : List ℕ)
+    (step : Step) : Type 0 where
   pub from_is : step.from ≡ Some from
   pub place_is : step.first_place ≡ first_place
   pub item_is : step.first_item ≡ first_item
@@ -25,7 +26,8 @@ pub record StartsNowhere (step : Step) : Type 0 where
 -- the tables of any steps become those of these and one such step
 abbrev pub AddsStep : Rows → Rows → (Step → Type 0) → Type 0
 AddsStep old new P = (steps : List Step) (step : Step) → P step → length steps ≡ length old.rows
-    → IsWatched steps old.origins old.by_place old.by_item → IsWatched (steps ++ step ∷ []) new.origins new.by_place new.by_item
+    → IsWatched steps old.origins old.by_place old.by_item
+    → IsWatched (steps ++ step ∷ []) new.origins new.by_place new.by_item
 
 -- the slot has this index in the joint, its numbers are among the joint's, and these are few
 pub record SlotFits (joint : Joint) (index : ℕ) (slot : Slot) : Type 0 where
@@ -38,7 +40,9 @@ pub record SlotFits (joint : Joint) (index : ℕ) (slot : Slot) : Type 0 where
 
 -- from this number on the rules begin with these
 abbrev pub HasRules : List Rule → ℕ → List Rule → Type 0
-HasRules rules first these = (k : ℕ) → k < length these → (first + k < length rules) × (rule_at rules (first + k) ≡ rule_at these k)
+HasRules rules first these =
+    (k : ℕ) → k < length these
+    → (first + k < length rules) × (rule_at rules (first + k) ≡ rule_at these k)
 
 -- the rows of a joint's first steps
 abbrev pub AreJointRows : Joint → Rows → Type 0

@@ -5,7 +5,8 @@ use Rattle.mw_reach.specs.Reach.{Placed, found, bag_with}
 
 -- the counts are the base and what is found
 abbrev pub IsTally : Bag → Placed → List Bool → List ℕ → Type 0
-IsTally base placed places counts = (i : ℕ) → bag_of counts i ≡ bag_with base placed (places_of places) i
+IsTally base placed places counts =
+    (i : ℕ) → bag_of counts i ≡ bag_with base placed (places_of places) i
 
 -- the places that aren't in the list
 abbrev pub outside : List Bool → Places

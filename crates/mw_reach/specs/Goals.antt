@@ -17,7 +17,8 @@ GoalsHold joint bag w = All (λ s. goal_holds bag w s ≡ true) joint.slots
 -- the number of the first of these slots whose goal doesn't hold, the first slot having this number; none where each does
 abbrev pub unmet_from : ℕ → List Slot → Bag → Places → Option ℕ
 unmet_from number [] bag w = None
-unmet_from number (s ∷ ss) bag w = if goal_holds bag w s then unmet_from (suc number) ss bag w else Some number
+unmet_from number (s ∷ ss) bag w =
+    if goal_holds bag w s then unmet_from (suc number) ss bag w else Some number
 
 -- the number of the first slot whose goal doesn't hold
 abbrev pub unmet_goal : Joint → Bag → Places → Option ℕ
@@ -25,4 +26,6 @@ unmet_goal joint bag w = unmet_from 1 joint.slots bag w
 
 -- Beatable: each goal holds in every list of places that is closed for the starting items and what is placed
 abbrev pub IsBeatable : Joint → Placed → Type 0
-IsBeatable joint placed = (w : Places) → Closed (steps_of joint) (start_count joint.slots) placed w → GoalsHold joint (bag_with (start_count joint.slots) placed w) w
+IsBeatable joint placed =
+    (w : Places) → Closed (steps_of joint) (start_count joint.slots) placed w
+    → GoalsHold joint (bag_with (start_count joint.slots) placed w) w

@@ -36,12 +36,15 @@ starts_in (Some p) w = w p
 
 -- the step starts in the list, and its rule holds for its slot's items and places
 abbrev pub is_open : Step → Bag → Places → Bool
-is_open step bag w = starts_in step.from w && holds step.rule (λ i. bag (step.first_item + i)) (λ p. w (step.first_place + p))
+is_open step bag w =
+    starts_in step.from w
+    && holds step.rule (λ i. bag (step.first_item + i)) (λ p. w (step.first_place + p))
 
 -- each open step leads into the list
 abbrev pub Closed : List Step → Bag → Placed → Places → Type 0
 Closed [] base placed w = Unit {0}
-Closed (step ∷ steps) base placed w = (is_open step (bag_with base placed w) w ≡ true → w step.to ≡ true) × Closed steps base placed w
+Closed (step ∷ steps) base placed w =
+    (is_open step (bag_with base placed w) w ≡ true → w step.to ≡ true) × Closed steps base placed w
 
 -- it is closed, and each of its places is in every closed list
 pub record IsLeast (steps : List Step) (base : Bag) (placed : Placed) (w : Places) : Type 0 where

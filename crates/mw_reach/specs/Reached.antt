@@ -54,7 +54,8 @@ places_in reached = places_of (flags_in reached)
 
 -- it has the least list for the base and the placement, and its counts
 abbrev pub HasLeast : Joint → Bag → Placed → Reached → Type 0
-HasLeast joint base placed reached = IsSettled (steps_of joint) base placed (flags_in reached) (counts_in reached)
+HasLeast joint base placed reached =
+    IsSettled (steps_of joint) base placed (flags_in reached) (counts_in reached)
 
 -- it was marked at this list and these counts
 pub record IsMarkOf (reached : Reached) (mark : Mark) : Type 0 where

@@ -39,7 +39,14 @@ rule_of rules (Some start) = rule_at rules start.rule
 
 -- the step that a row of the slot stands for
 abbrev pub step_in : List Rule → Slot → Row → Step
-step_in rules slot row = record { from = from_of row.start; to = row.to; rule = rule_of rules row.start; first_place = slot.first_place; first_item = slot.first_item }
+step_in rules slot row =
+    record {
+      from = from_of row.start;
+      to = row.to;
+      rule = rule_of rules row.start;
+      first_place = slot.first_place;
+      first_item = slot.first_item;
+    }
 
 -- the step that a row stands for
 abbrev pub step_of : Joint → Row → Step
@@ -54,7 +61,8 @@ pub record StartFits (rules : List Rule) (slot : Slot) (places : ℕ) (start : S
 -- the row's numbers are among the joint's slots and rules, and among so many places and items
 pub record RowFits (joint : Joint) (places items : ℕ) (row : Row) : Type 0 where
   pub slot_fits : row.slot < length joint.slots
-  pub places_fit : (slot_at joint row.slot).first_place + slot_places (slot_at joint row.slot) ≤ places
+  pub places_fit : (slot_at joint row.slot).first_place + slot_places (slot_at joint row.slot)
+      ≤ places
   pub items_fit : (slot_at joint row.slot).first_item + slot_items (slot_at joint row.slot) ≤ items
   pub to_fits : row.to < places
   pub start_fits : IfSome row.start (StartFits (rule_list joint) (slot_at joint row.slot) places)

@@ -37,7 +37,9 @@ location_always l = is_always l.rule
 
 -- for each of a slot's rules, whether it always holds
 abbrev pub slot_always : Slot → List Bool
-slot_always slot = map entrance_always slot.world.entrances ++ (map location_always slot.world.locations ++ is_always slot.world.goal ∷ [])
+slot_always slot =
+    map entrance_always slot.world.entrances
+    ++ (map location_always slot.world.locations ++ is_always slot.world.goal ∷ [])
 
 -- the same of the joint's rules
 abbrev pub always_list : Joint → List Bool
@@ -54,7 +56,9 @@ starts_free free (Some start) p = nat_eq start.from p && places_of free start.ru
 
 -- the step with this number may always be taken from the place, and no step waits for where it leads
 abbrev pub leads_to_leaf : List Bool → List Row → List (List ℕ) → ℕ → ℕ → Bool
-leads_to_leaf free rows by_place p n = starts_free free (row_at rows n).start p && nat_eq (length (numbers_at by_place (row_at rows n).to)) 0
+leads_to_leaf free rows by_place p n =
+    starts_free free (row_at rows n).start p
+    && nat_eq (length (numbers_at by_place (row_at rows n).to)) 0
 
 abbrev pub is_asked : List Bool → List Row → List (List ℕ) → ℕ → ℕ → Bool
 is_asked free rows by_place p n = not (leads_to_leaf free rows by_place p n)
@@ -68,7 +72,8 @@ row_to rows n = (row_at rows n).to
 
 -- where the others lead
 abbrev pub leaf_places : List Bool → List Row → List (List ℕ) → ℕ → List ℕ
-leaf_places free rows by_place p = map (row_to rows) (filter (leads_to_leaf free rows by_place p) (numbers_at by_place p))
+leaf_places free rows by_place p =
+    map (row_to rows) (filter (leads_to_leaf free rows by_place p) (numbers_at by_place p))
 
 -- no step waits for the place, and a step whose rule always holds leads there
 pub record IsLeaf (steps : List Step) (by_place : List (List ℕ)) (from place : ℕ) : Type 0 where
@@ -83,13 +88,19 @@ pub record IsLeaf (steps : List Step) (by_place : List (List ℕ)) (from place :
 pub record IsSplit (steps : List Step) (by_place : List (List ℕ)) (split : Split) : Type 0 where
   pub asked_size : length split.asked ≡ length by_place
   pub leaves_size : length split.leaves ≡ length by_place
-  pub asked : (p n : ℕ) → is_among (numbers_at split.asked p) n ≡ true → is_among (numbers_at by_place p) n ≡ true
-  pub heard : (p n : ℕ) → is_among (numbers_at by_place p) n ≡ true → (is_among (numbers_at split.asked p) n ≡ true) ⊎ (is_among (numbers_at split.leaves p) (step_at steps n).to ≡ true)
+  pub asked : (p n : ℕ) → is_among (numbers_at split.asked p) n ≡ true
+      → is_among (numbers_at by_place p) n ≡ true
+  pub heard : (p n : ℕ) → is_among (numbers_at by_place p) n ≡ true
+      → (is_among (numbers_at split.asked p) n ≡ true)
+      ⊎ (is_among (numbers_at split.leaves p) (step_at steps n).to ≡ true)
   pub fewer : (p : ℕ) → length (numbers_at split.asked p) ≤ length (numbers_at by_place p)
-  pub leaves_are : (p t : ℕ) → is_among (numbers_at split.leaves p) t ≡ true → IsLeaf steps by_place p t
+  pub leaves_are : (p t : ℕ) → is_among (numbers_at split.leaves p) t ≡ true
+      → IsLeaf steps by_place p t
 
 -- in the midst of the work, with these places in the list as well
-pub record HasTaken (steps : List Step) (base : ℕ → ℕ) (placed : Placed) (done : List Bool) (counts : List ℕ) (before listed : List Bool) (queue : List ℕ) (head len : ℕ) (leaves : List ℕ) : Type 0 where
+pub record HasTaken (steps : List Step) (base : ℕ → ℕ) (placed : Placed) (done : List Bool)
+    (counts : List ℕ) (before listed : List Bool) (queue : List ℕ) (head len : ℕ)
+    (leaves : List ℕ) : Type 0 where
   pub working : IsWorking steps base placed done counts listed queue head len
   pub grows : IsPartOf (places_of before) (places_of listed)
   pub there : (t : ℕ) → is_among leaves t ≡ true → places_of listed t ≡ true

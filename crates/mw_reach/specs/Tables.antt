@@ -16,15 +16,21 @@ step_at steps n = slice_index_or steps n no_step
 
 -- each step from nowhere stands among the origins, and each step stands once at each place and at each item that may
 -- open it, and nowhere else
-pub record IsWatched (steps : List Step) (origins : List ℕ) (by_place by_item : List (List ℕ)) : Type 0 where
-  pub nowhere : (n : ℕ) → n < length steps → (step_at steps n).from ≡ None → is_among origins n ≡ true
-  pub places : (n p : ℕ) → times_in n (numbers_at by_place p) ≡ one_if (waits_for_place (step_at steps n) p)
-  pub items : (n i : ℕ) → times_in n (numbers_at by_item i) ≡ one_if (names_item_at (step_at steps n) i)
+pub record IsWatched (steps : List Step) (origins : List ℕ)
+    (by_place by_item : List (List ℕ)) : Type 0 where
+  pub nowhere : (n : ℕ) → n < length steps → (step_at steps n).from ≡ None
+      → is_among origins n ≡ true
+  pub places : (n p : ℕ)
+      → times_in n (numbers_at by_place p) ≡ one_if (waits_for_place (step_at steps n) p)
+  pub items : (n i : ℕ)
+      → times_in n (numbers_at by_item i) ≡ one_if (names_item_at (step_at steps n) i)
 
 -- in the second table the number stands more often than in the first, at each key by so much, and all else stays
 pub record IsNoted (old new : List (List ℕ)) (number : ℕ) (more : ℕ → ℕ) : Type 0 where
   pub size : length new ≡ length old
-  pub times : (n k : ℕ) → times_in n (numbers_at new k) ≡ times_in n (numbers_at old k) + (if nat_eq number n then more k else 0)
+  pub times : (n k : ℕ)
+      → times_in n (numbers_at new k)
+      ≡ times_in n (numbers_at old k) + (if nat_eq number n then more k else 0)
 
 -- a slot's numbers, over all slots
 abbrev pub shifted : ℕ → List ℕ → List ℕ

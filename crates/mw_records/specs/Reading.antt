@@ -32,7 +32,9 @@ byte_at [] = None
 byte_at (b ∷ rest) = Some (b, rest)
 
 abbrev pub number_at : Width → List ℕ → Option (ℕ × List ℕ)
-number_at w bytes = if nat_lt (length bytes) (byte_len w) then None else Some (from_be_bytes w (take (byte_len w) bytes), drop (byte_len w) bytes)
+number_at w bytes =
+    if nat_lt (length bytes) (byte_len w) then None
+    else Some (from_be_bytes w (take (byte_len w) bytes), drop (byte_len w) bytes)
 
 -- a field that passes a test
 abbrev pub passing : {A : Type 0} → (A → Bool) → Option (A × List ℕ) → Option (A × List ℕ)
@@ -162,7 +164,8 @@ is_compact text j = is_writable j && bytes_eq (spelling j) text
 -- the value of a text that is the compact text of its own reading
 abbrev pub compact_value : List ℕ → Option Json → Option Json
 compact_value text None = None
-compact_value text (Some j) = if nat_le (depth j) max_depth && is_compact text j then Some j else None
+compact_value text (Some j) =
+    if nat_le (depth j) max_depth && is_compact text j then Some j else None
 
 -- it is a text's reading, and no deeper than readings are
 pub record IsRead (text : List ℕ) (j : Json) : Type 0 where
@@ -205,7 +208,15 @@ status_at bytes = do
 
 -- a hint that is made
 abbrev pub made : (ℕ × ℕ) × ℤ → (Bool × ℕ) × ℕ → Record
-made target terms = hint record { team = target.0.0; finder = target.0.1; location = target.1; bought = terms.0.0; buyer = terms.0.1; status = terms.1 }
+made target terms =
+    hint record {
+      team = target.0.0;
+      finder = target.0.1;
+      location = target.1;
+      bought = terms.0.0;
+      buyer = terms.0.1;
+      status = terms.1;
+    }
 
 unfoldable pub made_at : List ℕ → Option (Record × List ℕ)
 made_at bytes = do
@@ -227,11 +238,16 @@ store_at bytes = do
 
 -- hints and values, by their kinds
 abbrev pub hint_named : ℕ → List ℕ → Option (Record × List ℕ)
-hint_named kind bytes = if kind == 5 then made_at bytes else (if kind == 6 then marked_at bytes else (if kind == 7 then store_at bytes else None))
+hint_named kind bytes =
+    if kind == 5 then made_at bytes
+    else (if kind == 6 then marked_at bytes else (if kind == 7 then store_at bytes else None))
 
 abbrev pub kind_named : ℕ → List ℕ → Option (Record × List ℕ)
 kind_named kind bytes =
-    if kind == 1 then checks_at bytes else (if kind == 2 then release_at bytes else (if kind == 3 then collect_at bytes else (if kind == 4 then status_at bytes else hint_named kind bytes)))
+    if kind == 1 then checks_at bytes
+    else (if kind == 2 then release_at bytes
+    else (if kind == 3 then collect_at bytes
+    else (if kind == 4 then status_at bytes else hint_named kind bytes)))
 
 unfoldable pub record_at : List ℕ → Option (Record × List ℕ)
 record_at bytes = do

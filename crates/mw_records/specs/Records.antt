@@ -7,7 +7,14 @@ use Rattle.mw_records.specs.declared.record.Record.TheVariants.{Checks, Release,
 
 abbrev pub hint_view : HintRecord → plain.Record
 hint_view (Made team finder loc bought buyer status) =
-    plain.hint record { team = team; finder = finder; location = loc; bought = bought; buyer = buyer; status = status }
+    plain.hint record {
+      team = team;
+      finder = finder;
+      location = loc;
+      bought = bought;
+      buyer = buyer;
+      status = status;
+    }
 hint_view (Marked team finder loc status) = plain.hint_status team finder loc status
 
 abbrev pub record_view : Record → plain.Record

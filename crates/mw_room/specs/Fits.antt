@@ -13,7 +13,9 @@ use Rattle.mw_room.specs.declared.session.Session.{Session}
 -- by ascending index from one on, each within the sessions and with the memory for its text
 abbrev pub ChangesFit : ℕ → List Session → List Change → Type 0
 ChangesFit from ss [] = Unit {0}
-ChangesFit from ss (c ∷ cs) = (from ≤ c.at) × (c.at < length ss) × ((d : Session) → HasSpace (get_or ss c.at d).untaken c.growth 1) × ChangesFit (c.at + 1) ss cs
+ChangesFit from ss (c ∷ cs) =
+    (from ≤ c.at) × (c.at < length ss)
+    × ((d : Session) → HasSpace (get_or ss c.at d).untaken c.growth 1) × ChangesFit (c.at + 1) ss cs
 
 -- it has the memory that it needs, and its parts are what its records come to
 pub record Fits (room : Room) (plan : Plan) : Type 0 where

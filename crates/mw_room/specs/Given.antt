@@ -29,5 +29,12 @@ given_with status seed now team slot = if status == 30 then at_goal seed now tea
 pub record IsGiven (s : Standing) (team : ℕ) (g : Given) : Type 0 where
   pub fresh : AreFresh s.log.seed s.log.checked team g.new
   pub comes_to : (ss : List SlotStatus) (hs : List Hint) (ks : List Kept)
-      → plain.steps s.log.seed (record { checked = s.log.checked; statuses = ss; hints = hs; storage = ks }) (map record_view g.records)
-      ≡ record { checked = s.log.checked ++ checks_of team g.new; statuses = ss; hints = hs; storage = ks }
+      → plain.steps s.log.seed
+      (record { checked = s.log.checked; statuses = ss; hints = hs; storage = ks })
+      (map record_view g.records)
+      ≡ record {
+        checked = s.log.checked ++ checks_of team g.new;
+        statuses = ss;
+        hints = hs;
+        storage = ks;
+      }

@@ -17,7 +17,10 @@ use Rattle.mw_room.specs.declared.standing.Standing.{Standing as RustStanding}
 abbrev pub told_at : Standing → ℕ → ℕ → ℤ → Option Held → List Announced
 told_at now team finder location None = []
 told_at now team finder location (Some at) =
-    record { audience = slots_hear team finder at.receiver; packet = printed (hint_print (found_item at) at.receiver (is_checked now team finder location)) } ∷ []
+    record {
+      audience = slots_hear team finder at.receiver;
+      packet = printed (hint_print (found_item at) at.receiver (is_checked now team finder location));
+    } ∷ []
 
 -- a hint that is there is told again or not, one that isn't there is made where the location isn't checked
 abbrev pub told_where : Option Hint → Bool → Bool → Bool
@@ -25,11 +28,13 @@ told_where None again found = not found
 told_where (Some h) again found = again
 
 abbrev pub is_told : Standing → ℕ → ℕ → Bool → ℤ → Bool
-is_told now team slot again location = told_where (hint_at now.hints team slot location) again (is_checked now team slot location)
+is_told now team slot again location =
+    told_where (hint_at now.hints team slot location) again (is_checked now team slot location)
 
 abbrev pub told_if : Seed → Standing → ℕ → ℕ → Bool → ℤ → List Announced
 told_if seed now team slot again location =
-    if is_told now team slot again location then told_at now team slot location (held_at seed slot location) else []
+    if is_told now team slot again location
+    then told_at now team slot location (held_at seed slot location) else []
 
 -- of the locations of a slot
 abbrev pub all_told : Seed → Standing → ℕ → ℕ → Bool → List (ℕ × ℤ) → List Announced
@@ -39,10 +44,12 @@ all_told seed now team slot again (p ∷ ps) =
 
 -- with 0 a scouting makes and tells no hints, with 1 those that are there are told again
 abbrev pub scouted_where : ℕ → Standing → ℕ → ℕ → List Check → List Hint
-scouted_where as_hint now team slot known = if as_hint == 0 then [] else scouted_among (is_checked now) now.hints team slot known
+scouted_where as_hint now team slot known =
+    if as_hint == 0 then [] else scouted_among (is_checked now) now.hints team slot known
 
 abbrev pub told_with : ℕ → Seed → Standing → ℕ → ℕ → List (ℕ × ℤ) → List Announced
-told_with as_hint seed now team slot known = if as_hint == 0 then [] else all_told seed now team slot (as_hint == 1) known
+told_with as_hint seed now team slot known =
+    if as_hint == 0 then [] else all_told seed now team slot (as_hint == 1) known
 
 -- a payer of a team buys the hint, and there is none at its place
 pub record IsBought (now : Standing) (of payer : ℕ) (h : Hint) : Type 0 where
@@ -54,4 +61,5 @@ pub record IsBought (now : Standing) (of payer : ℕ) (h : Hint) : Type 0 where
 -- what a member is answered that wants a hint
 abbrev pub answered_in : RustStanding → Member → Wanted → Answer
 answered_in s m wanted =
-    bought_for s.log.seed (is_checked (standing_of s)) (points s.log.seed (standing_of s) m.team m.slot) s.hints.hints m.team m.slot wanted
+    bought_for s.log.seed (is_checked (standing_of s))
+    (points s.log.seed (standing_of s) m.team m.slot) s.hints.hints m.team m.slot wanted

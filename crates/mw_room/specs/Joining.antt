@@ -11,15 +11,19 @@ errors_with seed c player =
     ++ error_where (not (is_some player)) (codes "InvalidSlot")
     ++ error_where (not (is_game_of c.game c.tags (slot_played seed player))) (codes "InvalidGame")
     ++ error_where (is_old c.version) (codes "IncompatibleVersion")
-    ++ error_where (not (is_mask (unwrap_or c.items_handling (pos 0)))) (codes "InvalidItemsHandling")
+    ++ error_where (not (is_mask (unwrap_or c.items_handling (pos 0))))
+    (codes "InvalidItemsHandling")
 
 -- the mask that is asked for, where it is one
 abbrev pub mask_asked : Option ℤ → Option ℕ
-mask_asked items_handling = if is_mask (unwrap_or items_handling (pos 0)) then Some (mask_of (unwrap_or items_handling (pos 0))) else None
+mask_asked items_handling =
+    if is_mask (unwrap_or items_handling (pos 0))
+    then Some (mask_of (unwrap_or items_handling (pos 0))) else None
 
 -- the member of a player with a mask and tags, where nothing refuses it
 abbrev pub member_where : List (List ℕ) → Option Player → Option ℕ → List (List ℕ) → Option Member
 member_where (error ∷ errors) player mask tags = None
 member_where [] None mask tags = None
 member_where [] (Some p) None tags = None
-member_where [] (Some p) (Some mask) tags = Some record { team = p.team; slot = p.slot; mask = mask; tags = tags; keys = [] }
+member_where [] (Some p) (Some mask) tags =
+    Some record { team = p.team; slot = p.slot; mask = mask; tags = tags; keys = [] }

@@ -36,13 +36,27 @@ shown s = record {
 }
 
 abbrev pub known : plain.Room → Known
-known r = record { seed = r.seed; now = standing r.seed r.journal; length = length r.journal; opened = r.opened; sessions = map shown r.sessions }
+known r =
+    record {
+      seed = r.seed;
+      now = standing r.seed r.journal;
+      length = length r.journal;
+      opened = r.opened;
+      sessions = map shown r.sessions;
+    }
 
 -- ---- one session
 
 -- a message more, at a length of the journal
 abbrev pub with_text : List ℕ → ℕ → Shown → Shown
-with_text text length s = record { number = s.number; member = s.member; texts = s.texts ++ text ∷ []; shows = max s.shows length; overrun = s.overrun }
+with_text text length s =
+    record {
+      number = s.number;
+      member = s.member;
+      texts = s.texts ++ text ∷ [];
+      shows = max s.shows length;
+      overrun = s.overrun;
+    }
 
 -- what it hasn't taken is dropped
 abbrev pub dropped : Shown → Shown
@@ -50,7 +64,8 @@ dropped s = record { number = s.number; member = s.member; texts = []; shows = 0
 
 -- unless it was or now is owed too many
 abbrev pub owing : List ℕ → ℕ → Shown → Shown
-owing text length s = if s.overrun then s else (if plain.is_full s.texts then dropped s else with_text text length s)
+owing text length s =
+    if s.overrun then s else (if plain.is_full s.texts then dropped s else with_text text length s)
 
 -- a message's text, where there are packets
 abbrev pub message_of : List ServerPacket → Option (List ℕ)
@@ -62,24 +77,36 @@ told None length s = s
 told (Some text) length s = owing text length s
 
 abbrev pub with_member : Option Member → Shown → Shown
-with_member member s = record { number = s.number; member = member; texts = s.texts; shows = s.shows; overrun = s.overrun }
+with_member member s =
+    record {
+      number = s.number;
+      member = member;
+      texts = s.texts;
+      shows = s.shows;
+      overrun = s.overrun;
+    }
 
 -- a session after an effect of the sender's
 abbrev pub shown_after : Seed → Standing → Standing → Effect → ℕ → ℕ → Shown → Shown
 shown_after seed before after effect sender length s =
     let member = plain.member_after effect (s.number == sender) s.member in
-    told (message_of (owed seed before after effect (s.number == sender) member)) length (with_member member s)
+    told (message_of (owed seed before after effect (s.number == sender) member)) length
+    (with_member member s)
 
 -- a session that was just opened
 abbrev pub fresh_session : ℕ → Shown
-fresh_session number = record { number = number; member = None; texts = []; shows = 0; overrun = false }
+fresh_session number =
+    record { number = number; member = None; texts = []; shows = 0; overrun = false }
 
 abbrev pub greeted : Known → ℕ → Shown
-greeted k time = told (message_of (room_info (room_info_of k.seed time) ∷ [])) k.length (fresh_session (k.opened + 1))
+greeted k time =
+    told (message_of (room_info (room_info_of k.seed time) ∷ [])) k.length
+    (fresh_session (k.opened + 1))
 
 -- it has taken its messages
 abbrev pub emptied : Shown → Shown
-emptied s = record { number = s.number; member = s.member; texts = []; shows = 0; overrun = s.overrun }
+emptied s =
+    record { number = s.number; member = s.member; texts = []; shows = 0; overrun = s.overrun }
 
 -- ---- the first session of a number
 
@@ -102,7 +129,8 @@ texts_at number (s ∷ ss) = if s.number == number then s.texts else texts_at nu
 
 abbrev pub emptied_among : ℕ → List Shown → List Shown
 emptied_among number [] = []
-emptied_among number (s ∷ ss) = if s.number == number then emptied s ∷ ss else s ∷ emptied_among number ss
+emptied_among number (s ∷ ss) =
+    if s.number == number then emptied s ∷ ss else s ∷ emptied_among number ss
 
 abbrev pub leaves : ℕ → List Shown → List Shown
 leaves number [] = []
@@ -112,7 +140,8 @@ leaves number (s ∷ ss) = if s.number == number then ss else s ∷ leaves numbe
 
 abbrev pub known_effect : Known → plain.Event → Effect
 known_effect k (plain.opened time) = nothing
-known_effect k (plain.sent number packet) = effect_of k.seed k.now (members_of k.sessions) (member_at number k.sessions) packet
+known_effect k (plain.sent number packet) =
+    effect_of k.seed k.now (members_of k.sessions) (member_at number k.sessions) packet
 known_effect k (plain.failed number bad) = bad_effect bad
 known_effect k (plain.lost number) = parting k.seed (member_at number k.sessions)
 
@@ -123,18 +152,44 @@ known_affected k sender effect = record {
   now = steps k.seed k.now effect.records;
   length = k.length + length effect.records;
   opened = k.opened;
-  sessions = map (shown_after k.seed k.now (steps k.seed k.now effect.records) effect sender (k.length + length effect.records)) k.sessions;
+  sessions = map
+      (shown_after k.seed k.now (steps k.seed k.now effect.records) effect sender
+      (k.length + length effect.records)) k.sessions;
 }
 
 -- a session has ended
 abbrev pub known_closed : Known → ℕ → Known
-known_closed k number = record { seed = k.seed; now = k.now; length = k.length; opened = k.opened; sessions = leaves number k.sessions }
+known_closed k number =
+    record {
+      seed = k.seed;
+      now = k.now;
+      length = k.length;
+      opened = k.opened;
+      sessions = leaves number k.sessions;
+    }
 
 abbrev pub known_next : Known → plain.Event → Known
-known_next k (plain.opened time) = record { seed = k.seed; now = k.now; length = k.length; opened = k.opened + 1; sessions = k.sessions ++ greeted k time ∷ [] }
-known_next k (plain.sent number packet) = known_affected k number (known_effect k (plain.sent number packet))
-known_next k (plain.failed number bad) = known_affected k number (known_effect k (plain.failed number bad))
-known_next k (plain.lost number) = known_affected (known_closed k number) number (known_effect k (plain.lost number))
+known_next k (plain.opened time) =
+    record {
+      seed = k.seed;
+      now = k.now;
+      length = k.length;
+      opened = k.opened + 1;
+      sessions = k.sessions ++ greeted k time ∷ [];
+    }
+known_next k (plain.sent number packet) =
+    known_affected k number (known_effect k (plain.sent number packet))
+known_next k (plain.failed number bad) =
+    known_affected k number (known_effect k (plain.failed number bad))
+known_next k (plain.lost number) =
+    known_affected (known_closed k number) number (known_effect k (plain.lost number))
 
 abbrev pub known_taken : Known → ℕ → Known
-known_taken k number = record { seed = k.seed; now = k.now; length = k.length; opened = k.opened; sessions = emptied_among number k.sessions }
+known_taken k number =
+    record {
+      seed = k.seed;
+      now = k.now;
+      length = k.length;
+      opened = k.opened;
+      sessions = emptied_among number k.sessions;
+    }

@@ -21,7 +21,9 @@ view_for log m = view_of log m.mask m.team m.slot
 
 -- all of a member's view, or what new checks add to it
 abbrev pub received_in : Bool → Log → Member → List Check → List ServerPacket
-received_in whole log m news = if whole then items_from 0 (view_for log m ++ items_for log.seed m news) else items_from (length (view_for log m)) (items_for log.seed m news)
+received_in whole log m news =
+    if whole then items_from 0 (view_for log m ++ items_for log.seed m news)
+    else items_from (length (view_for log m)) (items_for log.seed m news)
 
 -- the points of a member's slot, and once an effect is done
 abbrev pub points_before : Standing → Member → ℕ
@@ -33,4 +35,5 @@ points_after s e m = points s.log.seed (grown s e) m.team m.slot
 -- what a member is owed once an effect is done, beside the answer to its own packet and what is told to several
 abbrev pub growth_in : Bool → Standing → Effect → Member → List ServerPacket
 growth_in whole s e m =
-    update_with (points_before s m) (points_after s e m) (locations_in m.team m.slot (news_of e)) ++ received_in whole s.log m (news_of e)
+    update_with (points_before s m) (points_after s e m) (locations_in m.team m.slot (news_of e))
+    ++ received_in whole s.log m (news_of e)

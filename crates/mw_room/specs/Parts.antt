@@ -12,7 +12,13 @@ use Rattle.mw_room.specs.declared.effect.Effect.{Effect}
 use Rattle.mw_room.specs.declared.standing.Standing.{Standing}
 
 abbrev pub standing_of : Standing → plain.Standing
-standing_of s = record { checked = s.log.checked; statuses = s.statuses.items; hints = s.hints.hints; storage = s.store.kept }
+standing_of s =
+    record {
+      checked = s.log.checked;
+      statuses = s.statuses.items;
+      hints = s.hints.hints;
+      storage = s.store.kept;
+    }
 
 abbrev pub seed_of : Standing → Seed
 seed_of s = s.log.seed
@@ -27,7 +33,8 @@ stated_by (Some s) ss = set_status s.team s.slot s.status ss
 -- the index of the first status of a slot in a team
 abbrev pub place_of_status : ℕ → ℕ → List SlotStatus → ℕ
 place_of_status team slot [] = zero
-place_of_status team slot (s ∷ ss) = if (s.team == team) && (s.slot == slot) then zero else suc (place_of_status team slot ss)
+place_of_status team slot (s ∷ ss) =
+    if (s.team == team) && (s.slot == slot) then zero else suc (place_of_status team slot ss)
 
 -- ---- the data storage
 
@@ -57,7 +64,8 @@ grown s e = record {
 
 -- how many hints more a slot of a team has paid for
 abbrev pub paid_by : Effect → ℕ → ℕ → ℕ
-paid_by e team slot = elim e.payer [ None ↦ 0 | Some payer ↦ if (e.team == team) && (payer == slot) then 1 else 0 ]
+paid_by e team slot =
+    elim e.payer [ None ↦ 0 | Some payer ↦ if (e.team == team) && (payer == slot) then 1 else 0 ]
 
 -- it records nothing
 pub record IsQuiet (e : Effect) : Type 0 where
@@ -72,4 +80,6 @@ pub record IsQuiet (e : Effect) : Type 0 where
 pub record IsLogged (s : Standing) (e : Effect) : Type 0 where
   pub fresh : AreFresh s.log.seed s.log.checked e.team e.new
   pub comes_to : grown s e ≡ plain.steps s.log.seed (standing_of s) (map record_view e.records)
-  pub paid : (team slot : ℕ) → length (bought_by (grown s e).hints team slot) ≡ length (bought_by s.hints.hints team slot) + paid_by e team slot
+  pub paid : (team slot : ℕ)
+      → length (bought_by (grown s e).hints team slot)
+      ≡ length (bought_by s.hints.hints team slot) + paid_by e team slot

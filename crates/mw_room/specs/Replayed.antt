@@ -13,4 +13,11 @@ asked_in log r = log.checked ++ unseen log.checked (asked_by log.seed r)
 
 -- a record more stands in the journal
 abbrev pub known_more : Known → Record → Known
-known_more k r = record { seed = k.seed; now = step k.seed k.now r; length = k.length + 1; opened = k.opened; sessions = k.sessions }
+known_more k r =
+    record {
+      seed = k.seed;
+      now = step k.seed k.now r;
+      length = k.length + 1;
+      opened = k.opened;
+      sessions = k.sessions;
+    }

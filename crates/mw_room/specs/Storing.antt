@@ -32,7 +32,11 @@ stored_where is_kept key value = if is_kept then None else Some record { key = k
 
 -- what is told of a change
 abbrev pub told_of : Member → SetPacket → Changed → List Announced
-told_of m set c = record { audience = watchers_hear set.key set.want_reply; packet = set_reply (reply_to m set c) } ∷ []
+told_of m set c =
+    record {
+      audience = watchers_hear set.key set.want_reply;
+      packet = set_reply (reply_to m set c);
+    } ∷ []
 
 -- it comes to a key's value alone
 pub record IsKeeping (e : RustEffect) : Type 0 where

@@ -25,10 +25,24 @@ use Rattle.mw_room.specs.declared.state.SessionState.{SessionState}
 use Rattle.mw_room.specs.declared.state.SessionState.TheVariants.{Shut, Overrun, Ready}
 
 abbrev pub session_view : Session → Shown
-session_view s = record { number = s.number; member = s.member; texts = s.untaken.items; shows = s.shows; overrun = s.overrun }
+session_view s =
+    record {
+      number = s.number;
+      member = s.member;
+      texts = s.untaken.items;
+      shows = s.shows;
+      overrun = s.overrun;
+    }
 
 abbrev pub room_view : Room → Known
-room_view r = record { seed = r.standing.log.seed; now = standing_of r.standing; length = r.recorded; opened = r.opened; sessions = map session_view r.sessions.items }
+room_view r =
+    record {
+      seed = r.standing.log.seed;
+      now = standing_of r.standing;
+      length = r.recorded;
+      opened = r.opened;
+      sessions = map session_view r.sessions.items;
+    }
 
 -- how a session stands, if it is open
 abbrev pub shown_state : Option Shown → SessionState
@@ -65,7 +79,9 @@ place_in number (s ∷ ss) = if s.number == number then zero else suc (place_in 
 abbrev pub IsChange : Option Change → ℕ → (ℕ → Shown → Shown) → Session → Type 0
 IsChange None at due s = (length : ℕ) → due length (session_view s) ≡ session_view s
 IsChange (Some c) at due s =
-    (c.at ≡ at) × ((length : ℕ) → changed_by c length (session_view s) ≡ due length (session_view s)) × HasSpace s.untaken c.growth 1
+    (c.at ≡ at) × ((length : ℕ)
+    → changed_by c length (session_view s) ≡ due length (session_view s))
+    × HasSpace s.untaken c.growth 1
 
 -- what a new member, if there is one, and a text make of a session
 abbrev pub due_by : Option Member → Option (List ℕ) → ℕ → Shown → Shown
@@ -85,7 +101,8 @@ audience_view (Watchers key replies) = heard.watchers_hear key replies
 audience_view (Named team whom) = heard.named_hear team whom
 
 abbrev pub announced_view : Announced → heard.Announced
-announced_view a = record { audience = audience_view a.audience; packet = told_by.packet_view a.packet }
+announced_view a =
+    record { audience = audience_view a.audience; packet = told_by.packet_view a.packet }
 
 abbrev pub effect_view : Effect → plain_effects.Effect
 effect_view e = record {
@@ -98,11 +115,13 @@ effect_view e = record {
 
 -- the text that an effect of the sender's, or of another's, owes a session which is this member after it
 abbrev pub due_text : Standing → Effect → Bool → Option Member → Option (List ℕ)
-due_text s e sends member = message_of (owed s.log.seed (standing_of s) (grown s e) (effect_view e) sends member)
+due_text s e sends member =
+    message_of (owed s.log.seed (standing_of s) (grown s e) (effect_view e) sends member)
 
 -- a session after an effect of the sender's, at a length of the journal
 abbrev pub due_after : Standing → Effect → ℕ → ℕ → Shown → Shown
-due_after now e sender length s = shown_after now.log.seed (standing_of now) (grown now e) (effect_view e) sender length s
+due_after now e sender length s =
+    shown_after now.log.seed (standing_of now) (grown now e) (effect_view e) sender length s
 
 -- the effect is what is due, and is logged
 pub record IsEffect (effect : Effect) (now : Standing) (due : plain_effects.Effect) : Type 0 where
@@ -119,7 +138,9 @@ planned plan k = record {
   now = steps k.seed k.now (plan_records plan);
   length = plan.length;
   opened = plan.opened;
-  sessions = left plan.lost (changed plan.length k.sessions plan.changes.items ++ map session_view plan.new_sessions.items);
+  sessions = left plan.lost
+      (changed plan.length k.sessions plan.changes.items
+      ++ map session_view plan.new_sessions.items);
 }
 
 -- the room's parts with these parts of a plan
@@ -129,5 +150,6 @@ made k effect cs lost ns = record {
   now = steps k.seed k.now (map record_view effect.records);
   length = k.length + length effect.records;
   opened = k.opened + length ns;
-  sessions = left lost (changed (k.length + length effect.records) k.sessions cs ++ map session_view ns);
+  sessions = left lost
+      (changed (k.length + length effect.records) k.sessions cs ++ map session_view ns);
 }

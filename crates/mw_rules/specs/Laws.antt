@@ -22,13 +22,18 @@ AgreesOnPlaces r v w = (p : ℕ) → names_place r p ≡ true → v p ≡ w p
 
 -- with greater counts and more places a rule that holds still holds
 abbrev pub StaysTrue : Type 0
-StaysTrue = (r : Rule) (a b : Bag) (v w : Places) → HasNoLess a b → IsPartOf v w → holds r a v ≡ true → holds r b w ≡ true
+StaysTrue =
+    (r : Rule) (a b : Bag) (v w : Places) → HasNoLess a b → IsPartOf v w → holds r a v ≡ true
+    → holds r b w ≡ true
 
 -- whether a rule holds hangs on the items and places that it names alone
 abbrev pub HangsOnNames : Type 0
-HangsOnNames = (r : Rule) (a b : Bag) (v w : Places) → AgreesOnItems r a b → AgreesOnPlaces r v w → holds r a v ≡ holds r b w
+HangsOnNames =
+    (r : Rule) (a b : Bag) (v w : Places) → AgreesOnItems r a b → AgreesOnPlaces r v w
+    → holds r a v ≡ holds r b w
 
 -- each item and each place that a rule names is within the numbers that the rule is within
 abbrev pub NamesLieWithin : Type 0
 NamesLieWithin = (r : Rule) (items places : ℕ) → IsWithin items places r
-    → ((i : ℕ) → names_item r i ≡ true → i < items) × ((p : ℕ) → names_place r p ≡ true → p < places)
+    → ((i : ℕ) → names_item r i ≡ true → i < items)
+    × ((p : ℕ) → names_place r p ≡ true → p < places)

@@ -25,7 +25,8 @@ abbrev pub compare_places : ℕ → List Spot → List Spot → Check
 compare_places sphere [] [] = Ok tt
 compare_places sphere [] (d ∷ due) = Err (Missing sphere d)
 compare_places sphere (c ∷ claimed) [] = Err (Wrong sphere c)
-compare_places sphere (c ∷ claimed) (d ∷ due) = if same_spot c d then compare_places sphere claimed due else Err (Wrong sphere c)
+compare_places sphere (c ∷ claimed) (d ∷ due) =
+    if same_spot c d then compare_places sphere claimed due else Err (Wrong sphere c)
 
 -- the first sphere, and the later ones; past the end stands an empty one
 abbrev pub first_sphere : List (List Spot) → List Spot
@@ -39,10 +40,13 @@ later_spheres (s ∷ spheres) = spheres
 -- sphere by sphere, the first of which has this number
 abbrev pub compare_spheres : ℕ → List (List Spot) → List (List Spot) → Check
 compare_spheres sphere [] due = compare_places sphere [] (first_sphere due)
-compare_spheres sphere (c ∷ claimed) due = or_later (compare_places sphere c (first_sphere due)) (compare_spheres (suc sphere) claimed (later_spheres due))
+compare_spheres sphere (c ∷ claimed) due =
+    or_later (compare_places sphere c (first_sphere due))
+    (compare_spheres (suc sphere) claimed (later_spheres due))
 
 -- each goal holds, and this is found where the claimed spheres are compared with those of the placement
-pub record Compares (joint : Joint) (puts : List Put) (claimed : List (List Spot)) (found : Check) : Type 0 where
+pub record Compares (joint : Joint) (puts : List Put) (claimed : List (List Spot))
+    (found : Check) : Type 0 where
   pub goals : IsFirstUnmet joint (placement_table joint puts) None
   pub due : List (List Spot)
   pub spheres : IsSpheres joint puts due
@@ -51,7 +55,10 @@ pub record Compares (joint : Joint) (puts : List Put) (claimed : List (List Spot
 -- what the check finds, unless memory ran out
 abbrev pub IsChecked : Joint → List Put → List (List Spot) → Check → Type 0
 IsChecked joint puts claimed (Ok done) = Compares joint puts claimed (Ok done)
-IsChecked joint puts claimed (Err (GoalMissed slot)) = IsFirstUnmet joint (placement_table joint puts) (Some slot)
-IsChecked joint puts claimed (Err (Wrong sphere place)) = Compares joint puts claimed (Err (Wrong sphere place))
-IsChecked joint puts claimed (Err (Missing sphere place)) = Compares joint puts claimed (Err (Missing sphere place))
+IsChecked joint puts claimed (Err (GoalMissed slot)) =
+    IsFirstUnmet joint (placement_table joint puts) (Some slot)
+IsChecked joint puts claimed (Err (Wrong sphere place)) =
+    Compares joint puts claimed (Err (Wrong sphere place))
+IsChecked joint puts claimed (Err (Missing sphere place)) =
+    Compares joint puts claimed (Err (Missing sphere place))
 IsChecked joint puts claimed (Err Memory) = Unit {0}

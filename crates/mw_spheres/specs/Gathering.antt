@@ -15,7 +15,9 @@ pub record HasRoom (table : Placed) (taken : List Bool) (bag : List ℕ) : Type 
   pub room : (i : ℕ) → bag_of bag i + found table (outside taken) i < 2 ^ 31
 
 -- of these locations, whose places are below this bound, those that are due were found and taken
-pub record Gathered (slots : List Slot) (table : Placed) (w : Places) (first : List Bool) (start : List ℕ) (spots : List Spot) (bound : ℕ) (taken : List Bool) (bag : List ℕ) (found : List Spot) : Type 0 where
+pub record Gathered (slots : List Slot) (table : Placed) (w : Places) (first : List Bool)
+    (start : List ℕ) (spots : List Spot) (bound : ℕ) (taken : List Bool) (bag : List ℕ)
+    (found : List Spot) : Type 0 where
   pub due : found ≡ filter (is_due slots table w (places_of first)) spots
   pub flags : (p : ℕ) → places_of taken p ≡ (places_of first p || is_listed slots found p)
   pub later : (p : ℕ) → bound ≤ p → places_of taken p ≡ places_of first p
@@ -23,6 +25,7 @@ pub record Gathered (slots : List Slot) (table : Placed) (w : Places) (first : L
   pub fewer : missing taken + length found ≡ missing first
 
 -- what is in hand and taken after these locations
-pub record IsInHand (joint : Joint) (table : Placed) (earlier : List Spot) (taken : List Bool) (bag : List ℕ) : Type 0 where
+pub record IsInHand (joint : Joint) (table : Placed) (earlier : List Spot) (taken : List Bool)
+    (bag : List ℕ) : Type 0 where
   pub flags : (p : ℕ) → places_of taken p ≡ is_listed joint.slots earlier p
   pub counts : (i : ℕ) → bag_of bag i ≡ hand_of joint table earlier i

@@ -33,32 +33,40 @@ pub record IsAsked (joint : Joint) (table : Placed) (p : ℕ) (before kept : Lis
 -- the places are asked from the last to the first
 abbrev pub IsThinned : Joint → Placed → List ℕ → List Bool → List Bool → Type 0
 IsThinned joint table [] first kept = kept ≡ first
-IsThinned joint table (p ∷ places) first kept = (later : List Bool) × IsThinned joint table places first later × IsAsked joint table p later kept
+IsThinned joint table (p ∷ places) first kept =
+    (later : List Bool) × IsThinned joint table places first later
+    × IsAsked joint table p later kept
 
 -- the location is kept
 abbrev pub is_kept : List Slot → List Bool → Spot → Bool
 is_kept slots kept spot = places_of kept (spot_place slots spot)
 
 -- the entries of the spheres that are kept when they are asked from the last to the first, each in its sphere
-pub record IsPlaythrough (joint : Joint) (puts : List Put) (spheres played : List (List Spot)) : Type 0 where
+pub record IsPlaythrough (joint : Joint) (puts : List Put)
+    (spheres played : List (List Spot)) : Type 0 where
   pub first : List Bool
   pub size : length first ≡ place_total joint.slots
   pub entries : (p : ℕ) → places_of first p ≡ is_listed joint.slots (listed spheres) p
   pub kept : List Bool
-  pub thinned : IsThinned joint (placement_table joint puts) (map (spot_place joint.slots) (listed spheres)) first kept
+  pub thinned : IsThinned joint (placement_table joint puts)
+      (map (spot_place joint.slots) (listed spheres)) first kept
   pub is : played ≡ map (filter (is_kept joint.slots kept)) spheres
 
 -- ---- nothing to spare
 
 -- what stands at one of these entries other than the one at a place
 abbrev pub other_at : List Slot → Placed → List Spot → ℕ → ℕ → List ℕ
-other_at slots table entries place p = if is_listed slots entries p && not (nat_eq p place) then numbers_at table p else []
+other_at slots table entries place p =
+    if is_listed slots entries p && not (nat_eq p place) then numbers_at table p else []
 
 -- what stands at these entries, but for the one at a place, as the whole placement
 abbrev pub others : List Slot → Placed → List Spot → ℕ → Placed
-others slots table entries place = map (other_at slots table entries place) (range_with_len 0 (length table))
+others slots table entries place =
+    map (other_at slots table entries place) (range_with_len 0 (length table))
 
 -- without any one of the entries the others alone leave a goal unmet
 abbrev pub NoneToSpare : Joint → List Put → List (List Spot) → Type 0
 NoneToSpare joint puts played =
-    All (λ spot. IsBeatable joint (others joint.slots (placement_table joint puts) (listed played) (spot_place joint.slots spot)) → ⊥) (listed played)
+    All (λ spot. IsBeatable joint
+    (others joint.slots (placement_table joint puts) (listed played) (spot_place joint.slots spot))
+    → ⊥) (listed played)

@@ -12,7 +12,8 @@ use Rattle.mw_reach.specs.Reach.{Placed}
 
 -- the tables have the location
 abbrev pub IsSpot : List Slot → Spot → Type 0
-IsSpot slots spot = (s : Slot) × (slot_at slots spot.slot ≡ Some s) × (spot.index < length s.world.locations)
+IsSpot slots spot =
+    (s : Slot) × (slot_at slots spot.slot ≡ Some s) × (spot.index < length s.world.locations)
 
 abbrev pub place_in : Option Slot → ℕ → ℕ
 place_in None index = 0

@@ -35,4 +35,6 @@ pub record IsStore (kept : List Kept) (bytes : Option ℕ) : Type 0 where
 
 -- this many more keys have their place, here or in the wider map
 abbrev pub HasRoom : Stored → StoreGrowth → ℕ → Type 0
-HasRoom store growth more = MatchOption growth.wide (more ≤ store.room) (λ m. IsEmpty m × (length store.kept + more ≤ spare m))
+HasRoom store growth more =
+    MatchOption growth.wide (more ≤ store.room)
+    (λ m. IsEmpty m × (length store.kept + more ≤ spare m))

@@ -23,7 +23,8 @@ names_differ before i (n ∷ ns) = do
 
 -- the same of the names of the player at an index
 abbrev pub player_named : List (List ℕ) → ℕ → List (List ℕ) → Check
-player_named before i names = under (Index i) (under (Name (codes "names")) (names_differ before 0 names))
+player_named before i names =
+    under (Index i) (under (Name (codes "names")) (names_differ before 0 names))
 
 -- over all teams and slots
 abbrev pub players_named : List (List ℕ) → ℕ → List Player → Check

@@ -23,11 +23,26 @@ room_at j = do
   release ← field_or_at (codes "release") 6 permission_at ms
   collect ← field_or_at (codes "collect") 6 permission_at ms
   remaining ← field_or_at (codes "remaining") 2 remaining_at ms
-  Ok record { password = password; hint_cost = hint_cost; location_check_points = points; release = release; collect = collect; remaining = remaining }
+  Ok record {
+    password = password;
+    hint_cost = hint_cost;
+    location_check_points = points;
+    release = release;
+    collect = collect;
+    remaining = remaining;
+  }
 
 -- no password, hints at a tenth, a point a location, release and collect by themselves, remaining at the goal
 abbrev pub usual_room : RoomOptions
-usual_room = record { password = []; hint_cost = 10; location_check_points = 1; release = 6; collect = 6; remaining = 2 }
+usual_room =
+    record {
+      password = [];
+      hint_cost = 10;
+      location_check_points = 1;
+      release = 6;
+      collect = 6;
+      remaining = 2;
+    }
 
 -- ---- options
 
@@ -63,10 +78,23 @@ options_at j = do
   exclude ← field_or_at (codes "exclude_locations") [] wishes_at ms
   priority ← field_or_at (codes "priority_locations") [] wishes_at ms
   start ← field_or_at (codes "start_inventory") [] start_inventory_at ms
-  Ok record { local_items = local; non_local_items = non_local; exclude_locations = exclude; priority_locations = priority; start_inventory = start }
+  Ok record {
+    local_items = local;
+    non_local_items = non_local;
+    exclude_locations = exclude;
+    priority_locations = priority;
+    start_inventory = start;
+  }
 
 abbrev pub no_options : Options
-no_options = record { local_items = []; non_local_items = []; exclude_locations = []; priority_locations = []; start_inventory = [] }
+no_options =
+    record {
+      local_items = [];
+      non_local_items = [];
+      exclude_locations = [];
+      priority_locations = [];
+      start_inventory = [];
+    }
 
 -- ---- players
 

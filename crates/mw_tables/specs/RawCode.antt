@@ -37,12 +37,16 @@ mutual
   stands_for_it (meaning.has_count ns k) = raw_view_of_count ns k
   stands_for_it (meaning.reach_region n) = raw_view_of_region n
   stands_for_it (meaning.reach_location n) = raw_view_of_location n
-  stands_for_it (meaning.all_of rs) = raw_view_of_and (all_written rs) ∙ ap meaning.all_of (stand_for_them rs)
-  stands_for_it (meaning.some_of rs) = raw_view_of_or (all_written rs) ∙ ap meaning.some_of (stand_for_them rs)
+  stands_for_it (meaning.all_of rs) = raw_view_of_and (all_written rs) ∙ ap meaning.all_of
+      (stand_for_them rs)
+  stands_for_it (meaning.some_of rs) = raw_view_of_or (all_written rs) ∙ ap meaning.some_of
+      (stand_for_them rs)
 
   pub stand_for_them : (rs : meaning.RawRules) → raw_rules_view (all_written rs) ≡ rs
   stand_for_them meaning.no_rules = refl
-  stand_for_them (meaning.a_rule r rs) = ap (λ x. meaning.a_rule x (raw_rules_view (all_written rs))) (stands_for_it r) ∙ ap (meaning.a_rule r) (stand_for_them rs)
+  stand_for_them (meaning.a_rule r rs) = ap
+      (λ x. meaning.a_rule x (raw_rules_view (all_written rs))) (stands_for_it r) ∙ ap
+      (meaning.a_rule r) (stand_for_them rs)
 
 abbrev pub coded_raw_rule : Coded meaning.RawRule
 coded_raw_rule = code_by RawRule row.the_row.coded written raw_view stands_for_it

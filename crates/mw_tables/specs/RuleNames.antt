@@ -63,7 +63,8 @@ raw_location_name l = l.name
 
 -- a location's place comes after those of the regions
 abbrev pub place_of_location : RawWorld → List ℕ → Option ℕ
-place_of_location w name = option_map (λ i. length w.regions + i) (index_of_name (map raw_location_name w.locations) name)
+place_of_location w name =
+    option_map (λ i. length w.regions + i) (index_of_name (map raw_location_name w.locations) name)
 
 unfoldable pub location_place : RawWorld → List ℕ → Result ℕ Breach
 location_place w name = do
@@ -75,13 +76,20 @@ abbrev mutual
   rule_named w always = Ok rule.always
   rule_named w never = Ok rule.never
   rule_named w (has n k) = under (Name (codes "has")) (rule_item w n) >>= (λ i. Ok (rule.has i k))
-  rule_named w (has_all ns) = under (Name (codes "has_all")) (listed_items w [] 0 ns) >>= (λ is. Ok (rule.has_all is))
-  rule_named w (has_any ns) = under (Name (codes "has_any")) (listed_items w [] 0 ns) >>= (λ is. Ok (rule.has_any is))
-  rule_named w (has_count ns k) = under (Name (codes "count")) (listed_items w [] 0 ns) >>= (λ is. Ok (rule.has_count is k))
-  rule_named w (reach_region n) = under (Name (codes "can_reach")) (under (Name (codes "region")) (region_named w n)) >>= (λ p. Ok (rule.can_reach p))
-  rule_named w (reach_location n) = under (Name (codes "can_reach")) (under (Name (codes "location")) (location_place w n)) >>= (λ p. Ok (rule.can_reach p))
-  rule_named w (all_of rs) = under (Name (codes "and")) (rules_named w 0 rs) >>= (λ named. Ok (rule.all_of (rules_of named)))
-  rule_named w (some_of rs) = under (Name (codes "or")) (rules_named w 0 rs) >>= (λ named. Ok (rule.some_of (rules_of named)))
+  rule_named w (has_all ns) = under (Name (codes "has_all")) (listed_items w [] 0 ns) >>=
+      (λ is. Ok (rule.has_all is))
+  rule_named w (has_any ns) = under (Name (codes "has_any")) (listed_items w [] 0 ns) >>=
+      (λ is. Ok (rule.has_any is))
+  rule_named w (has_count ns k) = under (Name (codes "count")) (listed_items w [] 0 ns) >>=
+      (λ is. Ok (rule.has_count is k))
+  rule_named w (reach_region n) = under (Name (codes "can_reach"))
+      (under (Name (codes "region")) (region_named w n)) >>= (λ p. Ok (rule.can_reach p))
+  rule_named w (reach_location n) = under (Name (codes "can_reach"))
+      (under (Name (codes "location")) (location_place w n)) >>= (λ p. Ok (rule.can_reach p))
+  rule_named w (all_of rs) = under (Name (codes "and")) (rules_named w 0 rs) >>=
+      (λ named. Ok (rule.all_of (rules_of named)))
+  rule_named w (some_of rs) = under (Name (codes "or")) (rules_named w 0 rs) >>=
+      (λ named. Ok (rule.some_of (rules_of named)))
 
   pub rules_named : RawWorld → ℕ → RawRules → Result (List Rule) Breach
   rules_named w i no_rules = Ok []

@@ -71,7 +71,8 @@ leaf_in ms =
     if has_member (codes "has") ms then there (has_at ms)
     else (if has_member (codes "has_all") ms then there (has_all_at ms)
     else (if has_member (codes "has_any") ms then there (has_any_at ms)
-    else (if has_member (codes "count") ms && has_member (codes "at_least") ms then there (has_count_at ms)
+    else (if has_member (codes "count") ms && has_member (codes "at_least") ms
+    then there (has_count_at ms)
     else (if has_member (codes "can_reach") ms then there (reach_at ms) else Ok None))))
 
 -- what was found, or else what comes next
@@ -105,7 +106,8 @@ abbrev mutual
   -- the rules under a name, if it is there
   pub rules_under : List ℕ → Members → Result (Option (List RawRule)) Breach
   rules_under name no_members = Ok None
-  rules_under name (member k j ms) = if bytes_eq k name then there (under (Name name) (rules_at j)) else rules_under name ms
+  rules_under name (member k j ms) = if bytes_eq k name then there (under (Name name) (rules_at j))
+      else rules_under name ms
 
   pub rules_at : Json → Result (List RawRule) Breach
   rules_at (many js) = rules_from 0 js

@@ -26,16 +26,19 @@ abbrev pub raw_entrance_name : RawEntrance → List ℕ
 raw_entrance_name e = e.name
 
 abbrev pub entrance_once : RawWorld → ℕ → RawEntrance → Check
-entrance_once w i e = demand DuplicateName (stands_first (map raw_entrance_name w.entrances) i e.name)
+entrance_once w i e =
+    demand DuplicateName (stands_first (map raw_entrance_name w.entrances) i e.name)
 
 abbrev pub raw_location_id : RawLocation → Option ℤ
 raw_location_id l = l.id
 
 abbrev pub location_name_once : RawWorld → ℕ → RawLocation → Check
-location_name_once w i l = demand DuplicateName (stands_first (map raw_location_name w.locations) i l.name)
+location_name_once w i l =
+    demand DuplicateName (stands_first (map raw_location_name w.locations) i l.name)
 
 abbrev pub location_id_once : RawWorld → ℕ → RawLocation → Check
-location_id_once w i l = demand DuplicateId (id_stands_first (map raw_location_id w.locations) i l.id)
+location_id_once w i l =
+    demand DuplicateId (id_stands_first (map raw_location_id w.locations) i l.id)
 
 -- ---- items
 
@@ -131,4 +134,11 @@ world_names w = do
   pool ← under (Name (codes "pool")) (entries_named w 0 w.pool)
   filler ← under (Name (codes "filler")) (item_such may_fill UnknownName w w.filler)
   goal ← under (Name (codes "goal")) (rule_named w w.goal)
-  Ok record { origin = origin; entrances = entrances; locations = locations; pool = pool; filler = filler; goal = goal }
+  Ok record {
+    origin = origin;
+    entrances = entrances;
+    locations = locations;
+    pool = pool;
+    filler = filler;
+    goal = goal;
+  }

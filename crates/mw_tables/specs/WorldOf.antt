@@ -10,7 +10,18 @@ use Rattle.mw_tables.specs.WorldNames.{NamedWorld, world_names}
 
 -- the world of these tables and of what their names stand for
 abbrev pub resolved : RawWorld → NamedWorld → World
-resolved w n = record { game = w.game; origin = n.origin; regions = w.regions; entrances = n.entrances; locations = n.locations; items = w.items; pool = n.pool; filler = n.filler; goal = n.goal }
+resolved w n =
+    record {
+      game = w.game;
+      origin = n.origin;
+      regions = w.regions;
+      entrances = n.entrances;
+      locations = n.locations;
+      items = w.items;
+      pool = n.pool;
+      filler = n.filler;
+      goal = n.goal;
+    }
 
 -- its shape, then its names
 unfoldable pub world_at : Json → Result World Breach

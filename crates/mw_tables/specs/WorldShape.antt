@@ -134,4 +134,14 @@ world_shape_at j = do
   pool ← field_at (codes "pool") pool_at ms
   filler ← field_at (codes "filler") (name_at 128) ms
   goal ← field_at (codes "goal") rule_at ms
-  Ok record { game = game; origin = origin; regions = regions; items = items; entrances = entrances; locations = locations; pool = pool; filler = filler; goal = goal }
+  Ok record {
+    game = game;
+    origin = origin;
+    regions = regions;
+    items = items;
+    entrances = entrances;
+    locations = locations;
+    pool = pool;
+    filler = filler;
+    goal = goal;
+  }
