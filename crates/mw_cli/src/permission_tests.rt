@@ -17,16 +17,20 @@ fn heard(alloc: Global, setting: (&str, &str), status: &str, said: &str) -> Resu
     marked(alloc, room.as_str(), script.as_str())
 }
 
-/// Whether what Ann hears ends so.
-fn ends(
-    alloc: Global,
-    setting: (&str, &str),
-    status: &str,
-    said: &str,
-    end: &str,
-) -> Result<bool, Fail> {
-    let text = heard(alloc, setting, status, said)?;
-    Ok(text.as_str().ends_with(end))
+/// A permission, Ann's status, and the end of what she hears.
+type Case<'a> = (&'a str, &'a str, &'a str);
+
+/// Whether what Ann hears of a command ends as each case tells, where the room has the case's permission under this name.
+fn all_end(alloc: Global, permission: &str, said: &str, cases: &[Case<'_>]) -> Result<bool, Fail> {
+    let from = format!(in alloc; "\"{permission}\":\"goal\"")?;
+    for (value, status, end) in cases {
+        let to = format!(in alloc; "\"{permission}\":\"{value}\"")?;
+        let text = heard(alloc, (from.as_str(), to.as_str()), status, said)?;
+        if !text.as_str().ends_with(end) {
+            return Ok(false);
+        }
+    }
+    Ok(true)
 }
 
 const NOT_ALLOWED: &str = "[{\"text\":\"not allowed\"}],\"type\":\"CommandResult\"}]\n";
@@ -43,65 +47,45 @@ const COLLECTED: &str =
 
 #[test]
 fn who_may_ask_what_remains(rt: HostRuntime) -> Result<(), Fail> {
-    for (to, status, end) in [
-        (r#""remaining":"disabled""#, "20", NOT_ALLOWED),
-        (r#""remaining":"disabled""#, "30", NOT_ALLOWED),
-        (r#""remaining":"enabled""#, "20", REMAINING),
-        (r#""remaining":"enabled""#, "30", REMAINING),
-        (r#""remaining":"goal""#, "20", NOT_ALLOWED),
-        (r#""remaining":"goal""#, "30", REMAINING),
-    ] {
-        let setting = (r#""remaining":"goal""#, to);
-        assert!(rt;
-            ends(rt.alloc(), setting, status, "!remaining", end)?,
-            "{to} {status}"
-        );
-    }
+    let cases = [
+        ("disabled", "20", NOT_ALLOWED),
+        ("disabled", "30", NOT_ALLOWED),
+        ("enabled", "20", REMAINING),
+        ("enabled", "30", REMAINING),
+        ("goal", "20", NOT_ALLOWED),
+        ("goal", "30", REMAINING),
+    ];
+    assert!(rt; all_end(rt.alloc(), "remaining", "!remaining", &cases)?);
     Ok(())
+}
+
+/// The cases of a permission to do what is then told so. By an automatic one it was done at the goal, and asking again then
+/// is told otherwise.
+fn cases_told_as<'a>(told: &'a str, again: &'a str) -> [Case<'a>; 10] {
+    [
+        ("disabled", "20", NOT_ALLOWED),
+        ("disabled", "30", NOT_ALLOWED),
+        ("enabled", "20", told),
+        ("enabled", "30", told),
+        ("goal", "20", NOT_ALLOWED),
+        ("goal", "30", told),
+        ("auto", "20", NOT_ALLOWED),
+        ("auto", "30", NOTHING_LEFT),
+        ("auto_enabled", "20", told),
+        ("auto_enabled", "30", again),
+    ]
 }
 
 #[test]
 fn who_may_release(rt: HostRuntime) -> Result<(), Fail> {
-    for (to, status, end) in [
-        (r#""release":"disabled""#, "20", NOT_ALLOWED),
-        (r#""release":"disabled""#, "30", NOT_ALLOWED),
-        (r#""release":"enabled""#, "20", RELEASED),
-        (r#""release":"enabled""#, "30", RELEASED),
-        (r#""release":"goal""#, "20", NOT_ALLOWED),
-        (r#""release":"goal""#, "30", RELEASED),
-        (r#""release":"auto""#, "20", NOT_ALLOWED),
-        (r#""release":"auto""#, "30", NOTHING_LEFT),
-        (r#""release":"auto_enabled""#, "20", RELEASED),
-        (r#""release":"auto_enabled""#, "30", NOTHING_LEFT),
-    ] {
-        let setting = (r#""release":"goal""#, to);
-        assert!(rt;
-            ends(rt.alloc(), setting, status, "!release", end)?,
-            "{to} {status}"
-        );
-    }
+    let cases = cases_told_as(RELEASED, NOTHING_LEFT);
+    assert!(rt; all_end(rt.alloc(), "release", "!release", &cases)?);
     Ok(())
 }
 
 #[test]
 fn who_may_collect(rt: HostRuntime) -> Result<(), Fail> {
-    for (to, status, end) in [
-        (r#""collect":"disabled""#, "20", NOT_ALLOWED),
-        (r#""collect":"disabled""#, "30", NOT_ALLOWED),
-        (r#""collect":"enabled""#, "20", COLLECTED),
-        (r#""collect":"enabled""#, "30", COLLECTED),
-        (r#""collect":"goal""#, "20", NOT_ALLOWED),
-        (r#""collect":"goal""#, "30", COLLECTED),
-        (r#""collect":"auto""#, "20", NOT_ALLOWED),
-        (r#""collect":"auto""#, "30", NOTHING_LEFT),
-        (r#""collect":"auto_enabled""#, "20", COLLECTED),
-        (r#""collect":"auto_enabled""#, "30", NOTHING_LEFT),
-    ] {
-        let setting = (r#""collect":"goal""#, to);
-        assert!(rt;
-            ends(rt.alloc(), setting, status, "!collect", end)?,
-            "{to} {status}"
-        );
-    }
+    let cases = cases_told_as(COLLECTED, COLLECTED);
+    assert!(rt; all_end(rt.alloc(), "collect", "!collect", &cases)?);
     Ok(())
 }
