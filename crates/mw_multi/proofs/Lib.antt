@@ -13,3 +13,4 @@ pub mod Numbering
 pub mod Sites
 pub mod Standing
 pub mod WhatStands
+pub mod Words

@@ -15,4 +15,5 @@ pub mod RuleCode
 pub mod RulesKept
 pub mod Steps
 pub mod World
+pub mod Words
 pub mod WorldKept

@@ -4,6 +4,7 @@
 mod bag;
 mod build;
 mod entrance;
+mod entries;
 mod events;
 mod files;
 mod games;

@@ -1,21 +1,21 @@
-ghost use Rattle.std.specs.Prelude.{◌≡◌, ◌<◌, ◌≤◌, ◌+◌, ◌^◌, ◌++◌, ◌∷◌, [], List, IfOk, OnOk, OnErr, length, option_copied, option_to_list, slice_index_or, slice_set, sum_by, replicate, vec_len};
+ghost use Rattle.std.specs.Prelude.{◌≡◌, ◌<◌, ◌≤◌, ◌+◌, ◌^◌, ◌++◌, ◌∷◌, [], List, IfOk, OnOk, OnErr, length, option_copied, option_to_list, slice_index_or, slice_set, sum_by, replicate};
 ghost use Rattle.mw_multi.specs.Joint.{slot_items, place_total};
 ghost use Rattle.mw_multi.specs.Placement as plain;
 ghost use Rattle.mw_multi.specs.Placement.{slot_at, PutKept, IsPlacement, numbers_in, put_numbers, numbers_at, IsPlaced};
 
+use crate::entries::Entries;
 use crate::joint::Joint;
 use crate::placement::{Placement, Put};
 use crate::slot::Slot;
 use mw_base::{List, Memory};
 use std::alloc::Global;
 use std::marker::Model;
-use std::mem;
 
 /// A placement as a table with an entry for each place: the numbers over all slots of the progression item that stands
 /// there, one for each owner of its receiver. Together they are fewer than 2^31.
 #[derive(Debug, Drop)]
 pub struct Placed {
-    table: Vec<List<u32>>,
+    table: Entries,
 }
 
 impl Model for Placed {
@@ -23,9 +23,9 @@ impl Model for Placed {
 
     ghost Value = { List (List ℕ) };
 
-    ghost view = { λ p. p.table.items };
+    ghost view = { λ p. p.table };
 
-    ghost invariant = { λ p. sum_by length p.table.items < 2 ^ 31 };
+    ghost invariant = { λ p. sum_by length p.table < 2 ^ 31 };
 }
 
 /// The slot of a number; None exactly where there is no such slot. Numbers count from 1.
@@ -57,16 +57,6 @@ fn number_in(slot: &Slot, item: u32) -> Option<u32>
     }
 }
 
-/// One number more at a place. After `Memory` the table is as before.
-fn push_number(table: &mut Vec<List<u32>>, place: u32, number: u32) -> Result<(), Memory>
-    requires { place < vec_len table.old }
-    ensures ok { OnOk result (table.new.items
-        ≡ slice_set table.old.items place (numbers_at table.old.items place ++ number ∷ [])) }
-    ensures err { OnErr result (table.new.items ≡ table.old.items) }
-{
-    table[place as usize].push(number)
-}
-
 /// The number over all slots of what a put stands for, where it is a progression item.
 fn number_of(joint: &Joint, put: Put) -> Option<u32>
     ensures { option_to_list result ≡ put_numbers joint.now.slots put }
@@ -77,25 +67,13 @@ fn number_of(joint: &Joint, put: Put) -> Option<u32>
     }
 }
 
-/// An empty entry for each of so many places.
-fn empty_table(alloc: Global, places: u32) -> Result<Vec<List<u32>>, Memory>
-    ensures value { IfOk result (λ table. table.items ≡ replicate places []) }
-    ensures none { IfOk result (λ table. sum_by length table.items ≡ 0) }
-{
-    let mut table = Vec::new(alloc);
-    for _ in 0..places {
-        table.push(List::new(alloc))?;
-    }
-    Ok(table)
-}
-
 impl Placed {
     /// A table of the joint's places where nothing stands; `Memory` where memory ran out.
     pub fn none(alloc: Global, joint: &Joint) -> Result<Placed, Memory>
         ensures value { IfOk result (IsPlaced joint.now.slots []) }
         ensures none { IfOk result (λ placed. sum_by length placed ≡ 0) }
     {
-        let table = empty_table(alloc, joint.place_count())?;
+        let table = Entries::none(alloc, joint.place_count())?;
         Ok(Placed { table })
     }
 
@@ -112,7 +90,7 @@ impl Placed {
         let Some(number) = number_of(joint, put) else {
             return Ok(());
         };
-        push_number(&mut self.table, put.place, number)?;
+        self.table.push(put.place, number)?;
         Ok(())
     }
 
@@ -139,7 +117,7 @@ impl Placed {
         ensures total { sum_by length self.new + length numbers.new ≡ sum_by length self.old
             + length numbers.old }
     {
-        mem::swap(&mut self.table[place as usize], numbers);
+        self.table.swap(place, numbers);
     }
 
     /// How many places there are.
@@ -155,7 +133,6 @@ impl Placed {
         requires { place < length self.now }
         ensures { result.now ≡ numbers_at self.now place }
     {
-        let entry = &self.table[place as usize];
-        entry.as_slice()
+        self.table.at(place)
     }
 }
