@@ -3,6 +3,7 @@ pub mod Among
 pub mod Beating
 pub mod Building
 pub mod Counting
+pub mod Cutting
 pub mod Found
 pub mod Items
 pub mod SameLeast

@@ -4,6 +4,7 @@ pub mod Counts
 pub mod GoingOn
 pub mod Rows
 pub mod Tables
+pub mod Cut
 pub mod Worklist
 pub mod Split
 pub mod Building

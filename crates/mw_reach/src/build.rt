@@ -4,8 +4,9 @@ ghost use Rattle.mw_multi.specs.Steps.{entrance_rule, location_rule, entrance_st
 ghost use Rattle.mw_reach.specs.Rows.{StartFits, steps_in};
 ghost use Rattle.mw_reach.specs.Building.{SlotFits, HasRules, AreJointRows};
 
+use crate::draft::Draft;
+use crate::notes::Notes;
 use crate::row::{Rows, Start};
-use crate::table::Table;
 use crate::watch::{add_origin, add_step};
 use mw_base::{List, Memory};
 use mw_multi::{Joint, Slot};
@@ -16,7 +17,7 @@ use std::alloc::Global;
 fn add_ruled<R: Ruling>(
     joint: &Joint,
     rules: &R,
-    rows: &mut Rows,
+    rows: &mut Draft,
     index: u32,
     slot: &Slot,
     start: Start,
@@ -46,7 +47,7 @@ fn add_ruled<R: Ruling>(
 }
 
 /// Adds the step into the origin of the slot with this index. After `Memory` the rows are of no use.
-fn add_first(joint: &Joint, rows: &mut Rows, index: u32, slot: &Slot) -> Result<(), Memory>
+fn add_first(joint: &Joint, rows: &mut Draft, index: u32, slot: &Slot) -> Result<(), Memory>
     requires slot { SlotFits joint.now index slot.now }
     requires few { length rows.old.rows < 2 ^ 32 }
     requires rows { AreJointRows joint.now rows.old }
@@ -64,7 +65,7 @@ fn add_first(joint: &Joint, rows: &mut Rows, index: u32, slot: &Slot) -> Result<
 fn add_entrances<R: Ruling>(
     joint: &Joint,
     rules: &R,
-    rows: &mut Rows,
+    rows: &mut Draft,
     index: u32,
     slot: &Slot,
     first_rule: u32,
@@ -97,7 +98,7 @@ fn add_entrances<R: Ruling>(
 fn add_locations<R: Ruling>(
     joint: &Joint,
     rules: &R,
-    rows: &mut Rows,
+    rows: &mut Draft,
     index: u32,
     slot: &Slot,
     first_rule: u32,
@@ -131,7 +132,7 @@ fn add_locations<R: Ruling>(
 fn add_slot<R: Ruling>(
     joint: &Joint,
     rules: &R,
-    rows: &mut Rows,
+    rows: &mut Draft,
     index: u32,
     slot: &Slot,
     first_rule: u32,
@@ -165,13 +166,13 @@ pub(crate) fn rule_count(slot: &Slot) -> u32
 }
 
 /// Rows for no step yet.
-fn no_rows(alloc: Global, joint: &Joint) -> Result<Rows, Memory>
+fn no_rows(alloc: Global, joint: &Joint) -> Result<Draft, Memory>
     ensures kept { IfOk result (AreJointRows joint.now) }
     ensures rows { IfOk result (λ rows. rows.rows ≡ []) }
 {
-    let by_place = Table::new(alloc, joint.place_count() as usize)?;
-    let by_item = Table::new(alloc, joint.item_count() as usize)?;
-    Ok(Rows {
+    let by_place = Notes::new(alloc, joint.place_count() as usize)?;
+    let by_item = Notes::new(alloc, joint.item_count() as usize)?;
+    Ok(Draft {
         rows: List::new(alloc),
         origins: List::new(alloc),
         by_place,
@@ -191,5 +192,6 @@ pub(crate) fn rows_of<R: Ruling>(alloc: Global, joint: &Joint, rules: &R) -> Res
         add_slot(joint, rules, &mut rows, i as u32, slot, rule)?;
         rule += rule_count(slot);
     }
+    let rows = rows.finish(alloc)?;
     Ok(rows)
 }

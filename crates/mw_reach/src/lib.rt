@@ -3,10 +3,12 @@
 
 mod always;
 mod build;
+mod draft;
 mod goals;
 mod leaf;
 mod least;
 mod mark;
+mod notes;
 mod prepare;
 mod reached;
 mod row;

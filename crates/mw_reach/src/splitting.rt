@@ -95,14 +95,13 @@ pub(crate) fn split_of(
     requires rows { AreJointRows joint.now rows.now }
     ensures { IfOk result (IsSplit (steps_in joint.now rows.now) rows.now.by_place) }
 {
-    let mut asked = Vec::new(alloc);
-    let mut leaves = Vec::new(alloc);
+    let mut asked = Table::new(alloc);
+    let mut leaves = Table::new(alloc);
     for place in 0..joint.place_count() as usize {
-        asked.push(asked_at(alloc, free, rows, place)?)?;
-        leaves.push(leaves_at(alloc, free, rows, place)?)?;
+        let numbers = asked_at(alloc, free, rows, place)?;
+        asked = asked.with(numbers.as_slice())?;
+        let places = leaves_at(alloc, free, rows, place)?;
+        leaves = leaves.with(places.as_slice())?;
     }
-    Ok(Split {
-        asked: Table::of(asked),
-        leaves: Table::of(leaves),
-    })
+    Ok(Split { asked, leaves })
 }

@@ -3,13 +3,14 @@ ghost use Rattle.mw_reach.specs.Reach.{one_if, times_in};
 ghost use Rattle.mw_reach.specs.Building.{StartsThere, StartsNowhere, AddsStep};
 ghost use Rattle.mw_reach.specs.Tables.{IsNoted, shifted, but_at};
 
-use crate::row::{Row, Rows, Start};
-use crate::table::Table;
+use crate::draft::Draft;
+use crate::notes::Notes;
+use crate::row::{Row, Start};
 use mw_base::Memory;
 use mw_rules::Named;
 
 /// Notes a number for each of a slot's items.
-fn note_items(table: &mut Table, first: u32, items: &[u32], number: u32) -> Result<(), Memory>
+fn note_items(table: &mut Notes, first: u32, items: &[u32], number: u32) -> Result<(), Memory>
     requires few { length table.old < 2 ^ 32 }
     requires items { All (λ i. first + i < length table.old) items.now }
     ensures { OnOk result (IsNoted table.old table.new number
@@ -22,7 +23,7 @@ fn note_items(table: &mut Table, first: u32, items: &[u32], number: u32) -> Resu
 }
 
 /// Notes a number for a place, but not for the place where the step starts.
-fn note_other(table: &mut Table, start: u32, place: u32, number: u32) -> Result<(), Memory>
+fn note_other(table: &mut Notes, start: u32, place: u32, number: u32) -> Result<(), Memory>
     requires { place < length table.old }
     ensures { OnOk result (IsNoted table.old table.new number
         (but_at start (λ k. one_if (nat_eq place k)))) }
@@ -36,7 +37,7 @@ fn note_other(table: &mut Table, start: u32, place: u32, number: u32) -> Result<
 
 /// Notes a number for each of a slot's places, but not for the place where the step starts.
 fn note_places(
-    table: &mut Table,
+    table: &mut Notes,
     start: u32,
     first: u32,
     places: &[u32],
@@ -55,7 +56,7 @@ fn note_places(
 
 /// Notes a step where it starts and for each place that its rule names.
 fn note_start(
-    table: &mut Table,
+    table: &mut Notes,
     start: u32,
     first: u32,
     places: &[u32],
@@ -74,7 +75,7 @@ fn note_start(
 }
 
 /// Adds a step of a slot that starts nowhere. After `Memory` the rows are of no use.
-pub(crate) fn add_origin(rows: &mut Rows, slot: u32, to: u32) -> Result<(), Memory>
+pub(crate) fn add_origin(rows: &mut Draft, slot: u32, to: u32) -> Result<(), Memory>
     requires few { length rows.old.rows < 2 ^ 32 }
     ensures rows { OnOk result (rows.new.rows ≡ rows.old.rows
         ++ record { slot = slot; start = None; to = to } ∷ []) }
@@ -96,7 +97,7 @@ pub(crate) fn add_origin(rows: &mut Rows, slot: u32, to: u32) -> Result<(), Memo
 
 /// Adds a step of the slot with these first numbers. After `Memory` the rows are of no use.
 pub(crate) fn add_step(
-    rows: &mut Rows,
+    rows: &mut Draft,
     slot: u32,
     start: Start,
     to: u32,

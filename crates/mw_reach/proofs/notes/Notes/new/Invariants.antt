@@ -1,5 +1,5 @@
 use Rattle.std.proofs.Common.{◌≡◌, [], replicate}
-use Rattle.mw_reach.proofs.table.Table.new.Given as goal
+use Rattle.mw_reach.proofs.notes.Notes.new.Given as goal
 
 abbrev pub invariant-loop : goal.invariant-loop
 invariant-loop l = l.entries.items ≡ replicate l.counter []
