@@ -11,7 +11,7 @@ use Rattle.mw_fill.specs.Copies.{ItemCopy}
 use Rattle.mw_fill.specs.Openings.{Opening}
 use Rattle.mw_fill.specs.Fill.{Outcome, is_reached, FillRun}
 use Rattle.mw_fill.specs.Asks.{AreLists, asks_of_levels}
-use Rattle.mw_fill.specs.Kept.{CopyKept, IsCounted, OpeningKept, IsHeldFor}
+use Rattle.mw_fill.specs.Kept.{CopyKept, IsCounted, OpeningKept, IsHeldFor, AreTaken}
 use Rattle.mw_fill.specs.declared.laid.Laid.{Laid}
 use Rattle.mw_fill.specs.declared.laying.Laying.{Laying}
 
@@ -70,6 +70,11 @@ pub record AreLaid (joint : Joint) (openings : List Opening) (copies : List Item
 abbrev pub IsLaying : Joint → List Opening → List ItemCopy → Laying → Type 0
 IsLaying joint openings copies laying =
     AreLaid joint openings copies laying.laid laying.held.items laying.placed
+
+-- something is held at each of the first so many locations as it says
+pub record IsPast (openings : List Opening) (laying : Laying) : Type 0 where
+  pub within : laying.from ≤ length openings
+  pub taken : AreTaken laying.held.items openings laying.from
 
 -- ---- asks
 

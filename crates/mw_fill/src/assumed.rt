@@ -5,7 +5,7 @@ ghost use Rattle.mw_reach.specs.Reached.{IsMadeFor, HasLeast};
 ghost use Rattle.mw_fill.specs.Fill.{filled, stuck, in_hand, is_reached, FillRun};
 ghost use Rattle.mw_fill.specs.Asks.{AsksWithin};
 ghost use Rattle.mw_fill.specs.Kept.{CopyKept, IsCounted, OpeningKept, IsHeldFor};
-ghost use Rattle.mw_fill.specs.Laying.{copy_number, IsLaid, RunsOn, AreOrdered, IsLaying, RangeWithin};
+ghost use Rattle.mw_fill.specs.Laying.{copy_number, IsLaid, RunsOn, AreOrdered, IsLaying, IsPast, RangeWithin};
 ghost use Rattle.mw_fill.specs.Answer.{OnStuck};
 
 use crate::error::FillError;
@@ -39,6 +39,7 @@ fn place_range<R: Ruling, L: Ledger>(
         order.now.openings.now }
     requires range { (length laying.old.laid ≤ to) × (to ≤ length order.now.copies.now) }
     requires laid { IsLaying joint.now order.now.openings.now order.now.copies.now laying.old }
+    requires past { IsPast order.now.openings.now laying.old }
     requires made { IsMadeFor joint.now reached.old }
     requires least { HasLeast joint.now (in_hand joint.now (drop to order.now.copies.now))
         laying.old.placed reached.old }
@@ -48,6 +49,7 @@ fn place_range<R: Ruling, L: Ledger>(
     ensures runs { RunsOn joint.now order.now.openings.now order.now.copies.now
         laying.new.laid }
     ensures more { OnOk result (length laying.new.laid ≡ to) }
+    ensures past { OnOk result (IsPast order.now.openings.now laying.new) }
     ensures answer { MatchResult result
         (λ _. IsLaying joint.now order.now.openings.now order.now.copies.now laying.new)
         (λ e. OnStuck e (λ slot item. FillRun is_reached joint.now order.now.openings.now

@@ -1,12 +1,13 @@
-ghost use Rattle.std.specs.Prelude.{◌≡◌, ◌<◌, ◌&&◌, [], None, All, IfOk, find, length};
+ghost use Rattle.std.specs.Prelude.{◌≡◌, ◌<◌, ◌≤◌, ◌&&◌, [], None, All, IfOk, find, length};
 ghost use Rattle.mw_reach.specs.Reached.{places_in};
 ghost use Rattle.mw_fill.specs.Openings.{accepts};
-ghost use Rattle.mw_fill.specs.Kept.{IsHeldFor, is_open_in};
+ghost use Rattle.mw_fill.specs.Kept.{IsHeldFor, AreTaken, is_open_in};
 
 use crate::error::FillError;
 use crate::item_copy::ItemCopy;
 use crate::laid::Laid;
 use crate::opening::Opening;
+use crate::taken::past_taken;
 use mw_base::{List, Memory};
 use mw_multi::{Joint, Placed, Put};
 use mw_reach::Reached;
@@ -26,7 +27,9 @@ pub(crate) struct Order<'a> {
 pub(crate) struct Laying {
     /// For each place, what stands there.
     pub held: Vec<Option<Put>>,
-    /// The same for reach, with the events.
+    /// How many of the first locations are known to be taken.
+    pub from: usize,
+    /// For each place, what stands there for reach, with the events.
     pub placed: Placed,
     /// The copies that were put, in their order.
     pub laid: List<Laid>,
@@ -52,6 +55,23 @@ fn first_reached(
     None
 }
 
+/// `first_reached` where the first so many locations are taken.
+fn first_after(
+    copy: &ItemCopy,
+    openings: &[Opening],
+    from: usize,
+    held: &[Option<Put>],
+    reached: &Reached,
+) -> Option<Opening>
+    requires within { All (λ s. s.place < length held.now) openings.now }
+    requires from { from ≤ length openings.now }
+    requires taken { AreTaken held.now openings.now from }
+    ensures { result ≡ find (is_open_in
+        (λ s. accepts copy.now s && places_in reached.now s.place) held.now) openings.now }
+{
+    first_reached(copy, &openings[from..], held, reached)
+}
+
 /// Nothing at each place of the joint.
 fn nothing_held(alloc: Global, joint: &Joint) -> Result<Vec<Option<Put>>, Memory>
     ensures { IfOk result (λ held. IsHeldFor joint.now [] held.items) }
@@ -66,7 +86,7 @@ impl Laying {
     ghost use Rattle.mw_fill.specs.Copies.{ItemCopy};
     ghost use Rattle.mw_fill.specs.Openings.{Opening};
     ghost use Rattle.mw_fill.specs.Fill.{stuck, in_hand, is_reached, FillRun};
-    ghost use Rattle.mw_fill.specs.Laying.{IsLaid, RunsOn, AreOrdered, IsLaying};
+    ghost use Rattle.mw_fill.specs.Laying.{IsLaid, RunsOn, AreOrdered, IsLaying, IsPast};
     ghost use Rattle.mw_fill.specs.Answer.{OnStuck};
 
     /// The events alone; `Memory` where memory ran out.
@@ -74,11 +94,17 @@ impl Laying {
         ensures empty { IfOk result (λ laying. laying.laid ≡ []) }
         ensures laid { IfOk result (λ laying. (openings : List Opening) (copies : List ItemCopy)
             → IsLaying joint.now openings copies laying) }
+        ensures past { IfOk result (λ laying. (openings : List Opening) → IsPast openings laying) }
     {
         let held = nothing_held(alloc, joint)?;
         let placed = Placed::events(alloc, joint)?;
         let laid = List::new(alloc);
-        Ok(Laying { held, placed, laid })
+        Ok(Laying {
+            held,
+            from: 0,
+            placed,
+            laid,
+        })
     }
 
     /// Puts the next copy at the first of the locations that is free, accepts it and is reached.
@@ -92,6 +118,7 @@ impl Laying {
             order.now.openings.now }
         requires next { length self.old.laid < length order.now.copies.now }
         requires laid { IsLaying joint.now order.now.openings.now order.now.copies.now self.old }
+        requires past { IsPast order.now.openings.now self.old }
         requires least { HasLeast joint.now
             (in_hand joint.now (drop (length self.old.laid + 1) order.now.copies.now))
             self.old.placed reached.now }
@@ -100,6 +127,7 @@ impl Laying {
         ensures runs { RunsOn joint.now order.now.openings.now order.now.copies.now
             self.new.laid }
         ensures more { OnOk result (length self.new.laid ≡ length self.old.laid + 1) }
+        ensures past { OnOk result (IsPast order.now.openings.now self.new) }
         ensures answer { MatchResult result
             (λ _. IsLaying joint.now order.now.openings.now order.now.copies.now self.new)
             (λ e. OnStuck e (λ slot item. FillRun is_reached joint.now order.now.openings.now
@@ -109,7 +137,9 @@ impl Laying {
         let _ = &joint.slots;
         let copies = order.copies;
         let copy = &copies[self.laid.len()];
-        match first_reached(copy, order.openings, self.held.as_slice(), reached) {
+        let from = past_taken(order.openings, self.held.as_slice(), self.from);
+        self.from = from;
+        match first_after(copy, order.openings, from, self.held.as_slice(), reached) {
             None => Err(copy.stuck()),
             Some(opening) => {
                 let put = copy.put_at(&opening);

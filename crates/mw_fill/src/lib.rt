@@ -20,6 +20,7 @@ mod opening;
 mod openings;
 mod placement;
 mod seed;
+mod taken;
 
 pub use draws::{Words, draw, shuffle};
 pub use error::FillError;

@@ -70,7 +70,7 @@ place_range-requires-2 g t c κs within =
     c.requires.laid.table_is c.in_ok-place_range.ensures.answer.table_is c.requires.least c.in_ok-find_from.ensures.least in
     let middle = c.in_ok-place_range.ensures.more in (
       omega (arith, middle, c.decreases, c.len-from.ensures, c.requires.range.0),
-      (search rules, (search rules, (c.requires.rules, (c.requires.order, ((omega (arith, middle, c.len-from.ensures, c.requires.range.0), c.requires.range.1), (c.in_ok-place_range.ensures.answer, (c.in_ok-find_from.ensures.made, least))))))),
+      (search rules, (search rules, (c.requires.rules, (c.requires.order, ((omega (arith, middle, c.len-from.ensures, c.requires.range.0), c.requires.range.1), (c.in_ok-place_range.ensures.answer, (c.in_ok-place_range.ensures.past, (c.in_ok-find_from.ensures.made, least)))))))),
     )
 
 pub returns-in_err-place_range-clause-steps : goal.returns-in_err-place_range-clause-steps

@@ -1,6 +1,6 @@
 use Rattle.std.proofs.Common.{◌≤◌, ◌-◌, length}
 use Rattle.mw_fill.specs.Kept.{AreTaken}
-use Rattle.mw_fill.proofs.anywhere.past_taken.Given as goal
+use Rattle.mw_fill.proofs.taken.past_taken.Given as goal
 
 abbrev pub invariant-loop-from : goal.invariant-loop-from
 invariant-loop-from l = record {

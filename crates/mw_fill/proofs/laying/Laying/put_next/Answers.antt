@@ -27,7 +27,7 @@ put-requires-clause-kept c =
     let is : copy ≡ get_or a.order.now.copies.now (length laid) copy = c.index-copies-len.is ∙ ap (λ k. get_or a.order.now.copies.now k copy) c.len.ensures in
     let copy_kept : CopyKept joint.slots copy = subst (CopyKept joint.slots) (sym is) (c.requires.order.copies_kept (length laid) copy c.requires.next) in
     let opening = c.in-Some.opening in
-    let site = find_all (OpeningKept joint.slots) _ a.order.now.openings.now opening c.requires.order.openings_kept (sym c.first_reached.ensures ∙ c.in-Some.is) in
+    let site = find_all (OpeningKept joint.slots) _ a.order.now.openings.now opening c.requires.order.openings_kept (sym c.first_after.ensures ∙ c.in-Some.is) in
     subst (PutKept joint.slots) (sym c.put_at-put.ensures) (put_kept joint.slots opening copy.receiver copy.item site copy_kept.item)
 
 pub put-requires-clause-room : goal.put-requires-clause-room
@@ -42,7 +42,7 @@ bounds-held-opening-inside c =
     let a = c.args in
     let joint = a.joint.now in
     let opening = c.in-Some.opening in
-    let site = find_all (OpeningKept joint.slots) _ a.order.now.openings.now opening c.requires.order.openings_kept (sym c.first_reached.ensures ∙ c.in-Some.is) in
+    let site = find_all (OpeningKept joint.slots) _ a.order.now.openings.now opening c.requires.order.openings_kept (sym c.first_after.ensures ∙ c.in-Some.is) in
     omega (arith, site.place, c.requires.laid.held_is.size, ap (λ (s : Opening). s.place) c.opening.view_is)
 
 pub returns-in-None-clause-answer : goal.returns-in-None-clause-answer
@@ -55,7 +55,7 @@ returns-in-None-clause-answer c =
     let is : copy ≡ get_or a.order.now.copies.now (length laid) copy = c.index-copies-len.is ∙ ap (λ k. get_or a.order.now.copies.now k copy) c.len.ensures in
     let w = places_in a.reached.now in
     let none : first_fit (λ s. accepts copy s && w s.place) (puts_of laid) a.order.now.openings.now ≡ None =
-    sym (held_first (λ s. accepts copy s && w s.place) (puts_of laid) a.self.now.held.items a.order.now.openings.now c.requires.laid.held_is.entries) ∙ ap (λ h. find (is_open_in (λ s. accepts copy s && w s.place) h) a.order.now.openings.now) (sym c.as_slice.ensures.value) ∙ sym c.first_reached.ensures ∙ c.in-None.is in
+    sym (held_first (λ s. accepts copy s && w s.place) (puts_of laid) a.self.now.held.items a.order.now.openings.now c.requires.laid.held_is.entries) ∙ ap (λ h. find (is_open_in (λ s. accepts copy s && w s.place) h) a.order.now.openings.now) (sym c.as_slice-2.ensures.value) ∙ sym c.first_after.ensures ∙ c.in-None.is in
     subst (λ e. OnStuck e (λ slot item. FillRun is_reached joint a.order.now.openings.now a.order.now.copies.now [] (stuck slot item))) (sym c.stuck.ensures)
     (stuck_here joint kept a.order.now.openings.now a.order.now.copies.now laid a.self.now.held.items a.self.now.placed c.requires.laid copy c.requires.next is w c.requires.least.least none)
 
@@ -72,7 +72,7 @@ returns-in_ok-push-in-Some-clause-answer c =
     let opening = c.in-Some.opening in
     let w = places_in a.reached.now in
     let found : first_fit (λ s. accepts copy s && w s.place) (puts_of laid) a.order.now.openings.now ≡ Some opening =
-    sym (held_first (λ s. accepts copy s && w s.place) (puts_of laid) a.self.now.held.items a.order.now.openings.now c.requires.laid.held_is.entries) ∙ ap (λ h. find (is_open_in (λ s. accepts copy s && w s.place) h) a.order.now.openings.now) (sym c.as_slice.ensures.value) ∙ sym c.first_reached.ensures ∙ c.in-Some.is in
+    sym (held_first (λ s. accepts copy s && w s.place) (puts_of laid) a.self.now.held.items a.order.now.openings.now c.requires.laid.held_is.entries) ∙ ap (λ h. find (is_open_in (λ s. accepts copy s && w s.place) h) a.order.now.openings.now) (sym c.as_slice-2.ensures.value) ∙ sym c.first_after.ensures ∙ c.in-Some.is in
     let put = c.put_at-put.ensures in
     let placed : IsPlaced joint.slots ((events_of joint ++ puts_of laid) ++ put_of copy opening ∷ []) c.put.new.self =
     subst (λ p. IsPlaced joint.slots ((events_of joint ++ puts_of laid) ++ p ∷ []) c.put.new.self) put (c.in_ok-put-in-Some.ensures.ok (events_of joint ++ puts_of laid) c.requires.laid.table_is) in
