@@ -1,6 +1,6 @@
 -- Claimed spheres beside those that are due.
 use Rattle.std.proofs.Common.{◌≡◌, ℕ, suc, ◌≤◌, Bool, true, false, cond, eqb, List, [], ◌∷◌, ◌++◌, length, All, None, Ok, Err, refl, sym, ap, ap₂, subst, ◌∙◌, inl, inr, arith}
-use Rattle.std.specs.Prelude.{OnOk}
+use Rattle.std.specs.Prelude.{IsErrAnd, OnOk}
 use Rattle.std.proofs.lemmas.Bool.{and_parts, cases_Bool, eqb-true}
 use Rattle.std.proofs.lemmas.List.Elements.{All-nil, All-cons}
 use Rattle.mw_model.specs.Seed.{Spot}
@@ -11,6 +11,7 @@ use Rattle.mw_spheres.specs.Spots.{placement_table, spot_at}
 use Rattle.mw_spheres.specs.Spheres.{AreSpheres, IsSpheres}
 use Rattle.mw_spheres.specs.Unmet.{IsFirstUnmet}
 use Rattle.mw_spheres.specs.Check.{Check, or_later, same_spot, compare_places, first_sphere, later_spheres, compare_spheres, Compares, IsChecked}
+use Rattle.mw_spheres.specs.declared.refusal.CheckRefusal.{CheckRefusal}
 use Rattle.mw_spheres.specs.declared.refusal.CheckRefusal.TheVariants.{GoalMissed, Wrong, Missing, Memory}
 
 -- ---- what is found
@@ -50,6 +51,11 @@ checked_at joint puts claimed (Err Memory) h c = absurd h
 
 pub checked : (joint : Joint) (puts : List Put) (claimed : List (List Spot)) (found : Check) → Compares joint puts claimed found → IsChecked joint puts claimed found
 checked joint puts claimed found c = checked_at joint puts claimed found (subst FindsPlace (sym c.is) (spheres_find 0 claimed c.due)) c
+
+-- nothing has to be found where memory ran out
+pub memory_checked : (joint : Joint) (puts : List Put) (claimed : List (List Spot)) (found : Check) → IsErrAnd found (λ e. e ≡ Memory) → IsChecked joint puts claimed found
+memory_checked joint puts claimed (Ok done) e = absurd e
+memory_checked joint puts claimed (Err refusal) e = subst (λ (r : CheckRefusal). IsChecked joint puts claimed (Err r)) (sym e) tt
 
 -- ---- nothing is found where they are the same
 
