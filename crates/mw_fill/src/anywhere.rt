@@ -1,7 +1,6 @@
-ghost use Rattle.std.specs.Prelude.{◌≡◌, ◌<◌, ◌≤◌, List, None, true, false, All, IfSome, MatchResult, find, is_none, length, slice_index_or};
+ghost use Rattle.std.specs.Prelude.{◌≡◌, ◌<◌, ◌≤◌, List, All, MatchResult, find, length};
 ghost use Rattle.mw_multi.specs.Joint.{Joint};
 ghost use Rattle.mw_multi.specs.Placement as plain;
-ghost use Rattle.mw_fill.specs.Openings as plain_opening;
 ghost use Rattle.mw_fill.specs.Openings.{accepts};
 ghost use Rattle.mw_fill.specs.Fill.{filled, stuck, placed_anywhere};
 ghost use Rattle.mw_fill.specs.Kept.{CopyKept, OpeningKept, IsHeldFor, AreTaken, is_open_in};
