@@ -13,6 +13,8 @@ mod edges;
 #[cfg(test)]
 mod ids;
 #[cfg(test)]
+mod joints;
+#[cfg(test)]
 mod journals;
 #[cfg(test)]
 mod lock_race;
@@ -22,6 +24,10 @@ mod lock_sums;
 mod lock_workers;
 #[cfg(test)]
 mod native;
+#[cfg(test)]
+mod plain_fill;
+#[cfg(test)]
+mod random_worlds;
 #[cfg(test)]
 mod reaching;
 #[cfg(test)]

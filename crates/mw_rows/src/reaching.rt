@@ -2,6 +2,7 @@ ghost use Rattle.std.specs.Prelude.{◌≡◌};
 ghost use Rattle.mw_multi.specs.Steps.{rule_list};
 ghost use Rattle.mw_reach.specs.Reached.{IsBagFor};
 
+use crate::joints::joint_of;
 use mw_base::{List, Memory};
 use mw_multi::{Bag, Joint, Placed, Players, TreeRules, World};
 use mw_reach::{Reached, reach_by, unmet_goal_by};
@@ -89,19 +90,25 @@ fn reached_with(alloc: Global, joint: &Joint, base: &Bag) -> Result<String, Memo
     reached_by::<Brand>(Blank::new(1), alloc, joint, base, &asked)
 }
 
-/// What is reached with what the slot starts with, and with everything.
+/// What is reached with what the slot starts with.
+fn reached_from_start(alloc: Global, joint: &Joint) -> Result<String, Memory> {
+    reached_with(alloc, joint, &Bag::starting(alloc, joint)?)
+}
+
+/// What is reached with everything.
+fn reached_with_all(alloc: Global, joint: &Joint) -> Result<String, Memory> {
+    reached_with(alloc, joint, &Bag::everything(alloc, joint)?)
+}
+
+/// Both, of the players' worlds.
 fn start_and_all(
     alloc: Global,
     worlds: &List<World>,
     players: &Players,
 ) -> Result<(String, String), Fail> {
-    let files = players.world_files(alloc)?;
-    if worlds.len() != files.len() {
-        return Err(Fail::from("another number of files"));
-    }
-    let joint = Joint::build(alloc, worlds, players)?;
-    let start = reached_with(alloc, &joint, &Bag::starting(alloc, &joint)?)?;
-    let all = reached_with(alloc, &joint, &Bag::everything(alloc, &joint)?)?;
+    let joint = joint_of(alloc, worlds, players)?;
+    let start = reached_from_start(alloc, &joint)?;
+    let all = reached_with_all(alloc, &joint)?;
     Ok((start, all))
 }
 
