@@ -1,4 +1,5 @@
-use mw_base::{ItemId, List, LocId, SlotId, TeamId, Text};
+use mw_base::{ItemId, List, LocId, Memory, SlotId, TeamId, Text};
+use std::alloc::Global;
 use std::test::Fail;
 
 #[test]
@@ -20,14 +21,22 @@ fn ids_have_their_ranges(rt: HostRuntime) {
     }
 }
 
-#[test]
-fn lists_and_texts_hold_what_is_put(rt: HostRuntime) -> Result<(), Fail> {
-    let mut list = List::new(rt.alloc());
+/// Whether a list holds the numbers that are put.
+fn list_holds(alloc: Global) -> Result<bool, Memory> {
+    let mut list = List::new(alloc);
     list.push(3u8)?;
     list.push(4u8)?;
-    assert_eq!(rt; list.as_slice(), [3, 4].as_slice());
-    assert_eq!(rt; list.get(1).copied(), Some(4));
-    let text = Text::of(rt.alloc(), "Ann")?;
-    assert_eq!(rt; text.as_str(), "Ann");
+    Ok(list.as_slice() == [3, 4].as_slice() && list.get(1).copied() == Some(4))
+}
+
+/// Whether a text holds what is put.
+fn text_holds(alloc: Global) -> Result<bool, Memory> {
+    Ok(Text::of(alloc, "Ann")?.as_str() == "Ann")
+}
+
+#[test]
+fn lists_and_texts_hold_what_is_put(rt: HostRuntime) -> Result<(), Fail> {
+    assert!(rt; list_holds(rt.alloc())?);
+    assert!(rt; text_holds(rt.alloc())?);
     Ok(())
 }

@@ -1,7 +1,7 @@
-//! Two threads that act on one lock until each has seen what the other did.
+//! Two threads that act on one lock: each adds until it has seen what the other did, and then adds some more.
 ghost use Rattle.std.specs.Prelude.{◌≡◌};
 
-use crate::lock_sums::Sum;
+use crate::lock_sums::{Sum, add};
 use mw_lock::{Pass, RoomLock};
 use std::sync::Wait;
 use std::test::Fail;
@@ -9,46 +9,69 @@ use std::thread;
 use std::thread::join;
 use std::time::{Clock, Duration};
 
-// Adds 1 until the total is more than its own calls, and so has a call of the other. False where 10,000 turns
-// pass before.
+// Adds 1 until the total is more than its own calls, and so has a call of the other. Gives how many calls it made, 0
+// where 10,000 turns pass before.
 fn see_the_other<R: Wait + Clock>(
     rt: &R,
     lock: &RoomLock<Sum>,
     mut pass: Pass<Sum>,
-) -> (bool, Pass<Sum>)
+) -> (u64, Pass<Sum>)
     requires { pass.lock ≡ lock.now }
     ensures { result.1.lock ≡ pass.lock }
 {
     for turn in 1..=10_000u64 {
         if lock.act(rt, &mut pass, 1) > turn {
-            return (true, pass);
+            return (turn, pass);
         }
         thread::sleep(rt, Duration::from_micros(100));
     }
-    (false, pass)
+    (0, pass)
+}
+
+// One of the two: it sees the other, and then adds the number some times.
+fn see_and_add<R: Wait + Clock>(
+    rt: &R,
+    lock: &RoomLock<Sum>,
+    pass: Pass<Sum>,
+    number: u64,
+    times: u32,
+) -> (u64, Pass<Sum>)
+    requires { pass.lock ≡ lock.now }
+    ensures { result.1.lock ≡ pass.lock }
+{
+    let (turns, pass) = see_the_other(rt, lock, pass);
+    (turns, add(rt, lock, pass, number, times))
 }
 
 #[test]
-fn each_of_two_threads_sees_the_other(rt: HostRuntime) -> Result<(), Fail> {
+fn two_threads_see_each_other_and_add_to_one_sum(rt: HostRuntime) -> Result<(), Fail> {
     let Ok((lock, mut first)) = RoomLock::open(rt.alloc(), Sum::from(0)) else {
         panic!(rt; "no memory")
     };
     let second = lock.split(&rt, &mut first)?;
     let (near, far) = join(
         &rt,
-        || -> (bool, Pass<Sum>)
+        || -> (u64, Pass<Sum>)
             requires { first.lock ≡ lock }
             ensures { result.1.lock ≡ first.lock }
-        { see_the_other(&rt, &lock, first) },
-        || -> (bool, Pass<Sum>)
+        { see_and_add(&rt, &lock, first, 3, 100) },
+        || -> (u64, Pass<Sum>)
             requires { second.lock ≡ lock }
             ensures { result.1.lock ≡ second.lock }
-        { see_the_other(&rt, &lock, second) },
+        { see_and_add(&rt, &lock, second, 5, 50) },
     );
-    let (saw, mut first) = near;
+    let (saw, first) = near;
     let (seen, second) = far;
-    assert!(rt; saw && seen);
-    lock.meet(&mut first, second);
-    assert!(rt; lock.close(first).is_ok());
+    assert!(rt; saw > 0 && seen > 0);
+    let Err(left) = lock.close(first) else {
+        panic!(rt; "a pass was out")
+    };
+    assert!(rt; left.out == 1);
+    let mut first = left.pass;
+    left.lock.meet(&mut first, second);
+    let Ok(sum) = left.lock.close(first) else {
+        panic!(rt; "no pass was out")
+    };
+    assert!(rt; sum.total == saw.wrapping_add(seen).wrapping_add(550));
     Ok(())
 }

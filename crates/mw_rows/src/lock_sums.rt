@@ -1,10 +1,8 @@
-//! A sum under the lock, and two threads that add to it.
+//! A sum under the lock.
 ghost use Rattle.std.specs.Prelude.{◌≡◌, ◌+◌, ◌%◌, ◌^◌, sum_by};
 
 use mw_lock::{Pass, RoomLock, Stands};
 use std::sync::Wait;
-use std::test::Fail;
-use std::thread::join;
 
 /// A total that wraps. A call adds a number, and the reply is the total after it.
 #[derive(Drop)]
@@ -60,34 +58,4 @@ pub(crate) fn add<R: Wait>(
         lock.act(rt, &mut pass, number);
     }
     pass
-}
-
-#[test]
-fn two_threads_add_to_one_sum(rt: HostRuntime) -> Result<(), Fail> {
-    let Ok((lock, mut first)) = RoomLock::open(rt.alloc(), Sum::from(0)) else {
-        panic!(rt; "no memory")
-    };
-    let second = lock.split(&rt, &mut first)?;
-    let (first, second) = join(
-        &rt,
-        || -> Pass<Sum>
-            requires { first.lock ≡ lock }
-            ensures { result.lock ≡ first.lock }
-        { add(&rt, &lock, first, 3, 100) },
-        || -> Pass<Sum>
-            requires { second.lock ≡ lock }
-            ensures { result.lock ≡ second.lock }
-        { add(&rt, &lock, second, 5, 50) },
-    );
-    let Err(left) = lock.close(first) else {
-        panic!(rt; "a pass was out")
-    };
-    assert!(rt; left.out == 1);
-    let mut first = left.pass;
-    left.lock.meet(&mut first, second);
-    let Ok(sum) = left.lock.close(first) else {
-        panic!(rt; "no pass was out")
-    };
-    assert!(rt; sum.total == 550);
-    Ok(())
 }

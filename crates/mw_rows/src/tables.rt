@@ -111,11 +111,19 @@ fn refusal(alloc: Global, error: &TableRefusal) -> Result<String, Fail> {
     }
 }
 
+/// Why a world file is refused, if it is.
+fn world_refusal(alloc: Global, text: &str) -> Option<TableRefusal> {
+    match read_world(alloc, text.as_bytes()) {
+        Ok(_) => None,
+        Err(error) => Some(error),
+    }
+}
+
 /// What a world file is answered, `accepted` for a world.
 fn world_answer(alloc: Global, text: &str) -> Result<String, Fail> {
-    match read_world(alloc, text.as_bytes()) {
-        Ok(_) => Ok(String::from_str(alloc, "accepted")?),
-        Err(error) => refusal(alloc, &error),
+    match world_refusal(alloc, text) {
+        None => Ok(String::from_str(alloc, "accepted")?),
+        Some(error) => refusal(alloc, &error),
     }
 }
 
