@@ -6,7 +6,6 @@ use mw_edges::{
 };
 use std::alloc::Global;
 use std::io::{ErrorKind, Read, Write};
-use std::rt::Files;
 use std::test::Fail;
 use std::{fs, io};
 
@@ -268,29 +267,10 @@ fn streams_pass_bytes_on(rt: HostRuntime) {
     assert!(rt; sink_passes(rt.alloc()));
 }
 
-/// Whether a read of a file of the system within a limit gives this.
-fn system_reads<R: Files>(
-    rt: &R,
-    alloc: Global,
-    name: &str,
-    limit: u64,
-    wanted: Result<Option<usize>, FolderError>,
-) -> bool
-where
-    R::File: Send,
-{
-    reads(
-        alloc,
-        &mut SystemFolder::new(rt, alloc),
-        name,
-        limit,
-        wanted,
-    )
-}
-
 #[test]
 fn system_files_are_read(rt: HostRuntime) -> Result<(), Fail> {
     fs::write(&rt, "five_bytes", "bytes")?;
+    let mut folder = SystemFolder::new(&rt, rt.alloc());
     for (name, limit, wanted) in [
         ("five_bytes", 5, Ok(Some(5))),
         ("five_bytes", 6, Ok(Some(5))),
@@ -301,7 +281,7 @@ fn system_files_are_read(rt: HostRuntime) -> Result<(), Fail> {
         ("/dev/zero", 5, Ok(None)),
     ] {
         assert!(rt;
-            system_reads(&rt, rt.alloc(), name, limit, wanted),
+            reads(rt.alloc(), &mut folder, name, limit, wanted),
             "{name} within {limit}"
         );
     }
@@ -309,29 +289,23 @@ fn system_files_are_read(rt: HostRuntime) -> Result<(), Fail> {
     Ok(())
 }
 
-/// Whether a write of a text into a file of the system is answered so.
-fn system_writes<R: Files>(
-    rt: &R,
-    alloc: Global,
-    name: &str,
-    text: &str,
-    wanted: Result<(), FolderError>,
-) -> bool
-where
-    R::File: Send,
-{
-    let mut folder = SystemFolder::new(rt, alloc);
-    writes(alloc, &mut folder, name, text.as_bytes(), wanted)
-}
-
 #[test]
 fn system_files_are_written(rt: HostRuntime) -> Result<(), Fail> {
+    let mut folder = SystemFolder::new(&rt, rt.alloc());
     for text in ["longer", "short"] {
-        assert!(rt; system_writes(&rt, rt.alloc(), "written_bytes", text, Ok(())));
+        assert!(rt;
+            writes(
+                rt.alloc(),
+                &mut folder,
+                "written_bytes",
+                text.as_bytes(),
+                Ok(())
+            )
+        );
         assert!(rt; fs::read_to_string(&rt, "written_bytes")?.as_str() == text);
     }
     fs::remove_file(&rt, "written_bytes")?;
     let failed = Err(FolderError::Failed);
-    assert!(rt; system_writes(&rt, rt.alloc(), "no_such_folder/file", "", failed));
+    assert!(rt; writes(rt.alloc(), &mut folder, "no_such_folder/file", b"", failed));
     Ok(())
 }
