@@ -1,5 +1,5 @@
 use crate::logs::{ann, bob, new_log, tables_of, team};
-use mw_base::{ItemId, LocId, Memory, NetItem, Text};
+use mw_base::{Bytes, ItemId, LocId, Memory, NetItem, Text};
 use mw_cases::part;
 use mw_chat::{
     Said, changed_tags, chatted, checked_text, collected, command_result, help_text, hint_print,
@@ -90,13 +90,18 @@ fn hints_have_the_rest_as_their_name(rt: HostRuntime) -> Result<(), Fail> {
     Ok(())
 }
 
-/// Whether a part has this text; a part has no number but in the ranges of their types.
-fn is_part(alloc: Global, part: Result<Tree, Memory>, text: &str) -> Result<bool, Fail> {
-    let part = part?;
-    if !can_write(&part) {
-        return Ok(false);
+/// The bytes of a part, which has no number but in the ranges of their types.
+fn bytes_of(alloc: Global, part: Tree) -> Result<Bytes, Memory> {
+    if can_write(&part) {
+        compact(alloc, &part)
+    } else {
+        Ok(Bytes::from_vec(Vec::new(alloc)))
     }
-    Ok(compact(alloc, &part)?.as_slice() == text.as_bytes())
+}
+
+/// Whether a part has this text.
+fn is_part(alloc: Global, part: Result<Tree, Memory>, text: &str) -> Result<bool, Fail> {
+    Ok(bytes_of(alloc, part?)?.as_slice() == text.as_bytes())
 }
 
 /// Whether this is the part of a text.
@@ -123,9 +128,14 @@ fn parts_that_name_an_item(rt: HostRuntime) -> Result<(), Fail> {
     Ok(())
 }
 
+/// The text of a print.
+fn text_of(alloc: Global, print: ServerPacket) -> Result<Text, Memory> {
+    packet_text(alloc, &print)
+}
+
 /// Whether a print is this packet.
 fn prints(alloc: Global, print: Result<ServerPacket, Memory>, text: &str) -> Result<bool, Fail> {
-    Ok(packet_text(alloc, &print?)?.as_str() == text)
+    Ok(text_of(alloc, print?)?.as_str() == text)
 }
 
 #[test]
@@ -166,10 +176,11 @@ fn tells(
     words: &str,
     kind: &str,
 ) -> Result<bool, Fail> {
+    let found = text_of(alloc, print?)?;
     let text = format!(in alloc;
         r#"{{"cmd":"PrintJSON","data":[{{"text":"Ann {words}"}}],"slot":1,"team":0,"type":"{kind}"}}"#
     )?;
-    Ok(prints(alloc, print, text.as_str())?)
+    Ok(found.as_str() == text.as_str())
 }
 
 #[test]

@@ -86,8 +86,8 @@ fn a_hint_is_bought(rt: HostRuntime) -> Result<(), Fail> {
 
 #[test]
 fn a_hint_is_bought_once(rt: HostRuntime) -> Result<(), Fail> {
-    let log = log_of_two(rt.alloc())?;
     let book = book_of_one(rt.alloc())?;
+    let log = log_of_two(rt.alloc())?;
     assert!(rt; is_answered(&book, &log, item(rt.alloc(), "Map"), HintAnswer::Nothing));
     assert!(rt; is_answered(&book, &log, item(rt.alloc(), "Hat"), HintAnswer::NoSuchName));
     Ok(())
@@ -140,14 +140,24 @@ fn hints_cost_points(rt: HostRuntime) -> Result<(), Fail> {
     Ok(())
 }
 
+/// The points of a slot that has checked so many locations.
+fn points_of(book: &HintBook, log: &CheckLog, slot: SlotId, checked: u32) -> u64 {
+    book.points(team(), slot, u64::from(checked), log)
+}
+
+/// Whether a slot that has checked both of its locations has no points once it has paid for one hint more.
+fn pays_once(book: &HintBook, log: &CheckLog, slot: SlotId) -> bool {
+    book.points_once(team(), slot, 2, 1, log) == Ok(0)
+}
+
 #[test]
 fn points_are_what_checks_leave(rt: HostRuntime) -> Result<(), Fail> {
-    let log = log_of_two(rt.alloc())?;
     let book = book_of_one(rt.alloc())?;
-    assert_eq!(rt; book.points(team(), bob(), 2, &log), 2);
-    assert_eq!(rt; book.points(team(), ann(), 2, &log), 1);
-    assert_eq!(rt; book.points(team(), ann(), 0, &log), 0);
-    assert_eq!(rt; book.points_once(team(), ann(), 2, 1, &log).ok(), Some(0));
+    let log = log_of_two(rt.alloc())?;
+    assert_eq!(rt; points_of(&book, &log, bob(), 2), 2);
+    assert_eq!(rt; points_of(&book, &log, ann(), 2), 1);
+    assert_eq!(rt; points_of(&book, &log, ann(), 0), 0);
+    assert!(rt; pays_once(&book, &log, ann()));
     Ok(())
 }
 
@@ -189,8 +199,8 @@ fn marks(book: &HintBook, by: SlotId, status: HintStatus, log: &CheckLog) -> Opt
 
 #[test]
 fn receivers_set_the_status(rt: HostRuntime) -> Result<(), Fail> {
-    let log = log_of_two(rt.alloc())?;
     let book = book_of_one(rt.alloc())?;
+    let log = log_of_two(rt.alloc())?;
     assert!(rt; marks(&book, ann(), no_priority(), &log) == Some(marked()));
     assert!(rt; marks(&book, ann(), priority(), &log).is_none());
     assert!(rt; marks(&book, bob(), no_priority(), &log).is_none());
@@ -237,8 +247,8 @@ fn is_told(book: &HintBook, slot: SlotId, log: &CheckLog, wanted: Hint) -> bool 
 
 #[test]
 fn hints_are_told_to_both(rt: HostRuntime) -> Result<(), Fail> {
-    let log = log_of_two(rt.alloc())?;
     let book = book_of_one(rt.alloc())?;
+    let log = log_of_two(rt.alloc())?;
     assert!(rt; is_told(&book, ann(), &log, hint(false, 30)));
     assert!(rt; is_told(&book, bob(), &log, hint(false, 30)));
     Ok(())
@@ -253,8 +263,8 @@ fn log_of_bobs(alloc: Global) -> Result<CheckLog, Fail> {
 
 #[test]
 fn hints_are_found_once_checked(rt: HostRuntime) -> Result<(), Fail> {
-    let log = log_of_bobs(rt.alloc())?;
     let book = book_of_one(rt.alloc())?;
+    let log = log_of_bobs(rt.alloc())?;
     assert!(rt; is_told(&book, bob(), &log, hint(true, 40)));
     assert!(rt; marks(&book, ann(), no_priority(), &log).is_none());
     Ok(())

@@ -38,19 +38,12 @@ fn is_spelled(alloc: Global, record: &Record, spelled: &str) -> Result<bool, Fai
     are_digits(alloc, &again, wanted.as_str())
 }
 
-fn team(number: u8) -> Result<TeamId, Fail> {
-    Ok(TeamId::new(number).ok_or("a team")?)
-}
-
-fn slot(number: u16) -> Result<SlotId, Fail> {
-    Ok(SlotId::new(number).ok_or("a slot")?)
-}
-
 /// A check of a location.
 fn check(alloc: Global) -> Result<Record, Fail> {
     let mut locations = List::new(alloc);
     locations.push(LocId::new(101).unwrap())?;
-    Ok(Record::of_checks(team(0)?, slot(1)?, locations).ok_or("a location")?)
+    let (team, slot) = (TeamId::new(0).unwrap(), SlotId::new(1).unwrap());
+    Ok(Record::of_checks(team, slot, locations).ok_or("a location")?)
 }
 
 #[test]
@@ -60,37 +53,59 @@ fn checks_are_spelled(rt: HostRuntime) -> Result<(), Fail> {
     Ok(())
 }
 
-#[test]
-fn records_of_a_slot_are_spelled(rt: HostRuntime) -> Result<(), Fail> {
-    let (team, slot) = (team(7)?, slot(1024)?);
-    assert!(rt; is_spelled(rt.alloc(), &Record::Release { team, slot }, "02070400")?);
-    assert!(rt; is_spelled(rt.alloc(), &Record::Collect { team, slot }, "03070400")?);
-    let status = ClientStatus::new(5).unwrap();
-    let record = Record::Status { team, slot, status };
-    assert!(rt; is_spelled(rt.alloc(), &record, "0407040005")?);
-    Ok(())
+/// The hint that a slot buys of Bob's location.
+fn made() -> Option<HintRecord> {
+    Some(HintRecord::Made {
+        team: TeamId::new(0)?,
+        finder: SlotId::new(2)?,
+        loc: LocId::new(201)?,
+        bought: true,
+        buyer: SlotId::new(1)?,
+        status: HintStatus::new(30)?,
+    })
+}
+
+/// A status of the hint of the location with the greatest id.
+fn marked() -> Option<HintRecord> {
+    Some(HintRecord::Marked {
+        team: TeamId::new(0)?,
+        finder: SlotId::new(2)?,
+        loc: LocId::new(9_007_199_254_740_991)?,
+        status: HintStatus::new(30)?,
+    })
+}
+
+/// A record by its name: of the last slot of the last team, or of a hint.
+fn record_of(name: &str) -> Option<Record> {
+    let (team, slot) = (TeamId::new(7)?, SlotId::new(1024)?);
+    let status = ClientStatus::new(5)?;
+    match name {
+        "release" => Some(Record::Release { team, slot }),
+        "collect" => Some(Record::Collect { team, slot }),
+        "status" => Some(Record::Status { team, slot, status }),
+        "hint" => Some(Record::Hint(made()?)),
+        _ => Some(Record::Hint(marked()?)),
+    }
+}
+
+/// Names of records, and how each is spelled.
+const RECORDS: &str = "release | 02070400
+collect | 03070400
+status | 0407040005
+hint | 0500000200000000000000c90100011e
+mark | 06000002001fffffffffffff1e";
+
+/// Whether a case's record is spelled so.
+fn is_case(alloc: Global, case: &str) -> Result<bool, Fail> {
+    let record = record_of(part(case, 0)).ok_or("no record")?;
+    is_spelled(alloc, &record, part(case, 1))
 }
 
 #[test]
-fn hints_are_spelled(rt: HostRuntime) -> Result<(), Fail> {
-    let (team, finder) = (team(0)?, slot(2)?);
-    let status = HintStatus::new(30).unwrap();
-    let made = Record::Hint(HintRecord::Made {
-        team,
-        finder,
-        loc: LocId::new(201).unwrap(),
-        bought: true,
-        buyer: slot(1)?,
-        status,
-    });
-    assert!(rt; is_spelled(rt.alloc(), &made, "0500000200000000000000c90100011e")?);
-    let marked = Record::Hint(HintRecord::Marked {
-        team,
-        finder,
-        loc: LocId::new(9_007_199_254_740_991).unwrap(),
-        status,
-    });
-    assert!(rt; is_spelled(rt.alloc(), &marked, "06000002001fffffffffffff1e")?);
+fn records_of_slots_and_hints_are_spelled(rt: HostRuntime) -> Result<(), Fail> {
+    for case in RECORDS.split('\n') {
+        assert!(rt; is_case(rt.alloc(), case)?, "{case}");
+    }
     Ok(())
 }
 

@@ -1,7 +1,7 @@
 ghost use Rattle.std.specs.Prelude.{◌≡◌, ◌∷◌, [], IfOk};
 
 use crate::client_packets::packets_in;
-use mw_base::{List, NetItem, Permission, SlotId, TeamId, Text};
+use mw_base::{List, Memory, NetItem, Permission, SlotId, TeamId, Text};
 use mw_cases::part;
 use mw_json::{Member, Tree};
 use mw_packets_in::{Bounce, Inbound, Packet};
@@ -94,21 +94,6 @@ fn connected_to(alloc: Global, slot_info: List<NetworkSlot>) -> Result<ServerPac
     }))
 }
 
-/// The text of the message of a room.
-fn presented(alloc: Global) -> Result<Text, Fail> {
-    let packets = list(alloc, ServerPacket::RoomInfo(room_info(alloc)?))?;
-    Ok(write_message(alloc, &packets)?)
-}
-
-#[test]
-fn a_room_presents_itself(rt: HostRuntime) -> Result<(), Fail> {
-    assert_eq!(rt;
-        presented(rt.alloc())?.as_str(),
-        r#"[{"cmd":"RoomInfo","datapackage_checksums":{"G":"H"},"games":["G"],"generator_version":{"build":0,"class":"Version","major":0,"minor":5},"hint_cost":10,"location_check_points":1,"password":false,"permissions":{"collect":2,"release":2,"remaining":2},"seed_name":"A","tags":[],"time":0,"version":{"build":0,"class":"Version","major":0,"minor":5}}]"#
-    );
-    Ok(())
-}
-
 /// What a session has from its start.
 fn received(alloc: Global) -> Result<ServerPacket, Fail> {
     let boots = NetItem {
@@ -123,59 +108,12 @@ fn received(alloc: Global) -> Result<ServerPacket, Fail> {
     })
 }
 
-/// The text of the message to a session that is connected.
-fn welcome(alloc: Global) -> Result<Text, Fail> {
-    let mut packets = list(alloc, connected_to(alloc, slots(alloc)?)?)?;
-    packets.push(received(alloc)?)?;
-    Ok(write_message(alloc, &packets)?)
-}
-
-#[test]
-fn a_session_is_connected(rt: HostRuntime) -> Result<(), Fail> {
-    assert_eq!(rt;
-        welcome(rt.alloc())?.as_str(),
-        r#"[{"checked_locations":[],"cmd":"Connected","hint_points":0,"missing_locations":[101,102],"players":[{"alias":"Ann","class":"NetworkPlayer","name":"Ann","slot":1,"team":0},{"alias":"Bob","class":"NetworkPlayer","name":"Bob","slot":2,"team":0}],"slot":1,"slot_data":{},"slot_info":{"1":{"class":"NetworkSlot","game":"G","group_members":[],"name":"Ann","type":1},"2":{"class":"NetworkSlot","game":"G","group_members":[],"name":"Bob","type":1}},"team":0},{"cmd":"ReceivedItems","index":0,"items":[{"class":"NetworkItem","flags":0,"item":5,"location":-2,"player":0}]}]"#
-    );
-    Ok(())
-}
-
-/// The text of a message of one packet.
-fn sole_text(alloc: Global, packet: ServerPacket) -> Result<Text, Fail> {
-    Ok(write_message(alloc, &list(alloc, packet)?)?)
-}
-
 /// What a session is told of a check.
 fn update(alloc: Global) -> Result<ServerPacket, Fail> {
     Ok(ServerPacket::RoomUpdate {
         checked_locations: list(alloc, 101)?,
         hint_points: 1,
     })
-}
-
-#[test]
-fn a_location_is_checked(rt: HostRuntime) -> Result<(), Fail> {
-    assert_eq!(rt;
-        sole_text(rt.alloc(), update(rt.alloc())?)?.as_str(),
-        r#"[{"checked_locations":[101],"cmd":"RoomUpdate","hint_points":1}]"#
-    );
-    Ok(())
-}
-
-/// The text of the message to a session that is connected where a tenth slot plays.
-fn welcome_of_ten(alloc: Global) -> Result<Text, Fail> {
-    let mut slots = slots(alloc)?;
-    slots.push(slot_of(alloc, SlotId::new(10).unwrap(), "Cy")?)?;
-    sole_text(alloc, connected_to(alloc, slots)?)
-}
-
-#[test]
-fn slots_stand_in_byte_order(rt: HostRuntime) -> Result<(), Fail> {
-    let text = welcome_of_ten(rt.alloc())?;
-    let first = text.as_str().find(r#""1":{"#);
-    let tenth = text.as_str().find(r#""10":{"#);
-    let second = text.as_str().find(r#""2":{"#);
-    assert!(rt; first < tenth && tenth < second);
-    Ok(())
 }
 
 /// A refused Connect.
@@ -203,18 +141,107 @@ fn no_packet(alloc: Global) -> Result<ServerPacket, Fail> {
     })
 }
 
-/// The text of a message of refusals.
-fn refusals(alloc: Global) -> Result<Text, Fail> {
-    let mut packets = list(alloc, refusal(alloc)?)?;
+/// The slots where a tenth one plays.
+fn ten_slots(alloc: Global) -> Result<List<NetworkSlot>, Fail> {
+    let mut slots = slots(alloc)?;
+    slots.push(slot_of(alloc, SlotId::new(10).unwrap(), "Cy")?)?;
+    Ok(slots)
+}
+
+/// A message to a session.
+#[derive(Clone, Copy)]
+enum Message {
+    /// The room presents itself.
+    Room,
+    /// The session is connected.
+    Welcome,
+    /// The session is connected where a tenth slot plays.
+    WelcomeOfTen,
+    /// A location is checked.
+    Update,
+    /// Three refusals.
+    Refusals,
+}
+
+/// Adds what a session is told that is connected.
+fn push_welcome(alloc: Global, packets: &mut List<ServerPacket>) -> Result<(), Fail> {
+    packets.push(connected_to(alloc, slots(alloc)?)?)?;
+    packets.push(received(alloc)?)?;
+    Ok(())
+}
+
+/// Adds three refusals.
+fn push_refusals(alloc: Global, packets: &mut List<ServerPacket>) -> Result<(), Fail> {
+    packets.push(refusal(alloc)?)?;
     packets.push(bad_arguments(alloc)?)?;
     packets.push(no_packet(alloc)?)?;
+    Ok(())
+}
+
+/// Adds the packets of a message.
+fn push_packets(
+    alloc: Global,
+    packets: &mut List<ServerPacket>,
+    message: Message,
+) -> Result<(), Fail> {
+    match message {
+        Message::Room => packets.push(ServerPacket::RoomInfo(room_info(alloc)?))?,
+        Message::Welcome => push_welcome(alloc, packets)?,
+        Message::WelcomeOfTen => packets.push(connected_to(alloc, ten_slots(alloc)?)?)?,
+        Message::Update => packets.push(update(alloc)?)?,
+        Message::Refusals => push_refusals(alloc, packets)?,
+    }
+    Ok(())
+}
+
+/// The text of a message.
+fn text_of(alloc: Global, message: Message) -> Result<Text, Fail> {
+    let mut packets = List::new(alloc);
+    push_packets(alloc, &mut packets, message)?;
     Ok(write_message(alloc, &packets)?)
+}
+
+#[test]
+fn a_room_presents_itself(rt: HostRuntime) -> Result<(), Fail> {
+    assert_eq!(rt;
+        text_of(rt.alloc(), Message::Room)?.as_str(),
+        r#"[{"cmd":"RoomInfo","datapackage_checksums":{"G":"H"},"games":["G"],"generator_version":{"build":0,"class":"Version","major":0,"minor":5},"hint_cost":10,"location_check_points":1,"password":false,"permissions":{"collect":2,"release":2,"remaining":2},"seed_name":"A","tags":[],"time":0,"version":{"build":0,"class":"Version","major":0,"minor":5}}]"#
+    );
+    Ok(())
+}
+
+#[test]
+fn a_session_is_connected(rt: HostRuntime) -> Result<(), Fail> {
+    assert_eq!(rt;
+        text_of(rt.alloc(), Message::Welcome)?.as_str(),
+        r#"[{"checked_locations":[],"cmd":"Connected","hint_points":0,"missing_locations":[101,102],"players":[{"alias":"Ann","class":"NetworkPlayer","name":"Ann","slot":1,"team":0},{"alias":"Bob","class":"NetworkPlayer","name":"Bob","slot":2,"team":0}],"slot":1,"slot_data":{},"slot_info":{"1":{"class":"NetworkSlot","game":"G","group_members":[],"name":"Ann","type":1},"2":{"class":"NetworkSlot","game":"G","group_members":[],"name":"Bob","type":1}},"team":0},{"cmd":"ReceivedItems","index":0,"items":[{"class":"NetworkItem","flags":0,"item":5,"location":-2,"player":0}]}]"#
+    );
+    Ok(())
+}
+
+#[test]
+fn a_location_is_checked(rt: HostRuntime) -> Result<(), Fail> {
+    assert_eq!(rt;
+        text_of(rt.alloc(), Message::Update)?.as_str(),
+        r#"[{"checked_locations":[101],"cmd":"RoomUpdate","hint_points":1}]"#
+    );
+    Ok(())
+}
+
+#[test]
+fn slots_stand_in_byte_order(rt: HostRuntime) -> Result<(), Fail> {
+    let text = text_of(rt.alloc(), Message::WelcomeOfTen)?;
+    let first = text.as_str().find(r#""1":{"#);
+    let tenth = text.as_str().find(r#""10":{"#);
+    let second = text.as_str().find(r#""2":{"#);
+    assert!(rt; first < tenth && tenth < second);
+    Ok(())
 }
 
 #[test]
 fn refusals_are_told(rt: HostRuntime) -> Result<(), Fail> {
     assert_eq!(rt;
-        refusals(rt.alloc())?.as_str(),
+        text_of(rt.alloc(), Message::Refusals)?.as_str(),
         r#"[{"cmd":"ConnectionRefused","errors":["InvalidPassword","InvalidSlot"]},{"cmd":"InvalidPacket","original_cmd":"LocationChecks","text":"arguments: locations","type":"arguments"},{"cmd":"InvalidPacket","original_cmd":null,"text":"no JSON list","type":"cmd"}]"#
     );
     Ok(())
@@ -243,13 +270,18 @@ fn what_stands_there_is_told(rt: HostRuntime) -> Result<(), Fail> {
     Ok(())
 }
 
+/// The text of a packet.
+fn text_alone(alloc: Global, packet: ServerPacket) -> Result<Text, Memory> {
+    packet_text(alloc, &packet)
+}
+
 /// Whether a packet is this text.
 fn is_packet(
     alloc: Global,
     packet: Result<ServerPacket, Fail>,
     wanted: &str,
 ) -> Result<bool, Fail> {
-    Ok(packet_text(alloc, &packet?)?.as_str() == wanted)
+    Ok(text_alone(alloc, packet?)?.as_str() == wanted)
 }
 
 /// The value of a key.
@@ -289,12 +321,20 @@ fn changes_are_told(rt: HostRuntime) -> Result<(), Fail> {
     Ok(())
 }
 
+/// The Bounce that a packet is.
+fn bounce_of(inbound: Inbound) -> Option<Bounce> {
+    match inbound {
+        Inbound::Good(Packet::Bounce(bounce)) => Some(bounce),
+        _ => None,
+    }
+}
+
 /// The Bounce of a message.
 fn bounce_in(alloc: Global, message: &str) -> Result<Option<Bounce>, Fail> {
-    let mut found = packets_in(alloc, message)?.into_vec();
-    match found.pop() {
-        Some(Inbound::Good(Packet::Bounce(bounce))) => Ok(Some(bounce)),
-        _ => Ok(None),
+    let found = packets_in(alloc, message)?;
+    match found.into_vec().pop() {
+        Some(inbound) => Ok(bounce_of(inbound)),
+        None => Ok(None),
     }
 }
 
@@ -313,8 +353,7 @@ fn passes(alloc: Global, message: &str, wanted: &str) -> Result<bool, Fail> {
     let Some(bounce) = bounce_in(alloc, message)? else {
         return Ok(false);
     };
-    let text = packet_text(alloc, &bounced(bounce))?;
-    Ok(text.as_str() == wanted)
+    Ok(text_alone(alloc, bounced(bounce))?.as_str() == wanted)
 }
 
 /// Messages of a Bounce, and what is told of each.

@@ -1,7 +1,7 @@
 ghost use Rattle.mw_model.specs.Json.{IsWritable};
 ghost use Rattle.mw_json.specs.View.{view};
 
-use mw_base::Text;
+use mw_base::{Memory, Text};
 use mw_cases::part;
 use mw_json::{SetPacket, Tree, compact_text};
 use mw_packets_in::{Inbound, Packet, packets_of};
@@ -9,13 +9,20 @@ use mw_storage::{Store, StoreRefusal};
 use std::alloc::Global;
 use std::test::Fail;
 
+/// The change that a Set asks for.
+fn change_of(inbound: Inbound) -> Option<SetPacket> {
+    match inbound {
+        Inbound::Good(Packet::Change(set)) => Some(set),
+        _ => None,
+    }
+}
+
 /// The change that a message of one Set asks for.
 fn change_in(alloc: Global, message: &str) -> Result<Option<SetPacket>, Fail> {
     let found = packets_of(alloc, &Text::of(alloc, message)?)?;
-    let mut packets = found.into_vec();
-    match packets.pop() {
-        Some(Inbound::Good(Packet::Change(set))) => Ok(Some(set)),
-        _ => Ok(None),
+    match found.into_vec().pop() {
+        Some(inbound) => Ok(change_of(inbound)),
+        None => Ok(None),
     }
 }
 
@@ -38,17 +45,21 @@ fn is_text(alloc: Global, tree: &Tree, wanted: &str) -> Result<bool, Fail>
     Ok(compact_text(alloc, tree)?.as_str() == wanted)
 }
 
-/// What a store makes of a change is this, and it is kept then.
+/// Keeps what a store makes of a change, where it isn't refused.
+fn put_changed(store: &mut Store, set: &SetPacket) -> Result<(), Memory> {
+    match store.apply(set) {
+        Ok(changed) => store.put(&set.key, changed.new),
+        Err(_) => Ok(()),
+    }
+}
+
+/// Whether a store keeps this of a change.
 fn keeps(alloc: Global, store: &mut Store, set: &SetPacket, wanted: &str) -> Result<bool, Fail> {
-    let Ok(changed) = store.apply(set) else {
-        return Ok(false);
-    };
-    let good = is_text(alloc, &changed.new, wanted)?;
-    store.put(&set.key, changed.new)?;
-    let Some(kept) = store.get(&set.key) else {
-        return Ok(false);
-    };
-    Ok(good && is_text(alloc, kept, wanted)?)
+    put_changed(store, set)?;
+    match store.get(&set.key) {
+        Some(kept) => is_text(alloc, kept, wanted),
+        None => Ok(false),
+    }
 }
 
 fn refusal(store: &Store, set: &SetPacket) -> Option<StoreRefusal> {
@@ -78,7 +89,7 @@ fn makes(alloc: Global, default: &str, operations: &str, wanted: &str) -> Result
     let Some(set) = set_of(alloc, "q", default, operations)? else {
         return Ok(false);
     };
-    keeps(alloc, &mut Store::new(alloc), &set, wanted)
+    Ok(is_made(alloc, &set, wanted)? && keeps(alloc, &mut Store::new(alloc), &set, wanted)?)
 }
 
 /// Whether a case `DEFAULT | OPERATIONS | VALUE` is so.
