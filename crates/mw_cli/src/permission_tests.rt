@@ -59,9 +59,8 @@ fn who_may_ask_what_remains(rt: HostRuntime) -> Result<(), Fail> {
     Ok(())
 }
 
-/// The cases of a permission to do what is then told so. By an automatic one it was done at the goal, and asking again then
-/// is told otherwise.
-fn cases_told_as<'a>(told: &'a str, again: &'a str) -> [Case<'a>; 10] {
+/// The cases of a permission to do what is then told so. By an automatic one it was done at the goal.
+fn cases_told_as(told: &str) -> [Case<'_>; 10] {
     [
         ("disabled", "20", NOT_ALLOWED),
         ("disabled", "30", NOT_ALLOWED),
@@ -72,20 +71,20 @@ fn cases_told_as<'a>(told: &'a str, again: &'a str) -> [Case<'a>; 10] {
         ("auto", "20", NOT_ALLOWED),
         ("auto", "30", NOTHING_LEFT),
         ("auto_enabled", "20", told),
-        ("auto_enabled", "30", again),
+        ("auto_enabled", "30", NOTHING_LEFT),
     ]
 }
 
 #[test]
 fn who_may_release(rt: HostRuntime) -> Result<(), Fail> {
-    let cases = cases_told_as(RELEASED, NOTHING_LEFT);
+    let cases = cases_told_as(RELEASED);
     assert!(rt; all_end(rt.alloc(), "release", "!release", &cases)?);
     Ok(())
 }
 
 #[test]
 fn who_may_collect(rt: HostRuntime) -> Result<(), Fail> {
-    let cases = cases_told_as(COLLECTED, COLLECTED);
+    let cases = cases_told_as(COLLECTED);
     assert!(rt; all_end(rt.alloc(), "collect", "!collect", &cases)?);
     Ok(())
 }
