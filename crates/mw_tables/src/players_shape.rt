@@ -1,6 +1,6 @@
 ghost use Rattle.std.specs.Prelude.{◌≡◌};
 ghost use Rattle.mw_json.specs.View.{view};
-ghost use Rattle.mw_json.specs.Grammar.{Gives, number_at};
+ghost use Rattle.mw_json.specs.Grammar.{Gives, name_at, number_at};
 ghost use Rattle.mw_tables.specs.PlayersShape.{team_names_at, player_at, player_list_at, players_shape_at};
 
 use crate::format::judge_format;
@@ -32,13 +32,20 @@ impl Model for RawPlayers {
     ghost view = { λ p. record { teams = p.teams; room = p.room; players = p.players } };
 }
 
+/// A name of at most 16 characters.
+fn short_name_in(alloc: Global, tree: &Tree) -> Result<Text, Refusal>
+    ensures { Gives result (name_at 16 (view tree.now)) }
+{
+    name_in(alloc, tree, 16)
+}
+
 /// A name for each team.
 #[tactic(auto, unfolding(crate::specs::PlayersShape::team_names_at))]
 fn team_names_of(alloc: Global, tree: &Tree, teams: u8) -> Result<List<Text>, Refusal>
     ensures { Gives result (team_names_at teams (view tree.now)) }
 {
     let trees = list_with(alloc, tree, teams as usize)?;
-    each(alloc, trees, |a, t| name_in(a, t, 16))
+    each(alloc, trees, short_name_in)
 }
 
 #[tactic(auto, unfolding(crate::specs::PlayersShape::player_at))]

@@ -27,18 +27,18 @@ pub(crate) fn usual_room(alloc: Global) -> Result<RoomOptions, Memory>
     })
 }
 
-/// The count under a name, at most `most`, or what it is where it is absent.
-fn count_or(
-    alloc: Global,
-    members: &[Member],
-    name: &str,
-    absent: u32,
-    most: u32,
-) -> Result<u32, Refusal>
-    ensures { (called : List ℕ) → called ≡ name.now
-        → Gives result (field_or_at called absent (number_at 0 most) (members_view members.now)) }
+/// At most 1,000 percent.
+fn hint_cost_in(alloc: Global, tree: &Tree) -> Result<u32, Refusal>
+    ensures { Gives result (number_at 0 1000 (view tree.now)) }
 {
-    field_or(alloc, members, name, absent, |a, t| count_in(a, t, most))
+    count_in(alloc, tree, 1_000)
+}
+
+/// At most 1,000,000 points.
+fn points_in(alloc: Global, tree: &Tree) -> Result<u32, Refusal>
+    ensures { Gives result (number_at 0 1000000 (view tree.now)) }
+{
+    count_in(alloc, tree, 1_000_000)
 }
 
 /// The permission under a name, `auto` where it is absent.
@@ -63,8 +63,8 @@ pub(crate) fn room_of(alloc: Global, tree: &Tree) -> Result<RoomOptions, Refusal
         Text::of(alloc, "")?,
         |a, t| password_in(a, t),
     )?;
-    let hint_cost = count_or(alloc, members, "hint_cost", 10, 1_000)?;
-    let location_check_points = count_or(alloc, members, "location_check_points", 1, 1_000_000)?;
+    let hint_cost = field_or(alloc, members, "hint_cost", 10, hint_cost_in)?;
+    let location_check_points = field_or(alloc, members, "location_check_points", 1, points_in)?;
     let release = permission_or_auto(alloc, members, "release")?;
     let collect = permission_or_auto(alloc, members, "collect")?;
     let remaining = field_or_seen(

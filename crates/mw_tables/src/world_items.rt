@@ -1,6 +1,7 @@
 ghost use Rattle.std.specs.Prelude.{◌≡◌};
 ghost use Rattle.mw_json.specs.View.{view};
 ghost use Rattle.mw_json.specs.Grammar.{Gives};
+ghost use Rattle.mw_json.specs.Parts.{id_at, null_or_at};
 ghost use Rattle.mw_tables.specs.WorldShape.{class_word_at, class_at, item_at};
 
 use crate::parts::long_name_in;
@@ -36,6 +37,13 @@ fn class_in(alloc: Global, tree: &Tree, id: &Option<ItemId>) -> Result<Class, Re
     }
 }
 
+/// An item's number, null at an event.
+fn id_of(alloc: Global, tree: &Tree) -> Result<Option<ItemId>, Refusal>
+    ensures { Gives result (null_or_at id_at (view tree.now)) }
+{
+    null_or(alloc, tree, |a, t| item_id_in(a, t))
+}
+
 /// An item of a world.
 #[tactic(auto, unfolding(crate::specs::WorldShape::item_at))]
 pub(crate) fn item_of(alloc: Global, tree: &Tree) -> Result<Item, Refusal>
@@ -43,12 +51,7 @@ pub(crate) fn item_of(alloc: Global, tree: &Tree) -> Result<Item, Refusal>
 {
     let members = object_of(alloc, tree)?;
     let name = field_in(alloc, members, "name", long_name_in)?;
-    let id = field_in(
-        alloc,
-        members,
-        "id",
-        |a, t| null_or(a, t, |a, t| item_id_in(a, t)),
-    )?;
+    let id = field_in(alloc, members, "id", id_of)?;
     let class = field_in(alloc, members, "class", |a, t| class_in(a, t, &id))?;
     Ok(Item { name, id, class })
 }

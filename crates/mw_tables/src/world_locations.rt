@@ -1,6 +1,7 @@
 ghost use Rattle.std.specs.Prelude.{◌≡◌};
 ghost use Rattle.mw_json.specs.View.{view, members_view};
-ghost use Rattle.mw_json.specs.Grammar.{Gives};
+ghost use Rattle.mw_json.specs.Grammar.{Gives, other_kind};
+ghost use Rattle.mw_json.specs.Parts.{id_at, null_or_at};
 ghost use Rattle.mw_tables.specs.WorldShape.{kind_at, event_in as event_in_members, location_at};
 
 use crate::parts::long_name_in;
@@ -27,13 +28,27 @@ fn kind_in(alloc: Global, tree: &Tree) -> Result<LocKind, Refusal>
     }
 }
 
+/// A location's number, null at an event.
+fn id_of(alloc: Global, tree: &Tree) -> Result<Option<LocId>, Refusal>
+    ensures { Gives result (null_or_at id_at (view tree.now)) }
+{
+    null_or(alloc, tree, |a, t| location_id_in(a, t))
+}
+
+/// There is no event where there is an id.
+fn no_event_in(alloc: Global, tree: &Tree) -> Result<Option<Text>, Refusal>
+    ensures { Gives result (other_kind (view tree.now)) }
+{
+    refuse_other(alloc, tree)
+}
+
 /// The event's name where there is no id; else there is no such member.
 fn event_in(alloc: Global, members: &[Member], id: &Option<LocId>) -> Result<Option<Text>, Refusal>
     ensures { Gives result (event_in_members id.now (members_view members.now)) }
 {
     match id {
         None => Ok(Some(field_in(alloc, members, "event", long_name_in)?)),
-        Some(_) => field_or(alloc, members, "event", None, |a, t| refuse_other(a, t)),
+        Some(_) => field_or(alloc, members, "event", None, no_event_in),
     }
 }
 
@@ -44,12 +59,7 @@ pub(crate) fn location_of(alloc: Global, tree: &Tree) -> Result<RawLocation, Ref
 {
     let members = object_of(alloc, tree)?;
     let name = field_in(alloc, members, "name", long_name_in)?;
-    let id = field_in(
-        alloc,
-        members,
-        "id",
-        |a, t| null_or(a, t, |a, t| location_id_in(a, t)),
-    )?;
+    let id = field_in(alloc, members, "id", id_of)?;
     let region = field_in(alloc, members, "region", long_name_in)?;
     let kind = field_or(alloc, members, "kind", LocKind::Default, kind_in)?;
     let rule = field_seen(alloc, members, "rule", rule_of)?;

@@ -1,7 +1,7 @@
-ghost use Rattle.std.specs.Prelude.{◌≡◌};
-ghost use Rattle.mw_json.specs.View.{view};
+ghost use Rattle.std.specs.Prelude.{◌≡◌, codes};
+ghost use Rattle.mw_json.specs.View.{view, members_view};
 ghost use Rattle.mw_json.specs.Grammar.{Gives, name_at};
-ghost use Rattle.mw_json.specs.Readers.{list_of_at};
+ghost use Rattle.mw_json.specs.Readers.{list_of_at, field_or_at};
 ghost use Rattle.mw_tables.specs.WorldShape.{item_at, entrance_at, location_at, world_shape_at};
 
 use crate::format::judge_format;
@@ -13,9 +13,18 @@ use crate::world_items::item_of;
 use crate::world_locations::location_of;
 use crate::world_pool::pool_of;
 use mw_base::{List, Text};
-use mw_json::{Refusal, Tree, field_in, field_or, field_seen, list, object_of};
+use mw_json::{Member, Refusal, Tree, field_in, field_or, field_seen, list, object_of};
 use mw_multi::Item;
 use std::alloc::Global;
+
+/// The region where a player begins, `Menu` where none is named.
+fn origin_in(alloc: Global, members: &[Member]) -> Result<Text, Refusal>
+    ensures { Gives result
+        (field_or_at (codes "origin") (codes "Menu") (name_at 128) (members_view members.now)) }
+{
+    let menu = Text::of(alloc, "Menu")?;
+    field_or(alloc, members, "origin", menu, long_name_in)
+}
 
 /// At most 5,000 regions.
 fn regions_of(alloc: Global, tree: &Tree) -> Result<List<Text>, Refusal>
@@ -53,13 +62,7 @@ pub(crate) fn world_shape(alloc: Global, tree: &Tree) -> Result<RawWorld, Refusa
     let members = object_of(alloc, tree)?;
     judge_format(alloc, members, "mw-world-1")?;
     let game = field_in(alloc, members, "game", long_name_in)?;
-    let origin = field_or(
-        alloc,
-        members,
-        "origin",
-        Text::of(alloc, "Menu")?,
-        long_name_in,
-    )?;
+    let origin = origin_in(alloc, members)?;
     let regions = field_in(alloc, members, "regions", regions_of)?;
     let items = field_in(alloc, members, "items", items_of)?;
     let entrances = field_in(alloc, members, "entrances", entrances_of)?;
