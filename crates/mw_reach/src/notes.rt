@@ -6,7 +6,7 @@ use std::alloc::Global;
 use std::marker::Model;
 
 /// For each key a list of numbers, to which more are noted.
-#[derive(Debug, Drop)]
+#[derive(Drop)]
 pub struct Notes {
     entries: Vec<List<u32>>,
 }

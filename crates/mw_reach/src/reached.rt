@@ -7,10 +7,16 @@ use mw_rules::Ruling;
 use std::alloc::Global;
 
 /// The list of places that reach gives for a joint, with all that reach needs, so that it takes no memory.
-#[derive(Drop)]
 pub struct Reached {
     pub(crate) trees: Option<TreeRules>,
     pub(crate) work: Work,
+}
+
+/// By hand, so that whoever lets a list go calls this, and what it frees is listed once.
+impl Drop for Reached {
+    fn drop(self) {
+        let Reached { trees: _, work: _ } = self;
+    }
 }
 
 impl Reached {

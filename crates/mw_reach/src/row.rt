@@ -2,7 +2,7 @@ use crate::table::Table;
 use mw_base::List;
 
 /// Where a step starts, and the number of its rule.
-#[derive(Clone, Copy, Debug, PartialEq, Eq)]
+#[derive(Clone, Copy)]
 pub struct Start {
     /// A place, by its number over all slots.
     pub from: u32,
@@ -11,7 +11,7 @@ pub struct Start {
 }
 
 /// A step into a place. It holds no rule, only the rule's number.
-#[derive(Clone, Copy, Debug, PartialEq, Eq)]
+#[derive(Clone, Copy)]
 pub struct Row {
     /// The slot, by its index from 0.
     pub slot: u32,
@@ -22,7 +22,7 @@ pub struct Row {
 }
 
 /// The steps of a joint by number, and which of them a place or an item may open.
-#[derive(Debug, Drop)]
+#[derive(Drop)]
 pub struct Rows {
     /// The steps, slot by slot: the origin, the entrances, the locations.
     pub rows: List<Row>,

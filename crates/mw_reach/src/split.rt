@@ -2,7 +2,7 @@ use crate::table::Table;
 
 /// The steps at each place, split by whether they have to be asked. A leaf is a place that no step waits for; one that a step
 /// leads to whose rule always holds is in the list wherever the step's start is.
-#[derive(Debug, Drop)]
+#[derive(Drop)]
 pub struct Split {
     /// For each place, the numbers of the steps there that have to be asked, ascending.
     pub asked: Table,

@@ -9,7 +9,7 @@ use std::alloc::Global;
 use std::marker::Model;
 
 /// For each key a list of numbers. The lists stand one after the other, so that little memory is looked at.
-#[derive(Debug, Drop)]
+#[derive(Drop)]
 pub struct Table {
     /// Where each key's list ends.
     ends: Vec<u32>,

@@ -4,7 +4,7 @@ use mw_base::{Memory, Spot};
 use thiserror::Error;
 
 /// Why claimed spheres aren't those of a placement, in the order of judging.
-#[derive(Clone, Copy, Debug, PartialEq, Eq, Error)]
+#[derive(Clone, Copy, Debug, Error)]
 pub enum CheckRefusal {
     /// The placement doesn't reach a slot's goal.
     #[error("goal of slot {slot}")]

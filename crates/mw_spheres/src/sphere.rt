@@ -86,6 +86,36 @@ fn next_sphere(
     Ok(sphere)
 }
 
+/// The spheres of a table from what is in hand at first. `nothing` is the table of no placement, and `reached` has the list
+/// for what is in hand.
+fn spheres_from(
+    alloc: Global,
+    joint: &Joint,
+    table: &Placed,
+    nothing: &Placed,
+    reached: &mut Reached,
+    taken: &mut [bool],
+    bag: &mut Bag,
+) -> Result<SphereList, Memory>
+    requires table { IsPlacedFor joint.now table.now }
+    requires nothing { IsPlaced joint.now.slots [] nothing.now }
+    requires reached { IsMadeFor joint.now reached.old }
+    requires rules { KeepsRules joint.now reached.old }
+    requires bag { IsBagFor joint.now bag.old }
+    requires room { HasRoom table.now taken.old bag.old }
+    requires least { HasLeast joint.now (bag_of bag.old) [] reached.old }
+    requires hand { IsInHand joint.now table.now [] taken.old bag.old }
+    ensures { IfOk result (AreSpheres joint.now table.now []) }
+{
+    let mut spheres = List::new(alloc);
+    let mut sphere = next_sphere(alloc, joint, table, nothing, reached, taken, bag)?;
+    while sphere.len() > 0 {
+        spheres.push(sphere)?;
+        sphere = next_sphere(alloc, joint, table, nothing, reached, taken, bag)?;
+    }
+    Ok(spheres)
+}
+
 /// The spheres of a table.
 pub(crate) fn spheres_of(
     alloc: Global,
@@ -105,13 +135,7 @@ pub(crate) fn spheres_of(
     let mut taken = vec![in alloc; false; joint.place_count() as usize]?;
     let taken = taken.as_mut_slice();
     reach(joint, &bag, &nothing, reached);
-    let mut spheres = List::new(alloc);
-    let mut sphere = next_sphere(alloc, joint, table, &nothing, reached, taken, &mut bag)?;
-    while sphere.len() > 0 {
-        spheres.push(sphere)?;
-        sphere = next_sphere(alloc, joint, table, &nothing, reached, taken, &mut bag)?;
-    }
-    Ok(spheres)
+    spheres_from(alloc, joint, table, &nothing, reached, taken, &mut bag)
 }
 
 /// The spheres of a placement with the joint's events, the first one first, each by slot and then in table order. A sphere

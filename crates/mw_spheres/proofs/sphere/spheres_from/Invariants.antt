@@ -5,11 +5,11 @@ use Rattle.mw_reach.specs.Reached.{IsBagFor, IsMadeFor, HasLeast, KeepsRules}
 use Rattle.mw_spheres.specs.Spheres.{IsSphere, listed}
 use Rattle.mw_spheres.specs.Gathering.{HasRoom, IsInHand}
 use Rattle.mw_spheres.proofs.Hand.{LeadsOn}
-use Rattle.mw_spheres.proofs.sphere.spheres_of.Given as goal
+use Rattle.mw_spheres.proofs.sphere.spheres_from.Given as goal
 
 -- the spheres so far, and the next one
-abbrev pub invariant-loop-taken : goal.invariant-loop-taken
-invariant-loop-taken l = record {
+abbrev pub invariant-loop-alloc : goal.invariant-loop-alloc
+invariant-loop-alloc l = record {
   reached : IsMadeFor l.joint l.reached;
   rules : KeepsRules l.joint l.reached;
   bag : IsBagFor l.joint l.bag;
@@ -20,5 +20,5 @@ invariant-loop-taken l = record {
   before : LeadsOn l.joint l.table l.spheres;
 }
 
-abbrev pub decreases-loop-taken : goal.decreases-loop-taken
-decreases-loop-taken l = missing l.taken + length l.sphere
+abbrev pub decreases-loop-alloc : goal.decreases-loop-alloc
+decreases-loop-alloc l = missing l.taken + length l.sphere
