@@ -1,5 +1,5 @@
 //! What players say, and what they are told of one another.
-use crate::session_harness::marked;
+use crate::session_harness::marks;
 use crate::team_tests::ROOM as ROOM_OF_TEAMS;
 use crate::tests::ROOM_A;
 use std::alloc::Global;
@@ -15,10 +15,10 @@ take 2
 mark
 "#;
 
-/// What is told after both have connected.
-fn both_then(alloc: Global, lines: &str) -> Result<String, Fail> {
+/// Fails where another text is told after both have connected.
+fn both_hear(alloc: Global, lines: &str, wanted: &str) -> Result<(), Fail> {
     let script = format!(in alloc; "{BOTH}{lines}")?;
-    marked(alloc, ROOM_A, script.as_str())
+    marks(alloc, ROOM_A, script.as_str(), wanted)
 }
 
 #[test]
@@ -30,12 +30,10 @@ mark
 checks 1 [101]
 take 1
 "#;
-    let text = marked(rt.alloc(), ROOM_A, lines)?;
     let expected =
         r#"1 [{"checked_locations":[101],"cmd":"RoomUpdate","hint_points":1},{"cmd":"PrintJSON","data":[{"text":"1","type":"player_id"},{"text":" sent "},{"flags":1,"player":2,"text":"7","type":"item_id"},{"text":" to "},{"text":"2","type":"player_id"},{"text":" ("},{"player":1,"text":"101","type":"location_id"},{"text":")"}],"item":{"class":"NetworkItem","flags":1,"item":7,"location":101,"player":1},"receiving":2,"type":"ItemSend"}]
 "#;
-    assert_eq!(rt; text.as_str(), expected);
-    Ok(())
+    marks(rt.alloc(), ROOM_A, lines, expected)
 }
 
 #[test]
@@ -58,7 +56,6 @@ text 1 [{"cmd":"Say","text":"!collect"}]
 take 2
 take 1
 "#;
-    let text = marked(rt.alloc(), ROOM_A, lines)?;
     let expected =
         r#"1 [{"checked_locations":[102],"cmd":"RoomUpdate","hint_points":1},{"cmd":"ReceivedItems","index":1,"items":[{"class":"NetworkItem","flags":0,"item":8,"location":102,"player":1}]}]
 1 [{"checked_locations":[101],"cmd":"RoomUpdate","hint_points":2}]
@@ -66,8 +63,7 @@ take 1
 2 [{"checked_locations":[201],"cmd":"RoomUpdate","hint_points":1}]
 1 [{"cmd":"ReceivedItems","index":2,"items":[{"class":"NetworkItem","flags":2,"item":9,"location":201,"player":2}]}]
 "#;
-    assert_eq!(rt; text.as_str(), expected);
-    Ok(())
+    marks(rt.alloc(), ROOM_A, lines, expected)
 }
 
 #[test]
@@ -85,12 +81,10 @@ take 1
 text 1 [{"cmd":"LocationScouts","create_as_hint":1,"locations":[201,101,101]}]
 take 1
 "#;
-    let text = marked(rt.alloc(), ROOM_A, lines)?;
     let expected = r#"1 [{"checked_locations":[],"cmd":"RoomUpdate","hint_points":1}]
 1 [{"cmd":"LocationInfo","locations":[{"class":"NetworkItem","flags":1,"item":7,"location":101,"player":2}]}]
 "#;
-    assert_eq!(rt; text.as_str(), expected);
-    Ok(())
+    marks(rt.alloc(), ROOM_A, lines, expected)
 }
 
 #[test]
@@ -102,47 +96,51 @@ take 1
 lost 2
 take 1
 "#;
-    let text = both_then(rt.alloc(), lines)?;
     let expected =
         r#"1 [{"cmd":"PrintJSON","data":[{"text":"Bob: hi \"all\""}],"message":"hi \"all\"","slot":2,"team":0,"type":"Chat"}]
 1 [{"cmd":"PrintJSON","data":[{"text":"Bob changed tags"}],"slot":2,"tags":["Tracker"],"team":0,"type":"TagsChanged"}]
 1 [{"cmd":"PrintJSON","data":[{"text":"Bob left"}],"slot":2,"team":0,"type":"Part"}]
 "#;
-    assert_eq!(rt; text.as_str(), expected);
-    Ok(())
+    both_hear(rt.alloc(), lines, expected)
 }
+
+/// Fails where Ann is answered otherwise who says a command.
+fn answers(alloc: Global, command: &str, answer: &str) -> Result<(), Fail> {
+    let lines = format!(in alloc;
+        "text 1 [{{\"cmd\":\"Say\",\"text\":\"{command}\"}}]\ntake 1\ntake 2\n"
+    )?;
+    let expected = format!(in alloc;
+        "1 [{{\"cmd\":\"PrintJSON\",\"data\":[{{\"text\":\"{answer}\"}}],\"type\":\"CommandResult\"}}]\n"
+    )?;
+    both_hear(alloc, lines.as_str(), expected.as_str())
+}
+
+/// Commands of Ann, and what each is answered.
+const ANSWERS: [(&str, &str); 15] = [
+    (
+        "!help",
+        "!help !players !missing !checked !remaining !release !collect !hint !hint_location",
+    ),
+    ("!players now", "Connected: Ann, Bob"),
+    ("!missing", "2 missing: A1, A2"),
+    ("!checked", "0 checked: "),
+    ("!remaining", "not allowed"),
+    ("!release", "not allowed"),
+    ("!collect", "not allowed"),
+    ("!hint", "0 points, a hint costs 1"),
+    ("!hint ", "0 points, a hint costs 1"),
+    ("!hint Hat", "no such name"),
+    ("!hint Boots", "nothing to hint"),
+    ("!hint Map", "1 points needed, 0 there"),
+    ("!hint_location B1", "no such name"),
+    ("!hint_location A1", "1 points needed, 0 there"),
+    ("!fly", "unknown command"),
+];
 
 #[test]
 fn each_command_has_its_answer(rt: HostRuntime) -> Result<(), Fail> {
-    for (command, answer) in [
-        (
-            "!help",
-            "!help !players !missing !checked !remaining !release !collect !hint !hint_location",
-        ),
-        ("!players now", "Connected: Ann, Bob"),
-        ("!missing", "2 missing: A1, A2"),
-        ("!checked", "0 checked: "),
-        ("!remaining", "not allowed"),
-        ("!release", "not allowed"),
-        ("!collect", "not allowed"),
-        ("!hint", "0 points, a hint costs 1"),
-        ("!hint ", "0 points, a hint costs 1"),
-        ("!hint Hat", "no such name"),
-        ("!hint Boots", "nothing to hint"),
-        ("!hint Map", "1 points needed, 0 there"),
-        ("!hint_location B1", "no such name"),
-        ("!hint_location A1", "1 points needed, 0 there"),
-        ("!fly", "unknown command"),
-    ] {
-        let alloc = rt.alloc();
-        let say = format!(in alloc;
-            "text 1 [{{\"cmd\":\"Say\",\"text\":\"{command}\"}}]\ntake 1\ntake 2\n"
-        )?;
-        let text = both_then(alloc, say.as_str())?;
-        let expected = format!(in alloc;
-            "1 [{{\"cmd\":\"PrintJSON\",\"data\":[{{\"text\":\"{answer}\"}}],\"type\":\"CommandResult\"}}]\n"
-        )?;
-        assert_eq!(rt; text.as_str(), expected.as_str(), "{command}");
+    for (command, answer) in ANSWERS {
+        answers(rt.alloc(), command, answer)?;
     }
     Ok(())
 }
@@ -155,12 +153,10 @@ text 1 [{"cmd":"StatusUpdate","status":10}]
 text 1 [{"cmd":"Say","text":"!remaining"}]
 take 2
 "#;
-    let text = both_then(rt.alloc(), lines)?;
     let expected =
         r#"2 [{"cmd":"PrintJSON","data":[{"text":"Ann reached the goal"}],"slot":1,"team":0,"type":"Goal"}]
 "#;
-    assert_eq!(rt; text.as_str(), expected);
-    Ok(())
+    both_hear(rt.alloc(), lines, expected)
 }
 
 /// Both players of the teams 0 and 1, who hear texts of the room from the mark on.
@@ -187,28 +183,13 @@ take 4
 
 #[test]
 fn teams_do_not_hear_each_other(rt: HostRuntime) -> Result<(), Fail> {
-    let text = marked(rt.alloc(), ROOM_OF_TEAMS, TWO_TEAMS)?;
     let expected =
         r#"1 [{"cmd":"PrintJSON","data":[{"text":"A0: hi"}],"message":"hi","slot":1,"team":0,"type":"Chat"}]
 2 [{"cmd":"PrintJSON","data":[{"text":"A0: hi"}],"message":"hi","slot":1,"team":0,"type":"Chat"}]
 3 [{"cmd":"PrintJSON","data":[{"text":"B1: ho"}],"message":"ho","slot":2,"team":1,"type":"Chat"}]
 4 [{"cmd":"PrintJSON","data":[{"text":"B1: ho"}],"message":"ho","slot":2,"team":1,"type":"Chat"}]
 "#;
-    assert_eq!(rt; text.as_str(), expected);
-    Ok(())
-}
-
-/// What Bob hears when Ann says a text that has this spelling in JSON.
-fn heard(alloc: Global, said: &str) -> Result<String, Fail> {
-    let lines = format!(in alloc; "text 1 [{{\"cmd\":\"Say\",\"text\":\"{said}\"}}]\ntake 2\n")?;
-    both_then(alloc, lines.as_str())
-}
-
-/// What he is to hear, where it is printed with this spelling.
-fn chat_of_ann(alloc: Global, told: &str) -> Result<String, Fail> {
-    Ok(format!(in alloc;
-        "2 [{{\"cmd\":\"PrintJSON\",\"data\":[{{\"text\":\"Ann: {told}\"}}],\"message\":\"{told}\",\"slot\":1,\"team\":0,\"type\":\"Chat\"}}]\n"
-    )?)
+    marks(rt.alloc(), ROOM_OF_TEAMS, TWO_TEAMS, expected)
 }
 
 /// Spellings of characters as they may be sent, and as they are printed.
@@ -221,17 +202,20 @@ const ESCAPES: [(&str, &str); 6] = [
     (r#"\u00E4\uD83D\uDE00"#, "\u{e4}\u{1f600}"),
 ];
 
-/// Whether Bob hears so what Ann says.
-fn is_heard(alloc: Global, said: &str, told: &str) -> Result<bool, Fail> {
-    let text = heard(alloc, said)?;
-    let expected = chat_of_ann(alloc, told)?;
-    Ok(text.as_str() == expected.as_str())
+/// Fails where Bob hears otherwise what Ann says. The first text is its spelling in JSON, the
+/// second the one with which it is printed.
+fn bob_hears(alloc: Global, said: &str, told: &str) -> Result<(), Fail> {
+    let lines = format!(in alloc; "text 1 [{{\"cmd\":\"Say\",\"text\":\"{said}\"}}]\ntake 2\n")?;
+    let expected = format!(in alloc;
+        "2 [{{\"cmd\":\"PrintJSON\",\"data\":[{{\"text\":\"Ann: {told}\"}}],\"message\":\"{told}\",\"slot\":1,\"team\":0,\"type\":\"Chat\"}}]\n"
+    )?;
+    both_hear(alloc, lines.as_str(), expected.as_str())
 }
 
 #[test]
 fn quotes_and_control_characters_are_said(rt: HostRuntime) -> Result<(), Fail> {
     for (said, told) in ESCAPES {
-        assert!(rt; is_heard(rt.alloc(), said, told)?, "at {said}");
+        bob_hears(rt.alloc(), said, told)?;
     }
     Ok(())
 }
@@ -240,6 +224,5 @@ fn quotes_and_control_characters_are_said(rt: HostRuntime) -> Result<(), Fail> {
 fn ten_thousand_characters_are_said(rt: HostRuntime) -> Result<(), Fail> {
     let said = r#"\"\u0001\u00e4\n\\"#.repeat(rt.alloc(), 2_000)?;
     let told = "\\\"\\u0001\u{e4}\\n\\\\".repeat(rt.alloc(), 2_000)?;
-    assert!(rt; is_heard(rt.alloc(), said.as_str(), told.as_str())?);
-    Ok(())
+    bob_hears(rt.alloc(), said.as_str(), told.as_str())
 }

@@ -1,4 +1,4 @@
-use crate::session_harness::{marked, room_with};
+use crate::session_harness::{marks, room_with};
 use crate::tests::ROOM_A;
 use std::test::Fail;
 
@@ -11,13 +11,11 @@ text 1 [{"cmd":"Connect","game":"G","items_handling":2,"name":"Cat","password":"
 take 1
 "#;
     let seed = room_with(rt.alloc(), r#""password":"""#, r#""password":"pw""#)?;
-    let text = marked(rt.alloc(), seed.as_str(), lines)?;
     let expected =
         r#"1 [{"cmd":"RoomInfo","datapackage_checksums":{"G":"3140df20051ca1c7a5dd4f886f8945c613c6fbba"},"games":["G"],"generator_version":{"build":0,"class":"Version","major":0,"minor":5},"hint_cost":10,"location_check_points":1,"password":true,"permissions":{"collect":2,"release":2,"remaining":2},"seed_name":"A","tags":[],"time":7,"version":{"build":0,"class":"Version","major":0,"minor":5}}]
 1 [{"cmd":"ConnectionRefused","errors":["InvalidPassword","InvalidSlot","InvalidItemsHandling"]}]
 "#;
-    assert_eq!(rt; text.as_str(), expected);
-    Ok(())
+    marks(rt.alloc(), seed.as_str(), lines, expected)
 }
 
 #[test]
@@ -42,7 +40,6 @@ text 1 [{"cmd":"Connect","game":"H","items_handling":6,"name":"Ann","password":"
 take 1
 "#;
     let seed = room_with(rt.alloc(), r#""password":"""#, r#""password":"pw""#)?;
-    let text = marked(rt.alloc(), seed.as_str(), lines)?;
     let expected = r#"1 [{"cmd":"ConnectionRefused","errors":["InvalidPassword"]}]
 1 [{"cmd":"ConnectionRefused","errors":["InvalidPassword"]}]
 1 [{"cmd":"ConnectionRefused","errors":["InvalidPassword"]}]
@@ -58,8 +55,7 @@ take 1
 1 [{"cmd":"ConnectionRefused","errors":["InvalidItemsHandling"]}]
 1 [{"cmd":"ConnectionRefused","errors":["InvalidPassword","InvalidGame","IncompatibleVersion","InvalidItemsHandling"]}]
 "#;
-    assert_eq!(rt; text.as_str(), expected);
-    Ok(())
+    marks(rt.alloc(), seed.as_str(), lines, expected)
 }
 
 #[test]
@@ -71,12 +67,10 @@ mark
 text 1 [{"cmd":"Connect","game":"G","items_handling":null,"name":"Bob","password":"anything","tags":["NoText"],"version":{"build":0,"major":0,"minor":4}}]
 take 1
 "#;
-    let text = marked(rt.alloc(), ROOM_A, lines)?;
     let expected =
         r#"1 [{"checked_locations":[],"cmd":"Connected","hint_points":0,"missing_locations":[201],"players":[{"alias":"Ann","class":"NetworkPlayer","name":"Ann","slot":1,"team":0},{"alias":"Bob","class":"NetworkPlayer","name":"Bob","slot":2,"team":0}],"slot":2,"slot_data":{},"slot_info":{"1":{"class":"NetworkSlot","game":"G","group_members":[],"name":"Ann","type":1},"2":{"class":"NetworkSlot","game":"G","group_members":[],"name":"Bob","type":1}},"team":0}]
 "#;
-    assert_eq!(rt; text.as_str(), expected);
-    Ok(())
+    marks(rt.alloc(), ROOM_A, lines, expected)
 }
 
 #[test]
@@ -93,14 +87,12 @@ take 2
 text 2 [{"cmd":"Connect","items_handling":1,"name":"Bob","tags":["Tracker","NoText"],"version":{"build":0,"major":0,"minor":5}}]
 take 2
 "#;
-    let text = marked(rt.alloc(), ROOM_A, lines)?;
     let expected = r#"1 [{"cmd":"ConnectionRefused","errors":["InvalidGame"]}]
 1 [{"checked_locations":[],"cmd":"Connected","hint_points":0,"missing_locations":[101,102],"players":[{"alias":"Ann","class":"NetworkPlayer","name":"Ann","slot":1,"team":0},{"alias":"Bob","class":"NetworkPlayer","name":"Bob","slot":2,"team":0}],"slot":1,"slot_data":{},"slot_info":{"1":{"class":"NetworkSlot","game":"G","group_members":[],"name":"Ann","type":1},"2":{"class":"NetworkSlot","game":"G","group_members":[],"name":"Bob","type":1}},"team":0}]
 2 [{"cmd":"RoomInfo","datapackage_checksums":{"G":"3140df20051ca1c7a5dd4f886f8945c613c6fbba"},"games":["G"],"generator_version":{"build":0,"class":"Version","major":0,"minor":5},"hint_cost":10,"location_check_points":1,"password":false,"permissions":{"collect":2,"release":2,"remaining":2},"seed_name":"A","tags":[],"time":0,"version":{"build":0,"class":"Version","major":0,"minor":5}}]
 2 [{"checked_locations":[],"cmd":"Connected","hint_points":0,"missing_locations":[201],"players":[{"alias":"Ann","class":"NetworkPlayer","name":"Ann","slot":1,"team":0},{"alias":"Bob","class":"NetworkPlayer","name":"Bob","slot":2,"team":0}],"slot":2,"slot_data":{},"slot_info":{"1":{"class":"NetworkSlot","game":"G","group_members":[],"name":"Ann","type":1},"2":{"class":"NetworkSlot","game":"G","group_members":[],"name":"Bob","type":1}},"team":0}]
 "#;
-    assert_eq!(rt; text.as_str(), expected);
-    Ok(())
+    marks(rt.alloc(), ROOM_A, lines, expected)
 }
 
 #[test]
@@ -114,12 +106,10 @@ connect 1 Cat 2
 sync 1
 take 1
 "#;
-    let text = marked(rt.alloc(), ROOM_A, lines)?;
     let expected =
         r#"1 [{"cmd":"InvalidPacket","original_cmd":"Connect","text":"already connected","type":"arguments"}]
 1 [{"cmd":"InvalidPacket","original_cmd":"Connect","text":"already connected","type":"arguments"}]
 1 [{"cmd":"ReceivedItems","index":0,"items":[{"class":"NetworkItem","flags":0,"item":5,"location":-2,"player":0}]}]
 "#;
-    assert_eq!(rt; text.as_str(), expected);
-    Ok(())
+    marks(rt.alloc(), ROOM_A, lines, expected)
 }

@@ -1,4 +1,5 @@
-use crate::harness::{NEVER, add_file, faults, told, told_with};
+use crate::harness::{NEVER, add_file, agree, faults, tells, told, told_with};
+use crate::session_harness::script_of;
 use mw_base::{List, Text};
 use mw_edges::{FileRead, Folder, MemoryFolder};
 use std::alloc::Global;
@@ -123,88 +124,83 @@ fn wanted(alloc: Global, seed: u32) -> Result<String, Fail> {
 fn one_sword(rt: HostRuntime) -> Result<(), Fail> {
     for seed in 0..10 {
         let wanted = wanted(rt.alloc(), seed)?;
-        let found = generated(rt.alloc(), seed)?;
-        assert_eq!(rt; found.as_str(), wanted.as_str());
+        agree(generated(rt.alloc(), seed)?.as_str(), wanted.as_str())?;
     }
     Ok(())
 }
 
-/// What checking this seed file tells.
-fn checked(alloc: Global, file: &str) -> Result<String, Fail> {
+/// Fails where checking this seed file tells another line.
+fn check_tells(alloc: Global, file: &str, line: &str) -> Result<(), Fail> {
     let mut folder = one_sword_folder(alloc, file, NEVER)?;
-    told(alloc, &mut folder, "check p.json o")
+    tells(alloc, &mut folder, "check p.json o", line)
 }
 
-/// What checking the one Sword's file with these flags of location 1 and these spheres tells.
-fn checked_with(alloc: Global, flags: u32, spheres: &str) -> Result<String, Fail> {
+/// The same of the one Sword's file with these flags of location 1 and these spheres.
+fn check_tells_of(alloc: Global, flags: u32, spheres: &str, line: &str) -> Result<(), Fail> {
     let file = one_sword_file(alloc, 0, flags, spheres)?;
-    checked(alloc, file.as_str())
+    check_tells(alloc, file.as_str(), line)
 }
 
-/// Each row: the flags of location 1, the spheres, and what is told.
+/// The flags of location 1, the spheres, and what is told.
+const CHECKED: [(u32, &str, &str); 5] = [
+    (
+        1,
+        "[]",
+        "1 check failed: missing in sphere 1: slot 1 location 0\n",
+    ),
+    (
+        1,
+        "[[[1,1]]]",
+        "1 check failed: wrong in sphere 1: slot 1 location 1\n",
+    ),
+    (
+        1,
+        "[[[1,0]],[[1,1]]]",
+        "1 check failed: wrong in sphere 2: slot 1 location 1\n",
+    ),
+    (
+        0,
+        "[[[1,0]]]",
+        "1 check failed: other tables at slot 1 location 1\n",
+    ),
+    (1, "[[]]", "7 multidata refused: WrongKind /spheres/0\n"),
+];
+
 #[test]
 fn what_check_finds(rt: HostRuntime) -> Result<(), Fail> {
-    let rows = [
-        (
-            1,
-            "[]",
-            "1 check failed: missing in sphere 1: slot 1 location 0\n",
-        ),
-        (
-            1,
-            "[[[1,1]]]",
-            "1 check failed: wrong in sphere 1: slot 1 location 1\n",
-        ),
-        (
-            1,
-            "[[[1,0]],[[1,1]]]",
-            "1 check failed: wrong in sphere 2: slot 1 location 1\n",
-        ),
-        (
-            0,
-            "[[[1,0]]]",
-            "1 check failed: other tables at slot 1 location 1\n",
-        ),
-        (1, "[[]]", "7 multidata refused: WrongKind /spheres/0\n"),
-    ];
-    for (flags, spheres, line) in rows {
-        let found = checked_with(rt.alloc(), flags, spheres)?;
-        assert_eq!(rt; found.as_str(), line);
+    for (flags, spheres, line) in CHECKED {
+        check_tells_of(rt.alloc(), flags, spheres, line)?;
     }
-    let found = checked(rt.alloc(), "{}")?;
-    assert_eq!(rt;
-        found.as_str(),
-        "7 multidata refused: MissingField /format\n"
-    );
-    Ok(())
+    let line = "7 multidata refused: MissingField /format\n";
+    check_tells(rt.alloc(), "{}", line)
 }
 
-/// What generating Ann's world with this rule and so many Swords tells.
-fn refused(alloc: Global, rule: &str, many: u32) -> Result<String, Fail> {
-    let pool = if many == 0 {
-        String::new(alloc)
-    } else {
-        swords(alloc, many)?
-    };
-    let world = sword_world(alloc, rule, pool.as_str())?;
+/// Fails where generating Ann's world with this rule and pool tells another line.
+fn refuses(alloc: Global, rule: &str, pool: &str, line: &str) -> Result<(), Fail> {
+    let world = sword_world(alloc, rule, pool)?;
     let mut folder = folder_of(alloc, ANN, world.as_str(), "", NEVER)?;
-    told(alloc, &mut folder, "generate p.json o --seed 0")
+    tells(alloc, &mut folder, "generate p.json o --seed 0", line)
 }
+
+/// The rule of Second, the pool, and what is told.
+const REFUSED: [(&str, &str, &str); 3] = [
+    (WANTS_SWORD, "", "3 not beatable: slot 1\n"),
+    (
+        "{\"has\":\"Coin\"}",
+        "{\"item\":\"Sword\",\"count\":1}",
+        "3 refused: w.json RuleItemNotProgression /locations/1/rule/has\n",
+    ),
+    (
+        WANTS_SWORD,
+        "{\"item\":\"Sword\",\"count\":3}",
+        "3 too many items: 3 for 2 places\n",
+    ),
+];
 
 #[test]
 fn table_refusals(rt: HostRuntime) -> Result<(), Fail> {
-    let rows = [
-        (WANTS_SWORD, 0, "3 not beatable: slot 1\n"),
-        (
-            "{\"has\":\"Coin\"}",
-            1,
-            "3 refused: w.json RuleItemNotProgression /locations/1/rule/has\n",
-        ),
-        (WANTS_SWORD, 3, "3 too many items: 3 for 2 places\n"),
-    ];
-    for (rule, many, line) in rows {
-        let found = refused(rt.alloc(), rule, many)?;
-        assert_eq!(rt; found.as_str(), line);
+    for (rule, pool, line) in REFUSED {
+        refuses(rt.alloc(), rule, pool, line)?;
     }
     Ok(())
 }
@@ -234,62 +230,73 @@ fn with_options(alloc: Global, rule: &str, options: &str, seed: u32) -> Result<S
 #[test]
 fn stuck_local_sword(rt: HostRuntime) -> Result<(), Fail> {
     let found = with_options(rt.alloc(), WANTS_SWORD, "\"local_items\":[\"Sword\"]", 0)?;
-    assert_eq!(rt; found.as_str(), "4 exhausted after 3 tries\n");
-    Ok(())
+    agree(found.as_str(), "4 exhausted after 3 tries\n")
 }
 
-/// Each row: Ann's options, and where her Sword must lie.
+/// Fails where the Sword lies elsewhere with these options and this seed.
+fn lies_at(alloc: Global, options: &str, seed: u32, line: &str) -> Result<(), Fail> {
+    let wanted = format!(in alloc; "0 seed {seed} try 0 spheres 1\n{line}")?;
+    agree(
+        with_options(alloc, "true", options, seed)?.as_str(),
+        wanted.as_str(),
+    )
+}
+
+/// Ann's options, and where her Sword must lie.
+const DECIDED: [(&str, &str); 4] = [
+    ("\"local_items\":[\"Sword\"]", "1 Ann: Here -> Ann: Sword\n"),
+    (
+        "\"non_local_items\":[\"Sword\"]",
+        "1 Bob: There -> Ann: Sword\n",
+    ),
+    (
+        "\"exclude_locations\":[\"Here\"]",
+        "1 Bob: There -> Ann: Sword\n",
+    ),
+    (
+        "\"priority_locations\":[\"Here\"]",
+        "1 Ann: Here -> Ann: Sword\n",
+    ),
+];
+
 #[test]
 fn options_decide_where_items_lie(rt: HostRuntime) -> Result<(), Fail> {
-    let rows = [
-        ("\"local_items\":[\"Sword\"]", "1 Ann: Here -> Ann: Sword\n"),
-        (
-            "\"non_local_items\":[\"Sword\"]",
-            "1 Bob: There -> Ann: Sword\n",
-        ),
-        (
-            "\"exclude_locations\":[\"Here\"]",
-            "1 Bob: There -> Ann: Sword\n",
-        ),
-        (
-            "\"priority_locations\":[\"Here\"]",
-            "1 Ann: Here -> Ann: Sword\n",
-        ),
-    ];
-    for (options, line) in rows {
+    for (options, line) in DECIDED {
         for seed in 0..5 {
-            let found = with_options(rt.alloc(), "true", options, seed)?;
-            let wanted = format!(in rt.alloc(); "0 seed {seed} try 0 spheres 1\n{line}")?;
-            assert_eq!(rt; found.as_str(), wanted.as_str());
+            lies_at(rt.alloc(), options, seed, line)?;
         }
     }
     Ok(())
 }
 
-/// Without options the Sword lies at Ann's for some seed and at Bob's for another; with a Sword to begin with, Ann's own
-/// may lie behind it.
+/// Whether this is told of generating with these options and some seed below 20.
+fn is_told_once(alloc: Global, rule: &str, options: &str, part: &str) -> Result<bool, Fail> {
+    for seed in 0..20 {
+        if with_options(alloc, rule, options, seed)?.contains(part) {
+            return Ok(true);
+        }
+    }
+    Ok(false)
+}
+
+/// Without options the Sword lies at Ann's for some seed and at Bob's for another; with a Sword to
+/// begin with, Ann's own may lie behind it.
 #[test]
 fn without_options_items_lie_anywhere(rt: HostRuntime) -> Result<(), Fail> {
-    let mut at_home = false;
-    let mut abroad = false;
-    let mut behind = false;
-    for seed in 0..20 {
-        let found = with_options(rt.alloc(), "true", "", seed)?;
-        at_home = at_home || found.as_str().ends_with("1 Ann: Here -> Ann: Sword\n");
-        abroad = abroad || found.as_str().ends_with("1 Bob: There -> Ann: Sword\n");
-        let options = "\"start_inventory\":{\"Sword\":1},\"local_items\":[\"Sword\"]";
-        let started = with_options(rt.alloc(), WANTS_SWORD, options, seed)?;
-        behind = behind || started.as_str().starts_with("0 seed ");
-    }
-    assert_eq!(rt; at_home && abroad && behind, true);
+    assert!(rt; is_told_once(rt.alloc(), "true", "", "1 Ann: Here -> Ann: Sword\n")?);
+    assert!(rt; is_told_once(rt.alloc(), "true", "", "1 Bob: There -> Ann: Sword\n")?);
+    let options = "\"start_inventory\":{\"Sword\":1},\"local_items\":[\"Sword\"]";
+    assert!(rt; is_told_once(rt.alloc(), WANTS_SWORD, options, "0 seed ")?);
     Ok(())
 }
 
-/// What a run tells where the folder's call, or the out sink's, fails.
-fn failing_at(alloc: Global, words: &str, failing: u64, put: u64) -> Result<String, Fail> {
+/// Fails where a run tells another line than that of a fault though the folder's call, or the out
+/// sink's, fails.
+fn fails_at(alloc: Global, words: &str, failing: u64, put: u64) -> Result<(), Fail> {
     let file = one_sword_file(alloc, 0, 1, "[[[1,0]]]")?;
     let mut folder = one_sword_folder(alloc, file.as_str(), failing)?;
-    told_with(alloc, &mut folder, words, "", put)
+    let told = told_with(alloc, &mut folder, words, "", put)?;
+    agree(told.as_str(), "5 device failed\n")
 }
 
 /// Each row: the folder's call that fails, and the out sink's.
@@ -297,10 +304,8 @@ fn failing_at(alloc: Global, words: &str, failing: u64, put: u64) -> Result<Stri
 fn generate_and_check_tell_of_faults(rt: HostRuntime) -> Result<(), Fail> {
     let rows = [(0, NEVER), (1, NEVER), (2, NEVER), (NEVER, 0)];
     for (failing, put) in rows {
-        let made = failing_at(rt.alloc(), "generate p.json o --seed 0", failing, put)?;
-        assert_eq!(rt; made.as_str(), "5 device failed\n");
-        let found = failing_at(rt.alloc(), "check p.json o", failing, put)?;
-        assert_eq!(rt; found.as_str(), "5 device failed\n");
+        fails_at(rt.alloc(), "generate p.json o --seed 0", failing, put)?;
+        fails_at(rt.alloc(), "check p.json o", failing, put)?;
     }
     Ok(())
 }
@@ -309,13 +314,6 @@ fn generate_and_check_tell_of_faults(rt: HostRuntime) -> Result<(), Fail> {
 const BOTH: &str =
     "{\"format\":\"mw-players-1\",\"players\":[{\"names\":[\"Ann\"],\"world\":\"w.json\",\"options\":{\"local_items\":[\"Sword\"]}},{\"names\":[\"Bob\"],\"world\":\"w.json\",\"options\":{\"local_items\":[\"Sword\"]}}]}";
 
-/// Opens a session and connects it.
-fn connecting(alloc: Global, session: u32, name: &str) -> Result<String, Fail> {
-    Ok(format!(in alloc;
-        "open\ntext {session} [{{\"cmd\":\"Connect\",\"game\":\"G\",\"items_handling\":7,\"name\":\"{name}\",\"tags\":[\"NoText\"],\"version\":{{\"build\":0,\"class\":\"Version\",\"major\":0,\"minor\":5}}}}]\ntake {session}\n"
-    )?)
-}
-
 /// What a session is owed for its check of First, which holds its own Sword.
 fn owed(alloc: Global, session: u32) -> Result<String, Fail> {
     Ok(format!(in alloc;
@@ -323,29 +321,46 @@ fn owed(alloc: Global, session: u32) -> Result<String, Fail> {
     )?)
 }
 
-/// What a run of `drive` of the generated seed tells.
-fn played(alloc: Global) -> Result<String, Fail> {
+/// The folder of both, once a seed is generated.
+fn both_folder(alloc: Global) -> Result<MemoryFolder, Fail> {
     let one = swords(alloc, 1)?;
     let world = sword_world(alloc, WANTS_SWORD, one.as_str())?;
     let mut folder = folder_of(alloc, BOTH, world.as_str(), "", NEVER)?;
     told(alloc, &mut folder, "generate p.json o --seed 3")?;
-    let ann = connecting(alloc, 1, "Ann")?;
-    let bob = connecting(alloc, 2, "Bob")?;
-    let check = "[{\"cmd\":\"LocationChecks\",\"locations\":[1]}]";
-    let ann = ann.as_str();
-    let bob = bob.as_str();
-    let script = format!(in alloc; "{ann}{bob}text 1 {check}\ntext 2 {check}\ntake 1\ntake 2\n")?;
+    Ok(folder)
+}
+
+/// Both connect, check First, and take.
+const BOTH_CHECK: &str = r#"open
+connect 1 Ann 7
+take 1
+open
+connect 2 Bob 7
+take 2
+checks 1 [1]
+checks 2 [1]
+take 1
+take 2
+"#;
+
+/// What a run of `drive` of the generated seed tells.
+fn played(alloc: Global) -> Result<String, Fail> {
+    let script = script_of(alloc, BOTH_CHECK)?;
+    let mut folder = both_folder(alloc)?;
     told_with(alloc, &mut folder, "drive o", script.as_str(), NEVER)
 }
 
-/// A generated seed is played until each player holds what the goal wants.
+/// Whether each player of the generated seed is owed at the end what the goal wants.
+fn ends_at_its_goals(alloc: Global) -> Result<bool, Fail> {
+    let ann = owed(alloc, 1)?;
+    let bob = owed(alloc, 2)?;
+    let end = format!(in alloc; "{}{}", ann.as_str(), bob.as_str())?;
+    let told = played(alloc)?;
+    Ok(told.starts_with("0 1 ") && told.ends_with(end.as_str()))
+}
+
 #[test]
 fn a_generated_seed_is_played_to_its_goals(rt: HostRuntime) -> Result<(), Fail> {
-    let told = played(rt.alloc())?;
-    let ann = owed(rt.alloc(), 1)?;
-    let bob = owed(rt.alloc(), 2)?;
-    let end = format!(in rt.alloc(); "{ann}{bob}")?;
-    assert_eq!(rt; told.as_str().starts_with("0 1 "), true);
-    assert_eq!(rt; told.as_str().ends_with(end.as_str()), true);
+    assert!(rt; ends_at_its_goals(rt.alloc())?);
     Ok(())
 }

@@ -111,7 +111,30 @@ pub(crate) fn told_with(
     told_of(alloc, &outcome)
 }
 
+/// Fails, with the first line that is found in the place of another, where these texts differ.
+pub(crate) fn agree(found: &str, wanted: &str) -> Result<(), Fail> {
+    if found == wanted {
+        return Ok(());
+    }
+    for (line, other) in found.lines().zip(wanted.lines()) {
+        if line != other {
+            return Err(Fail::new(line));
+        }
+    }
+    Err(Fail::new("another number of lines"))
+}
+
 /// What a run tells of a line of words.
 pub(crate) fn told(alloc: Global, folder: &mut MemoryFolder, line: &str) -> Result<String, Fail> {
     told_with(alloc, folder, line, "", NEVER)
+}
+
+/// Fails where a run of a line of words tells another text.
+pub(crate) fn tells(
+    alloc: Global,
+    folder: &mut MemoryFolder,
+    line: &str,
+    wanted: &str,
+) -> Result<(), Fail> {
+    agree(told(alloc, folder, line)?.as_str(), wanted)
 }

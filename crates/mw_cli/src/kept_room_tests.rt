@@ -1,5 +1,5 @@
 //! Rooms that a journal keeps, over crashes and runs.
-use crate::harness::{NEVER, add_file, faults, told, told_with};
+use crate::harness::{NEVER, add_file, agree, faults, tells, told_with};
 use crate::new_room_tests::EMPTY;
 use crate::session_harness::{room_with, script_of};
 use crate::tests::{ROOM_A, folder_of};
@@ -33,6 +33,16 @@ fn told_of(
 ) -> Result<String, Fail> {
     let script = script_of(alloc, lines)?;
     told_with(alloc, folder, line, script.as_str(), NEVER)
+}
+
+/// Fails where another text is told.
+fn tells_of(
+    alloc: Global,
+    folder: &mut MemoryFolder,
+    lines: &str,
+    wanted: &str,
+) -> Result<(), Fail> {
+    agree(told_of(alloc, folder, "drive A J", lines)?.as_str(), wanted)
 }
 
 /// A folder that has this seed file as `A`, and these bytes as `J`.
@@ -70,14 +80,19 @@ fn ends_with(
     Ok(told.starts_with("0 1 [") && told.ends_with(ending))
 }
 
+/// Whether Bob is told of Ann's check after a crash.
+fn is_kept(alloc: Global, line: &str, commit: &str) -> Result<bool, Fail> {
+    let mut folder = folder_with(alloc, ROOM_A, &EMPTY)?;
+    let lines = format!(in alloc; "{ANN_CHECKS}{commit}crash\n{BOB_CONNECTS}")?;
+    let told = told_of(alloc, &mut folder, line, lines.as_str())?;
+    Ok(told.ends_with(BOB_HAS_SWORD))
+}
+
 #[test]
 fn crash_before_commit(rt: HostRuntime) -> Result<(), Fail> {
     for line in ["drive A", "drive A J"] {
         for commit in ["", "commit\n"] {
-            let mut folder = folder_with(rt.alloc(), ROOM_A, &EMPTY)?;
-            let lines = format!(in rt.alloc(); "{ANN_CHECKS}{commit}crash\n{BOB_CONNECTS}")?;
-            let told = told_of(rt.alloc(), &mut folder, line, lines.as_str())?;
-            assert!(rt; told.ends_with(BOB_HAS_SWORD), "{line} {commit}");
+            assert!(rt; is_kept(rt.alloc(), line, commit)?, "{line} {commit}");
         }
     }
     Ok(())
@@ -87,22 +102,28 @@ fn crash_before_commit(rt: HostRuntime) -> Result<(), Fail> {
 fn crash_ends_sessions(rt: HostRuntime) -> Result<(), Fail> {
     let mut folder = folder_with(rt.alloc(), ROOM_A, &EMPTY)?;
     let lines = format!(in rt.alloc(); "{ANN_CHECKS}crash\ntake 1\nlost 1\nsync 1\n")?;
-    let told = told_of(rt.alloc(), &mut folder, "drive A J", lines.as_str())?;
-    assert_eq!(rt; told.as_str(), "0 1 gone\n1 gone\n1 gone\n");
-    Ok(())
+    tells_of(
+        rt.alloc(),
+        &mut folder,
+        lines.as_str(),
+        "0 1 gone\n1 gone\n1 gone\n",
+    )
+}
+
+/// Whether a run without the journal tells Bob of no item.
+fn forgets(alloc: Global, folder: &mut MemoryFolder) -> Result<bool, Fail> {
+    let told = told_of(alloc, folder, "drive A", BOB_CONNECTS)?;
+    Ok(told.ends_with(BOB_HAS_NOTHING))
 }
 
 #[test]
 fn room_goes_on_over_runs(rt: HostRuntime) -> Result<(), Fail> {
     let mut folder = folder_of(rt.alloc(), ROOM_A.as_bytes(), NEVER)?;
-    let made = told(rt.alloc(), &mut folder, "new-room A J")?;
-    assert_eq!(rt; made.as_str(), "0 room made\n");
+    tells(rt.alloc(), &mut folder, "new-room A J", "0 room made\n")?;
     assert!(rt; ends_with(rt.alloc(), &mut folder, BOB_CONNECTS, BOB_HAS_NOTHING)?);
-    let first = told_of(rt.alloc(), &mut folder, "drive A J", ANN_CHECKS)?;
-    assert_eq!(rt; first.as_str(), "0 ");
+    tells_of(rt.alloc(), &mut folder, ANN_CHECKS, "0 ")?;
     assert!(rt; ends_with(rt.alloc(), &mut folder, BOB_CONNECTS, BOB_HAS_SWORD)?);
-    let alone = told_of(rt.alloc(), &mut folder, "drive A", BOB_CONNECTS)?;
-    assert!(rt; alone.ends_with(BOB_HAS_NOTHING));
+    assert!(rt; forgets(rt.alloc(), &mut folder)?);
     Ok(())
 }
 
@@ -118,12 +139,18 @@ fn batch_behind(alloc: Global, gate: u8) -> Result<Vec<u8>, Fail> {
     Ok(bytes)
 }
 
+/// Whether Bob is told so where this gate stands before Ann's check, and that one is left.
+fn leaves(alloc: Global, gate: u8, left: u8, ending: &str) -> Result<bool, Fail> {
+    let before = batch_behind(alloc, gate)?;
+    let after = batch_behind(alloc, left)?;
+    let mut folder = folder_with(alloc, ROOM_A, &before)?;
+    Ok(ends_with(alloc, &mut folder, BOB_CONNECTS, ending)? && holds(alloc, &mut folder, &after)?)
+}
+
 #[test]
 fn closed_and_open_gate(rt: HostRuntime) -> Result<(), Fail> {
     for (gate, left, ending) in [(7, 0, BOB_HAS_NOTHING), (1, 1, BOB_HAS_SWORD)] {
-        let mut folder = folder_with(rt.alloc(), ROOM_A, &batch_behind(rt.alloc(), gate)?)?;
-        assert!(rt; ends_with(rt.alloc(), &mut folder, BOB_CONNECTS, ending)?);
-        assert!(rt; holds(rt.alloc(), &mut folder, &batch_behind(rt.alloc(), left)?)?);
+        assert!(rt; leaves(rt.alloc(), gate, left, ending)?, "at {gate}");
     }
     Ok(())
 }
@@ -133,60 +160,70 @@ const STRANGER: [u8; 22] = [
     1, 0, 0, 0, 16, 1, 0, 0, 3, 0, 0, 0, 1, 0, 0, 0, 0, 0, 0, 0, 101, 0,
 ];
 
+/// Whether a seed's run refuses a journal with this line, before it reads its script, and leaves
+/// its bytes.
+fn refuses(alloc: Global, seed: &str, journal: &[u8], line: &str) -> Result<bool, Fail> {
+    let mut folder = folder_with(alloc, seed, journal)?;
+    tells_of(alloc, &mut folder, "no line\n", line)?;
+    holds(alloc, &mut folder, journal)
+}
+
 #[test]
 fn refused_journals(rt: HostRuntime) -> Result<(), Fail> {
     let none = journal_of(rt.alloc(), &[])?;
+    assert!(rt; refuses(rt.alloc(), ROOM_A, &none, "7 journal refused: NotJournal\n")?);
     let stranger = journal_of(rt.alloc(), &STRANGER)?;
-    let cases = [
-        (none.as_slice(), "7 journal refused: NotJournal\n"),
-        (stranger.as_slice(), "7 journal refused: BadRecord\n"),
-    ];
-    for (journal, wanted) in cases {
-        let mut folder = folder_with(rt.alloc(), ROOM_A, journal)?;
-        let told = told_of(rt.alloc(), &mut folder, "drive A J", "no line\n")?;
-        assert_eq!(rt; told.as_str(), wanted);
-        assert!(rt; holds(rt.alloc(), &mut folder, journal)?);
-    }
+    assert!(rt;
+        refuses(
+            rt.alloc(),
+            ROOM_A,
+            &stranger,
+            "7 journal refused: BadRecord\n"
+        )?
+    );
     Ok(())
 }
 
 #[test]
 fn journal_of_another_seed(rt: HostRuntime) -> Result<(), Fail> {
     let other = room_with(rt.alloc(), r#""seed_name":"A""#, r#""seed_name":"B""#)?;
-    let mut folder = folder_with(rt.alloc(), other.as_str(), &EMPTY)?;
-    let told = told_of(rt.alloc(), &mut folder, "drive A J", "no line\n")?;
-    assert_eq!(rt; told.as_str(), "7 journal refused: OtherSeed\n");
-    assert!(rt; holds(rt.alloc(), &mut folder, &EMPTY)?);
+    let line = "7 journal refused: OtherSeed\n";
+    assert!(rt; refuses(rt.alloc(), other.as_str(), &EMPTY, line)?);
     Ok(())
 }
 
-/// Whether a run on a disk whose call of this number fails shows Ann her check, and the next run
-/// finds it.
-fn shown_and_found(alloc: Global, failing: u64) -> Result<(u8, bool, bool), Fail> {
+/// What a run tells of Ann's check on a disk whose call of this number fails, and the folder with
+/// a disk that doesn't fail.
+fn told_on_failing(alloc: Global, failing: u64) -> Result<(String, MemoryFolder), Fail> {
     let mut plan = List::new(alloc);
     plan.push((failing, DiskError::Failed))?;
     let folder = folder_with(alloc, ROOM_A, &EMPTY)?;
     let mut folder = folder.with_failing_disk(Text::of(alloc, "J")?, plan)?;
     let lines = format!(in alloc; "{ANN_CHECKS}take 1\n")?;
     let told = told_of(alloc, &mut folder, "drive A J", lines.as_str())?;
-    let status = told.as_bytes().first().copied().ok_or("nothing is told")?;
+    let folder = folder.with_failing_disk(Text::of(alloc, "J")?, List::new(alloc))?;
+    Ok((told, folder))
+}
+
+/// Whether a run on a disk whose call of this number fails ends with 5, or with 0 where it shows
+/// Ann her check, which the next run then finds.
+fn keeps_what_it_shows(alloc: Global, failing: u64) -> Result<bool, Fail> {
+    let (told, mut folder) = told_on_failing(alloc, failing)?;
     let shown = told.contains("\"checked_locations\":[101]");
-    let mut folder = folder.with_failing_disk(Text::of(alloc, "J")?, List::new(alloc))?;
     let found = ends_with(alloc, &mut folder, BOB_CONNECTS, BOB_HAS_SWORD)?;
-    Ok((status, shown, found))
+    // Opening syncs and reads, and a commit writes, syncs, writes and syncs: six calls at least.
+    let ended = if shown {
+        told.starts_with("0 ") && failing >= 6
+    } else {
+        told.starts_with("5 ")
+    };
+    Ok(ended && (found || !shown))
 }
 
 #[test]
 fn disk_fails_at_each_call(rt: HostRuntime) -> Result<(), Fail> {
-    // Opening syncs and reads, and a commit writes, syncs, writes and syncs: six calls at least.
     for failing in 0..12 {
-        let (status, shown, found) = shown_and_found(rt.alloc(), failing)?;
-        assert!(rt;
-            status == b'5' || (status == b'0' && failing >= 6),
-            "at {failing}"
-        );
-        assert_eq!(rt; shown, status == b'0', "at {failing}");
-        assert!(rt; found || !shown, "at {failing}");
+        assert!(rt; keeps_what_it_shows(rt.alloc(), failing)?, "at {failing}");
     }
     Ok(())
 }

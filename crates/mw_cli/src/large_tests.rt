@@ -1,4 +1,4 @@
-use crate::harness::{NEVER, add_file, faults, told};
+use crate::harness::{NEVER, add_file, agree, faults, told};
 use mw_base::{Bytes, List, Text};
 use mw_edges::MemoryFolder;
 use std::alloc::Global;
@@ -112,13 +112,9 @@ fn with_places(alloc: Global, locations: u32) -> Result<String, Fail> {
 #[test]
 fn places_over_all_are_limited(rt: HostRuntime) -> Result<(), Fail> {
     let most = with_places(rt.alloc(), 4_999)?;
-    assert_eq!(rt;
-        most.as_str().starts_with("0 1 P0 start 10000 of 10000 all"),
-        true
-    );
+    assert!(rt; most.starts_with("0 1 P0 start 10000 of 10000 all"));
     let more = with_places(rt.alloc(), 5_000)?;
-    assert_eq!(rt; more.as_str(), "3 refused: TooManyPlaces 200001\n");
-    Ok(())
+    agree(more.as_str(), "3 refused: TooManyPlaces 200001\n")
 }
 
 /// A hundred and twenty characters.
@@ -167,13 +163,9 @@ fn with_text(alloc: Global, game: &str) -> Result<String, Fail> {
 #[test]
 fn names_over_all_are_limited(rt: HostRuntime) -> Result<(), Fail> {
     let most = with_text(rt.alloc(), "xxxxxxxxxxxxxxxxxxxxxxxxx")?;
-    assert_eq!(rt;
-        most.as_str().starts_with("0 1 P0 start 10000 of 10000 all"),
-        true
-    );
+    assert!(rt; most.starts_with("0 1 P0 start 10000 of 10000 all"));
     let more = with_text(rt.alloc(), "xxxxxxxxxxxxxxxxxxxxxxxxxx")?;
-    assert_eq!(rt; more.as_str(), "3 refused: TooMuchText 16777217\n");
-    Ok(())
+    agree(more.as_str(), "3 refused: TooMuchText 16777217\n")
 }
 
 /// A world of the party: so many locations, of which ten are free and the others want the Key, which the goal wants too.
@@ -264,6 +256,5 @@ fn party(rt: HostRuntime) -> Result<(), Fail> {
     let told = party_told(rt.alloc())?;
     let lines = "spheres 1\n1 Ann: L2 -> Ann: Key\n1 Bob: L2 -> Bob: Key\n1 Cat: L2 -> Cat: Key\n";
     let wanted = format!(in rt.alloc(); "0 seed 7 try 0 {lines}0 ok {lines}")?;
-    assert_eq!(rt; told.as_str(), wanted.as_str());
-    Ok(())
+    agree(told.as_str(), wanted.as_str())
 }

@@ -1,4 +1,4 @@
-use crate::harness::{NEVER, told, told_with};
+use crate::harness::{NEVER, agree, tells, told_with};
 use crate::tests::{ROOM_A, folder_of};
 use mw_base::{Bytes, Text};
 use mw_edges::{FileRead, Folder, FolderError, MemoryFolder};
@@ -33,37 +33,47 @@ fn is_made(alloc: Global, folder: &mut MemoryFolder) -> Result<bool, Fail> {
 #[test]
 fn new_room(rt: HostRuntime) -> Result<(), Fail> {
     let mut folder = folder_of(rt.alloc(), ROOM_A.as_bytes(), NEVER)?;
-    let first = told(rt.alloc(), &mut folder, "new-room A J")?;
-    assert_eq!(rt; first.as_str(), "0 room made\n");
+    tells(rt.alloc(), &mut folder, "new-room A J", "0 room made\n")?;
     assert!(rt; is_made(rt.alloc(), &mut folder)?);
-    let again = told(rt.alloc(), &mut folder, "new-room A J")?;
-    assert_eq!(rt; again.as_str(), "7 journal refused: NotEmpty\n");
+    let again = "7 journal refused: NotEmpty\n";
+    tells(rt.alloc(), &mut folder, "new-room A J", again)?;
     assert!(rt; is_made(rt.alloc(), &mut folder)?);
     Ok(())
 }
 
+/// Whether a room of this seed file is refused so, and no journal is made.
+fn refuses(alloc: Global, line: &str, seed: &str, wanted: &str) -> Result<bool, Fail> {
+    let mut folder = folder_of(alloc, seed.as_bytes(), NEVER)?;
+    tells(alloc, &mut folder, line, wanted)?;
+    Ok(journal_in(alloc, &mut folder)?.is_none())
+}
+
+/// A line of words, the seed file, and what is told.
+const REFUSED: [(&str, &str, &str); 3] = [
+    ("new-room A J", "7", "7 multidata refused: WrongKind /\n"),
+    ("new-room A A", ROOM_A, "7 journal refused: NotEmpty\n"),
+    ("new-room B J", ROOM_A, "5 device failed\n"),
+];
+
 #[test]
 fn refused_room_makes_no_journal(rt: HostRuntime) -> Result<(), Fail> {
-    let cases = [
-        ("new-room A J", "7", "7 multidata refused: WrongKind /\n"),
-        ("new-room A A", ROOM_A, "7 journal refused: NotEmpty\n"),
-        ("new-room B J", ROOM_A, "5 device failed\n"),
-    ];
-    for (line, seed, wanted) in cases {
-        let mut folder = folder_of(rt.alloc(), seed.as_bytes(), NEVER)?;
-        let told = told(rt.alloc(), &mut folder, line)?;
-        assert_eq!(rt; told.as_str(), wanted, "at {line}");
-        assert!(rt; journal_in(rt.alloc(), &mut folder)?.is_none(), "at {line}");
+    for (line, seed, wanted) in REFUSED {
+        assert!(rt; refuses(rt.alloc(), line, seed, wanted)?, "at {line}");
     }
     Ok(())
+}
+
+/// Fails where another line is told though a call of the folder or of the out sink fails.
+fn fails_at(alloc: Global, of_folder: u64, of_out: u64) -> Result<(), Fail> {
+    let mut folder = folder_of(alloc, ROOM_A.as_bytes(), of_folder)?;
+    let told = told_with(alloc, &mut folder, "new-room A J", "", of_out)?;
+    agree(told.as_str(), "5 device failed\n")
 }
 
 #[test]
 fn new_room_on_devices_that_fail(rt: HostRuntime) -> Result<(), Fail> {
     for (of_folder, of_out) in [(0, NEVER), (1, NEVER), (NEVER, 0)] {
-        let mut folder = folder_of(rt.alloc(), ROOM_A.as_bytes(), of_folder)?;
-        let told = told_with(rt.alloc(), &mut folder, "new-room A J", "", of_out)?;
-        assert_eq!(rt; told.as_str(), "5 device failed\n");
+        fails_at(rt.alloc(), of_folder, of_out)?;
     }
     Ok(())
 }

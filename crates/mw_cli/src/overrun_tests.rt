@@ -1,4 +1,5 @@
-use crate::session_harness::{add_parts, driven, marked, room_with, script_of};
+use crate::harness::agree;
+use crate::session_harness::{add_parts, driven, marks, room_with, script_of};
 use crate::tests::{FIRST_LINES, ROOM_A};
 use std::alloc::Global;
 use std::test::Fail;
@@ -16,11 +17,11 @@ fn syncing(alloc: Global, count: usize, rest: &str) -> Result<String, Fail> {
     Ok(lines)
 }
 
-/// What is told of them.
-fn told_of_syncs(alloc: Global, count: usize, rest: &str) -> Result<String, Fail> {
-    let lines = syncing(alloc, count, rest)?;
+/// Fails where another text is told of them and a take.
+fn syncs_tell(alloc: Global, count: usize, wanted: &str) -> Result<(), Fail> {
+    let lines = syncing(alloc, count, "take 1\n")?;
     let script = script_of(alloc, lines.as_str())?;
-    driven(alloc, ROOM_A, script.as_str())
+    agree(driven(alloc, ROOM_A, script.as_str())?.as_str(), wanted)
 }
 
 /// Status 0, and what Ann's session is owed before any check: RoomInfo, Connected, and the answers
@@ -35,26 +36,20 @@ fn messages_before(alloc: Global, count: usize) -> Result<String, Fail> {
 
 #[test]
 fn overrun_of_4096_messages(rt: HostRuntime) -> Result<(), Fail> {
-    let most = told_of_syncs(rt.alloc(), 4_094, "take 1\n")?;
     let all = messages_before(rt.alloc(), 4_094)?;
-    assert_eq!(rt; most.as_str(), all.as_str());
-    let more = told_of_syncs(rt.alloc(), 4_095, "take 1\n")?;
-    assert_eq!(rt; more.as_str(), "0 1 overrun\n");
-    Ok(())
+    syncs_tell(rt.alloc(), 4_094, all.as_str())?;
+    syncs_tell(rt.alloc(), 4_095, "0 1 overrun\n")
 }
 
 #[test]
 fn taken_messages_do_not_count(rt: HostRuntime) -> Result<(), Fail> {
     let lines = syncing(rt.alloc(), 4_094, "take 1\nmark\nsync 1\ntake 1\n")?;
-    let text = marked(rt.alloc(), ROOM_A, lines.as_str())?;
-    assert_eq!(rt; text.as_str(), SYNCED);
-    Ok(())
+    marks(rt.alloc(), ROOM_A, lines.as_str(), SYNCED)
 }
 
-/// What is printed once the second of three Syncs in one text was owed too many, while another
-/// session of the slot goes on.
-fn once_overrun(alloc: Global) -> Result<String, Fail> {
-    let rest = r#"open
+/// The second of three Syncs in one text is owed too many, while another session of the slot goes
+/// on.
+const ONCE_OVERRUN: &str = r#"open
 connect 2 Ann 7
 take 2
 mark
@@ -70,9 +65,6 @@ lost 1
 take 1
 take 2
 "#;
-    let lines = syncing(alloc, 4_093, rest)?;
-    marked(alloc, ROOM_A, lines.as_str())
-}
 
 #[test]
 fn lines_of_an_overrun_session(rt: HostRuntime) -> Result<(), Fail> {
@@ -85,9 +77,8 @@ fn lines_of_an_overrun_session(rt: HostRuntime) -> Result<(), Fail> {
 1 gone
 2 [{"checked_locations":[102],"cmd":"RoomUpdate","hint_points":1},{"cmd":"ReceivedItems","index":1,"items":[{"class":"NetworkItem","flags":0,"item":8,"location":102,"player":1}]}]
 "#;
-    let text = once_overrun(rt.alloc())?;
-    assert_eq!(rt; text.as_str(), expected);
-    Ok(())
+    let lines = syncing(rt.alloc(), 4_093, ONCE_OVERRUN)?;
+    marks(rt.alloc(), ROOM_A, lines.as_str(), expected)
 }
 
 /// The end of the answer to a message that is no list.
@@ -104,30 +95,38 @@ fn boots_room(alloc: Global) -> Result<String, Fail> {
     )
 }
 
-/// What is told of Ann's session there. RoomInfo and Connected have 384 and 17,903 bytes, each
-/// answer to a Sync 17,453, and that to an unknown cmd of so many letters 77 more. Then one more
-/// message is owed.
-fn told_of_bytes(alloc: Global, letters: usize) -> Result<String, Fail> {
-    let room = boots_room(alloc)?;
+/// A script in which Ann's session is owed the answers to 960 Syncs, to an unknown cmd of so many
+/// letters, and to what is no list.
+fn script_of_letters(alloc: Global, letters: usize) -> Result<String, Fail> {
     let word = "x".repeat(alloc, letters)?;
-    let mut last = String::new(alloc);
+    let mut rest = String::new(alloc);
     let parts = [
         "text 1 [{\"cmd\":\"",
         word.as_str(),
         "\"}]\ntext 1 7\ntake 1\n",
     ];
-    add_parts(&mut last, &parts)?;
-    let lines = syncing(alloc, 960, last.as_str())?;
-    let script = script_of(alloc, lines.as_str())?;
+    add_parts(&mut rest, &parts)?;
+    let lines = syncing(alloc, 960, rest.as_str())?;
+    script_of(alloc, lines.as_str())
+}
+
+/// What is told of Ann's session there. RoomInfo and Connected have 384 and 17,903 bytes, each
+/// answer to a Sync 17,453, and that to an unknown cmd of so many letters 77 more.
+fn told_of_letters(alloc: Global, letters: usize) -> Result<String, Fail> {
+    let room = boots_room(alloc)?;
+    let script = script_of_letters(alloc, letters)?;
     driven(alloc, room.as_str(), script.as_str())
+}
+
+/// Whether all is told from RoomInfo to the answer to what is no list.
+fn is_all_told(alloc: Global, letters: usize) -> Result<bool, Fail> {
+    let told = told_of_letters(alloc, letters)?;
+    Ok(told.starts_with("0 1 [{\"cmd\":\"RoomInfo\"") && told.ends_with(NO_LIST))
 }
 
 #[test]
 fn overrun_of_16777216_bytes(rt: HostRuntime) -> Result<(), Fail> {
-    let most = told_of_bytes(rt.alloc(), 3_971)?;
-    assert!(rt; most.as_str().starts_with("0 1 [{\"cmd\":\"RoomInfo\""));
-    assert!(rt; most.as_str().ends_with(NO_LIST));
-    let more = told_of_bytes(rt.alloc(), 3_972)?;
-    assert_eq!(rt; more.as_str(), "0 1 overrun\n");
-    Ok(())
+    assert!(rt; is_all_told(rt.alloc(), 3_971)?);
+    let more = told_of_letters(rt.alloc(), 3_972)?;
+    agree(more.as_str(), "0 1 overrun\n")
 }

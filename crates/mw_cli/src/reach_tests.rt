@@ -1,4 +1,4 @@
-use crate::harness::{NEVER, Outcome, add_file, bytes_of, faults, outcome_of, words_of};
+use crate::harness::{NEVER, add_file, bytes_of, faults, outcome_of, tells, words_of};
 use mw_base::{Bytes, List, Text};
 use mw_edges::MemoryFolder;
 use std::alloc::Global;
@@ -53,91 +53,73 @@ fn folder_of(
     Ok(MemoryFolder::new(files, faults(alloc, failing)?))
 }
 
-/// Runs `reach p.json` where the worlds `w.json` and `v.json` are these, and the k-th call of the folder and of the sinks
-/// fails.
-fn reach_on(
-    alloc: Global,
-    players: &str,
-    world: Bytes,
-    failing: [u64; 3],
-) -> Result<Outcome, Fail> {
-    let mut folder = folder_of(alloc, players, world, failing[0])?;
-    let words = words_of(alloc, "reach p.json")?;
-    outcome_of(
-        alloc,
-        &words,
-        &mut folder,
-        b"",
-        [NEVER, failing[1], failing[2]],
-    )
+/// Fails where `reach p.json` of this players file and the world `w.json` tells another text.
+fn reach_tells(alloc: Global, players: &str, world: &str, wanted: &str) -> Result<(), Fail> {
+    let world = bytes_of(alloc, world.as_bytes())?;
+    let mut folder = folder_of(alloc, players, world, NEVER)?;
+    tells(alloc, &mut folder, "reach p.json", wanted)
 }
 
-/// Each row: the players file, the world file, the status, what is printed, and the error line.
+/// The players file, the world file, and what is told.
+const REACHED: [(&str, &str, &str); 9] = [
+    // one_sword
+    (ANN, ONE_SWORD, "0 1 Ann start 1 of 2 all 2 of 2\n"),
+    // unreachable_cycle
+    (ANN, CYCLE, "0 1 Ann start 0 of 2 all 0 of 2\n"),
+    // late_listed_entrances
+    (ANN, LATE, "0 1 Ann start 1 of 1 all 1 of 1\n"),
+    (ANN, EVENT, "0 1 Ann start 0 of 2 all 2 of 2\n"),
+    (
+        BOTH,
+        ONE_SWORD,
+        "0 1 Ann start 1 of 2 all 2 of 2\n2 Bob start 2 of 2 all 2 of 2\n",
+    ),
+    // table_refusals
+    (
+        ANN,
+        COIN_RULE,
+        "3 refused: w.json RuleItemNotProgression /locations/1/rule/has\n",
+    ),
+    ("{}", ONE_SWORD, "3 refused: p.json MissingField /format\n"),
+    (APART, ONE_SWORD, "3 refused: GameTwice 1\n"),
+    (
+        SHIELD,
+        ONE_SWORD,
+        "3 refused: UnknownName 1 local_items 1\n",
+    ),
+];
+
 #[test]
 fn what_reach_says(rt: HostRuntime) -> Result<(), Fail> {
-    let rows = [
-        // one_sword
-        (ANN, ONE_SWORD, 0, "1 Ann start 1 of 2 all 2 of 2\n", ""),
-        // unreachable_cycle
-        (ANN, CYCLE, 0, "1 Ann start 0 of 2 all 0 of 2\n", ""),
-        // late_listed_entrances
-        (ANN, LATE, 0, "1 Ann start 1 of 1 all 1 of 1\n", ""),
-        (ANN, EVENT, 0, "1 Ann start 0 of 2 all 2 of 2\n", ""),
-        (
-            BOTH,
-            ONE_SWORD,
-            0,
-            "1 Ann start 1 of 2 all 2 of 2\n2 Bob start 2 of 2 all 2 of 2\n",
-            "",
-        ),
-        // table_refusals
-        (
-            ANN,
-            COIN_RULE,
-            3,
-            "",
-            "refused: w.json RuleItemNotProgression /locations/1/rule/has\n",
-        ),
-        (
-            "{}",
-            ONE_SWORD,
-            3,
-            "",
-            "refused: p.json MissingField /format\n",
-        ),
-        (APART, ONE_SWORD, 3, "", "refused: GameTwice 1\n"),
-        (
-            SHIELD,
-            ONE_SWORD,
-            3,
-            "",
-            "refused: UnknownName 1 local_items 1\n",
-        ),
-    ];
-    for (players, world, status, printed, line) in rows {
-        let world = bytes_of(rt.alloc(), world.as_bytes())?;
-        let outcome = reach_on(rt.alloc(), players, world, [NEVER; 3])?;
-        assert_eq!(rt; outcome.status, status, "at {line}");
-        assert_eq!(rt; outcome.out.bytes(), printed.as_bytes(), "at {line}");
-        assert_eq!(rt; outcome.err.bytes(), line.as_bytes(), "at {line}");
+    for (players, world, wanted) in REACHED {
+        reach_tells(rt.alloc(), players, world, wanted)?;
     }
     Ok(())
 }
 
-/// Each row: the calls that fail, and the error line of status 5.
+/// Whether `reach p.json` ends with 5 and this error line where these calls of the folder and of
+/// the two sinks fail.
+fn fails_so(alloc: Global, failing: [u64; 3], error: &str) -> Result<bool, Fail> {
+    let world = bytes_of(alloc, ONE_SWORD.as_bytes())?;
+    let mut folder = folder_of(alloc, ANN, world, failing[0])?;
+    let words = words_of(alloc, "reach p.json")?;
+    let others = [NEVER, failing[1], failing[2]];
+    let outcome = outcome_of(alloc, &words, &mut folder, b"", others)?;
+    Ok(outcome.status == 5 && outcome.err.bytes() == error.as_bytes())
+}
+
+/// The calls that fail, and the error line.
+const FAULTS: [([u64; 3], &str); 4] = [
+    ([0, NEVER, NEVER], "device failed\n"),
+    ([1, NEVER, NEVER], "device failed\n"),
+    ([NEVER, 0, NEVER], "device failed\n"),
+    ([NEVER, 0, 0], ""),
+];
+
 #[test]
 fn reach_tells_of_faults(rt: HostRuntime) -> Result<(), Fail> {
-    let rows = [
-        ([0, NEVER, NEVER], "device failed\n"),
-        ([1, NEVER, NEVER], "device failed\n"),
-        ([NEVER, 0, NEVER], "device failed\n"),
-        ([NEVER, 0, 0], ""),
-    ];
-    for (failing, line) in rows {
-        let world = bytes_of(rt.alloc(), ONE_SWORD.as_bytes())?;
-        let outcome = reach_on(rt.alloc(), ANN, world, failing)?;
-        assert_eq!(rt; outcome.status, 5);
-        assert_eq!(rt; outcome.err.bytes(), line.as_bytes());
+    for (failing, error) in FAULTS {
+        assert!(rt; fails_so(rt.alloc(), failing, error)?);
     }
     Ok(())
 }
@@ -145,11 +127,7 @@ fn reach_tells_of_faults(rt: HostRuntime) -> Result<(), Fail> {
 #[test]
 fn a_world_file_over_its_limit(rt: HostRuntime) -> Result<(), Fail> {
     let world = Bytes::from_vec(vec![in rt.alloc(); b' '; 16_777_217]?);
-    let outcome = reach_on(rt.alloc(), ANN, world, [NEVER; 3])?;
-    assert_eq!(rt; outcome.status, 3);
-    assert_eq!(rt;
-        outcome.err.bytes(),
-        b"refused: w.json TooLong /\n".as_slice()
-    );
-    Ok(())
+    let mut folder = folder_of(rt.alloc(), ANN, world, NEVER)?;
+    let wanted = "3 refused: w.json TooLong /\n";
+    tells(rt.alloc(), &mut folder, "reach p.json", wanted)
 }

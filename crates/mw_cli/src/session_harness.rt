@@ -1,5 +1,5 @@
 //! Scripts of sessions: their lines in short, and what is printed after a mark.
-use crate::harness::{NEVER, add_file, faults, told_with};
+use crate::harness::{NEVER, add_file, agree, faults, told_with};
 use crate::tests::ROOM_A;
 use mw_base::List;
 use mw_edges::MemoryFolder;
@@ -102,4 +102,9 @@ pub(crate) fn marked(alloc: Global, seed: &str, lines: &str) -> Result<String, F
     let told = driven(alloc, seed, script.as_str())?;
     let after = after_mark(told.as_str()).ok_or("no mark")?;
     Ok(String::from_str(alloc, after)?)
+}
+
+/// Fails where `drive` prints another text of a script of short lines after its first mark.
+pub(crate) fn marks(alloc: Global, seed: &str, lines: &str, wanted: &str) -> Result<(), Fail> {
+    agree(marked(alloc, seed, lines)?.as_str(), wanted)
 }

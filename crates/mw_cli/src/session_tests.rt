@@ -1,6 +1,5 @@
-use crate::session_harness::marked;
+use crate::session_harness::marks;
 use crate::tests::ROOM_A;
-use std::alloc::Global;
 use std::test::Fail;
 
 #[test]
@@ -17,12 +16,10 @@ take 1
 checks 2 [201]
 take 1
 "#;
-    let text = marked(rt.alloc(), ROOM_A, lines)?;
     let expected = r#"1 [{"checked_locations":[102],"cmd":"RoomUpdate","hint_points":1}]
 1 [{"cmd":"ReceivedItems","index":0,"items":[{"class":"NetworkItem","flags":2,"item":9,"location":201,"player":2}]}]
 "#;
-    assert_eq!(rt; text.as_str(), expected);
-    Ok(())
+    marks(rt.alloc(), ROOM_A, lines, expected)
 }
 
 #[test]
@@ -41,13 +38,11 @@ open
 connect 3 Bob 7
 take 3
 "#;
-    let text = marked(rt.alloc(), ROOM_A, lines)?;
     let expected = r#"1 gone
 3 [{"cmd":"RoomInfo","datapackage_checksums":{"G":"3140df20051ca1c7a5dd4f886f8945c613c6fbba"},"games":["G"],"generator_version":{"build":0,"class":"Version","major":0,"minor":5},"hint_cost":10,"location_check_points":1,"password":false,"permissions":{"collect":2,"release":2,"remaining":2},"seed_name":"A","tags":[],"time":0,"version":{"build":0,"class":"Version","major":0,"minor":5}}]
 3 [{"checked_locations":[],"cmd":"Connected","hint_points":0,"missing_locations":[201],"players":[{"alias":"Ann","class":"NetworkPlayer","name":"Ann","slot":1,"team":0},{"alias":"Bob","class":"NetworkPlayer","name":"Bob","slot":2,"team":0}],"slot":2,"slot_data":{},"slot_info":{"1":{"class":"NetworkSlot","game":"G","group_members":[],"name":"Ann","type":1},"2":{"class":"NetworkSlot","game":"G","group_members":[],"name":"Bob","type":1}},"team":0},{"cmd":"ReceivedItems","index":0,"items":[{"class":"NetworkItem","flags":1,"item":7,"location":101,"player":1}]}]
 "#;
-    assert_eq!(rt; text.as_str(), expected);
-    Ok(())
+    marks(rt.alloc(), ROOM_A, lines, expected)
 }
 
 #[test]
@@ -59,13 +54,11 @@ mark
 text 1 [{"cmd":"LocationChecks","locations":["x"]},{"cmd":"Sync"}]
 take 1
 "#;
-    let text = marked(rt.alloc(), ROOM_A, lines)?;
     let expected =
         r#"1 [{"cmd":"InvalidPacket","original_cmd":"LocationChecks","text":"arguments: locations","type":"arguments"}]
 1 [{"cmd":"ReceivedItems","index":0,"items":[{"class":"NetworkItem","flags":0,"item":5,"location":-2,"player":0}]}]
 "#;
-    assert_eq!(rt; text.as_str(), expected);
-    Ok(())
+    marks(rt.alloc(), ROOM_A, lines, expected)
 }
 
 #[test]
@@ -82,13 +75,11 @@ checks 1 [101]
 text 1 [{"cmd":"ConnectUpdate","items_handling":7},{"cmd":"LocationScouts","locations":[101]}]
 take 1
 "#;
-    let text = marked(rt.alloc(), ROOM_A, lines)?;
     let expected =
         r#"1 [{"cmd":"InvalidPacket","original_cmd":"Fly","text":"unknown cmd","type":"cmd"}]
 1 [{"cmd":"InvalidPacket","original_cmd":null,"text":"no JSON list","type":"cmd"}]
 "#;
-    assert_eq!(rt; text.as_str(), expected);
-    Ok(())
+    marks(rt.alloc(), ROOM_A, lines, expected)
 }
 
 #[test]
@@ -126,15 +117,13 @@ take 6
 sync 7
 take 7
 "#;
-    let text = marked(rt.alloc(), ROOM_A, lines)?;
     let expected =
         r#"4 [{"cmd":"ReceivedItems","index":0,"items":[{"class":"NetworkItem","flags":2,"item":9,"location":201,"player":2}]}]
 5 [{"cmd":"ReceivedItems","index":0,"items":[{"class":"NetworkItem","flags":0,"item":8,"location":102,"player":1},{"class":"NetworkItem","flags":2,"item":9,"location":201,"player":2}]}]
 6 [{"cmd":"ReceivedItems","index":0,"items":[{"class":"NetworkItem","flags":0,"item":5,"location":-2,"player":0},{"class":"NetworkItem","flags":2,"item":9,"location":201,"player":2}]}]
 7 [{"cmd":"ReceivedItems","index":0,"items":[{"class":"NetworkItem","flags":0,"item":5,"location":-2,"player":0},{"class":"NetworkItem","flags":0,"item":8,"location":102,"player":1},{"class":"NetworkItem","flags":2,"item":9,"location":201,"player":2}]}]
 "#;
-    assert_eq!(rt; text.as_str(), expected);
-    Ok(())
+    marks(rt.alloc(), ROOM_A, lines, expected)
 }
 
 #[test]
@@ -170,7 +159,6 @@ take 4
 take 5
 take 6
 "#;
-    let text = marked(rt.alloc(), ROOM_A, lines)?;
     let expected = r#"2 [{"checked_locations":[102],"cmd":"RoomUpdate","hint_points":1}]
 3 [{"checked_locations":[102],"cmd":"RoomUpdate","hint_points":1}]
 4 [{"checked_locations":[102],"cmd":"RoomUpdate","hint_points":1},{"cmd":"ReceivedItems","index":0,"items":[{"class":"NetworkItem","flags":0,"item":8,"location":102,"player":1}]}]
@@ -181,8 +169,7 @@ take 6
 5 [{"cmd":"ReceivedItems","index":1,"items":[{"class":"NetworkItem","flags":2,"item":9,"location":201,"player":2}]}]
 6 [{"cmd":"ReceivedItems","index":2,"items":[{"class":"NetworkItem","flags":2,"item":9,"location":201,"player":2}]}]
 "#;
-    assert_eq!(rt; text.as_str(), expected);
-    Ok(())
+    marks(rt.alloc(), ROOM_A, lines, expected)
 }
 
 #[test]
@@ -206,14 +193,12 @@ take 1
 text 1 [{"cmd":"ConnectUpdate","items_handling":0}]
 take 1
 "#;
-    let text = marked(rt.alloc(), ROOM_A, lines)?;
     let expected =
         r#"1 [{"cmd":"ReceivedItems","index":0,"items":[{"class":"NetworkItem","flags":0,"item":5,"location":-2,"player":0},{"class":"NetworkItem","flags":0,"item":8,"location":102,"player":1}]}]
 1 [{"cmd":"ReceivedItems","index":2,"items":[{"class":"NetworkItem","flags":2,"item":9,"location":201,"player":2}]}]
 1 [{"cmd":"ReceivedItems","index":0,"items":[{"class":"NetworkItem","flags":0,"item":5,"location":-2,"player":0},{"class":"NetworkItem","flags":2,"item":9,"location":201,"player":2}]}]
 "#;
-    assert_eq!(rt; text.as_str(), expected);
-    Ok(())
+    marks(rt.alloc(), ROOM_A, lines, expected)
 }
 
 #[test]
@@ -224,15 +209,13 @@ mark
 text 1 [{"cmd":"Connect","game":"G","items_handling":3,"name":"Ann","tags":["NoText"],"version":{"build":0,"major":0,"minor":4}},{"cmd":"Sync"},{"cmd":"LocationChecks","locations":[102]},7,{"cmd":"ConnectUpdate","items_handling":1},{"cmd":"Fly"}]
 take 1
 "#;
-    let text = marked(rt.alloc(), ROOM_A, lines)?;
     let expected =
         r#"1 [{"checked_locations":[],"cmd":"Connected","hint_points":0,"missing_locations":[101,102],"players":[{"alias":"Ann","class":"NetworkPlayer","name":"Ann","slot":1,"team":0},{"alias":"Bob","class":"NetworkPlayer","name":"Bob","slot":2,"team":0}],"slot":1,"slot_data":{},"slot_info":{"1":{"class":"NetworkSlot","game":"G","group_members":[],"name":"Ann","type":1},"2":{"class":"NetworkSlot","game":"G","group_members":[],"name":"Bob","type":1}},"team":0}]
 1 [{"checked_locations":[102],"cmd":"RoomUpdate","hint_points":1},{"cmd":"ReceivedItems","index":0,"items":[{"class":"NetworkItem","flags":0,"item":8,"location":102,"player":1}]}]
 1 [{"cmd":"InvalidPacket","original_cmd":null,"text":"no cmd","type":"cmd"}]
 1 [{"cmd":"InvalidPacket","original_cmd":"Fly","text":"unknown cmd","type":"cmd"}]
 "#;
-    assert_eq!(rt; text.as_str(), expected);
-    Ok(())
+    marks(rt.alloc(), ROOM_A, lines, expected)
 }
 
 #[test]
@@ -246,15 +229,13 @@ text 1 [{"cmd":"LocationScouts","locations":[201,101,101,102,7,-1]},{"cmd":"Loca
 text 1 [{"cmd":"GetDataPackage","games":["H","G","G"]},{"cmd":"GetDataPackage","games":[]}]
 take 1
 "#;
-    let text = marked(rt.alloc(), ROOM_A, lines)?;
     let expected =
         r#"1 [{"cmd":"LocationInfo","locations":[{"class":"NetworkItem","flags":1,"item":7,"location":101,"player":2},{"class":"NetworkItem","flags":0,"item":8,"location":102,"player":1}]}]
 1 [{"cmd":"LocationInfo","locations":[]}]
 1 [{"cmd":"DataPackage","data":{"games":{"G":{"checksum":"3140df20051ca1c7a5dd4f886f8945c613c6fbba","item_name_to_id":{"Boots":5,"Coin":8,"Map":9,"Sword":7},"location_name_to_id":{"A1":101,"A2":102,"B1":201}}}}}]
 1 [{"cmd":"DataPackage","data":{"games":{}}}]
 "#;
-    assert_eq!(rt; text.as_str(), expected);
-    Ok(())
+    marks(rt.alloc(), ROOM_A, lines, expected)
 }
 
 #[test]
@@ -272,7 +253,6 @@ lost 007
 open
 take 2
 "#;
-    let text = marked(rt.alloc(), ROOM_A, lines)?;
     let expected = r#"1 gone
 1 gone
 1 gone
@@ -282,8 +262,7 @@ take 2
 7 gone
 2 [{"cmd":"RoomInfo","datapackage_checksums":{"G":"3140df20051ca1c7a5dd4f886f8945c613c6fbba"},"games":["G"],"generator_version":{"build":0,"class":"Version","major":0,"minor":5},"hint_cost":10,"location_check_points":1,"password":false,"permissions":{"collect":2,"release":2,"remaining":2},"seed_name":"A","tags":[],"time":0,"version":{"build":0,"class":"Version","major":0,"minor":5}}]
 "#;
-    assert_eq!(rt; text.as_str(), expected);
-    Ok(())
+    marks(rt.alloc(), ROOM_A, lines, expected)
 }
 
 #[test]
@@ -296,9 +275,7 @@ text 1 []
 take 1
 text 2 []
 "#;
-    let text = marked(rt.alloc(), ROOM_A, lines)?;
-    assert_eq!(rt; text.as_str(), "2 gone\n");
-    Ok(())
+    marks(rt.alloc(), ROOM_A, lines, "2 gone\n")
 }
 
 #[test]
@@ -319,11 +296,9 @@ take 1
 take 2
 take 3
 "#;
-    let text = marked(rt.alloc(), ROOM_A, lines)?;
     let expected = r#"1 gone
 2 [{"cmd":"ReceivedItems","index":0,"items":[{"class":"NetworkItem","flags":1,"item":7,"location":101,"player":1}]}]
 3 [{"checked_locations":[101],"cmd":"RoomUpdate","hint_points":1}]
 "#;
-    assert_eq!(rt; text.as_str(), expected);
-    Ok(())
+    marks(rt.alloc(), ROOM_A, lines, expected)
 }

@@ -1,4 +1,4 @@
-use crate::session_harness::marked;
+use crate::session_harness::marks;
 use std::alloc::Global;
 use std::test::Fail;
 
@@ -69,10 +69,8 @@ fn heard_in_rounds(alloc: Global) -> Result<String, Fail> {
 #[test]
 fn a_team_hears_of_no_other(rt: HostRuntime) -> Result<(), Fail> {
     let lines = rounds(rt.alloc())?;
-    let text = marked(rt.alloc(), ROOM, lines.as_str())?;
     let expected = heard_in_rounds(rt.alloc())?;
-    assert_eq!(rt; text.as_str(), expected.as_str());
-    Ok(())
+    marks(rt.alloc(), ROOM, lines.as_str(), expected.as_str())
 }
 
 /// Adds a player, as Connected lists it.
@@ -127,10 +125,8 @@ mark
 connect 3 A5 7
 take 3
 "#;
-    let text = marked(rt.alloc(), ROOM, lines)?;
     let expected = connected_of_five(rt.alloc())?;
-    assert_eq!(rt; text.as_str(), expected.as_str());
-    Ok(())
+    marks(rt.alloc(), ROOM, lines, expected.as_str())
 }
 
 #[test]
@@ -151,11 +147,9 @@ take 1
 take 2
 take 3
 "#;
-    let text = marked(rt.alloc(), ROOM, lines)?;
     let expected = r#"1 [{"cmd":"Bounced","slots":[1,2]}]
 2 [{"cmd":"Bounced","slots":[1,2]}]
 3 [{"cmd":"Retrieved","keys":{"k":5}}]
 "#;
-    assert_eq!(rt; text.as_str(), expected);
-    Ok(())
+    marks(rt.alloc(), ROOM, lines, expected)
 }

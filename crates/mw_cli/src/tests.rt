@@ -1,8 +1,9 @@
 ghost use Rattle.std.specs.Prelude.{None};
 
 use crate::harness::{
-    NEVER, Outcome, add_file, faults, outcome_of, ran, sink_of, source_of, words_of,
+    NEVER, add_file, agree, faults, outcome_of, ran, sink_of, source_of, told_with, words_of,
 };
+use crate::session_harness::{add_parts, driven, marks, script_of};
 use mw_base::{List, Text};
 use mw_edges::{MemoryFolder, MemorySink, MemorySource, Sink, SinkError, Tally};
 use std::alloc::Global;
@@ -20,60 +21,6 @@ pub(crate) fn folder_of(alloc: Global, file: &[u8], failing: u64) -> Result<Memo
     Ok(MemoryFolder::new(files, faults(alloc, failing)?))
 }
 
-/// Runs a line of words on a folder that has this file as `A`, where the k-th call of each object fails.
-fn run_words(
-    alloc: Global,
-    line: &str,
-    file: &[u8],
-    script: &[u8],
-    failing: [u64; 4],
-) -> Result<Outcome, Fail> {
-    let mut folder = folder_of(alloc, file, failing[0])?;
-    let words = words_of(alloc, line)?;
-    outcome_of(
-        alloc,
-        &words,
-        &mut folder,
-        script,
-        [failing[1], failing[2], failing[3]],
-    )
-}
-
-/// What `drive A` prints of a script with ample memory.
-fn printed(alloc: Global, script: &str) -> Result<Outcome, Fail> {
-    run_words(
-        alloc,
-        "drive A",
-        ROOM_A.as_bytes(),
-        script.as_bytes(),
-        [NEVER; 4],
-    )
-}
-
-const ANN: &str =
-    r#"[{"cmd":"Connect","game":"G","items_handling":7,"name":"Ann","tags":["NoText"],"version":{"build":0,"class":"Version","major":0,"minor":5}}]"#;
-
-const BOB: &str =
-    r#"[{"cmd":"Connect","game":"G","items_handling":7,"name":"Bob","tags":["NoText"],"version":{"build":0,"class":"Version","major":0,"minor":5}}]"#;
-
-/// A script in which sessions 1 and 2 are opened, connect as these, and take what they are owed.
-fn two_sessions(alloc: Global, first: &str, second: &str, rest: &str) -> Result<String, Fail> {
-    Ok(format!(in alloc; "open\nopen\ntext 1 {first}\ntext 2 {second}\ntake 1\ntake 2\n{rest}")?)
-}
-
-/// What a script prints after the four lines of two sessions that open and connect.
-fn after_connecting(alloc: Global, script: &str) -> Result<String, Fail> {
-    let outcome = printed(alloc, script)?;
-    let mut rest = String::new(alloc);
-    for (number, line) in outcome.out.bytes().split(|b| *b == b'\n').enumerate() {
-        if number >= 4 && !line.is_empty() {
-            rest.push_str(std::str::from_utf8(line).or(Err("no text"))?)?;
-            rest.push_str("\n")?;
-        }
-    }
-    Ok(rest)
-}
-
 /// What the session of `open` and a Connect of Ann is owed, and then a check of 101.
 pub(crate) const FIRST_LINES: &str =
     r#"1 [{"cmd":"RoomInfo","datapackage_checksums":{"G":"3140df20051ca1c7a5dd4f886f8945c613c6fbba"},"games":["G"],"generator_version":{"build":0,"class":"Version","major":0,"minor":5},"hint_cost":10,"location_check_points":1,"password":false,"permissions":{"collect":2,"release":2,"remaining":2},"seed_name":"A","tags":[],"time":0,"version":{"build":0,"class":"Version","major":0,"minor":5}}]
@@ -81,211 +28,227 @@ pub(crate) const FIRST_LINES: &str =
 1 [{"checked_locations":[101],"cmd":"RoomUpdate","hint_points":1}]
 "#;
 
+/// Ann connects and checks 101.
+const FIRST_SCRIPT: &str = r#"open
+connect 1 Ann 7
+checks 1 [101]
+"#;
+
+/// Fails where `drive` tells another text of a script of short lines than status 0 and these texts.
+fn drives(alloc: Global, lines: &str, texts: &[&str]) -> Result<(), Fail> {
+    let script = script_of(alloc, lines)?;
+    let told = driven(alloc, ROOM_A, script.as_str())?;
+    let mut wanted = String::from_str(alloc, "0 ")?;
+    add_parts(&mut wanted, texts)?;
+    agree(told.as_str(), wanted.as_str())
+}
+
 #[test]
 fn first_check(rt: HostRuntime) -> Result<(), Fail> {
-    let script = format!(in rt.alloc();
-        "open\ntext 1 {ANN}\ntext 1 [{{\"cmd\":\"LocationChecks\",\"locations\":[101]}}]\ntake 1"
-    )?;
-    let outcome = printed(rt.alloc(), script.as_str())?;
-    assert_eq!(rt; outcome.status, 0);
-    assert_eq!(rt; outcome.out.bytes(), FIRST_LINES.as_bytes());
-    Ok(())
+    let lines = format!(in rt.alloc(); "{FIRST_SCRIPT}take 1")?;
+    drives(rt.alloc(), lines.as_str(), &[FIRST_LINES])
 }
 
 #[test]
 fn empty_script(rt: HostRuntime) -> Result<(), Fail> {
-    let outcome = printed(rt.alloc(), "")?;
-    assert_eq!(rt; outcome.status, 0);
-    assert_eq!(rt; outcome.out.bytes(), b"".as_slice());
-    assert_eq!(rt; outcome.err.bytes(), b"".as_slice());
-    Ok(())
+    drives(rt.alloc(), "", &[])
 }
 
 #[test]
 fn item_reaches_the_other(rt: HostRuntime) -> Result<(), Fail> {
-    let rest = "text 2 [{\"cmd\":\"LocationChecks\",\"locations\":[101]}]\ntake 1\n";
-    let script = two_sessions(rt.alloc(), BOB, ANN, rest)?;
-    let text = after_connecting(rt.alloc(), script.as_str())?;
-    assert_eq!(rt;
-        text.as_str(),
-        "1 [{\"cmd\":\"ReceivedItems\",\"index\":0,\"items\":[{\"class\":\"NetworkItem\",\"flags\":1,\"item\":7,\"location\":101,\"player\":1}]}]\n"
-    );
-    Ok(())
+    let lines = r#"open
+open
+connect 1 Bob 7
+connect 2 Ann 7
+take 1
+take 2
+mark
+checks 2 [101]
+take 1
+"#;
+    let expected =
+        r#"1 [{"cmd":"ReceivedItems","index":0,"items":[{"class":"NetworkItem","flags":1,"item":7,"location":101,"player":1}]}]
+"#;
+    marks(rt.alloc(), ROOM_A, lines, expected)
 }
 
 #[test]
 fn repeated_checks(rt: HostRuntime) -> Result<(), Fail> {
-    let rest =
-        "text 1 [{\"cmd\":\"LocationChecks\",\"locations\":[101,101,999,101]}]\ntext 1 [{\"cmd\":\"LocationChecks\",\"locations\":[101]}]\ntake 1\ntake 1\n";
-    let script = two_sessions(rt.alloc(), ANN, BOB, rest)?;
-    let text = after_connecting(rt.alloc(), script.as_str())?;
-    assert_eq!(rt;
-        text.as_str(),
-        "1 [{\"checked_locations\":[101],\"cmd\":\"RoomUpdate\",\"hint_points\":1}]\n"
-    );
-    Ok(())
+    let lines = r#"open
+open
+connect 1 Ann 7
+connect 2 Bob 7
+take 1
+take 2
+mark
+checks 1 [101,101,999,101]
+checks 1 [101]
+take 1
+take 1
+"#;
+    let expected = r#"1 [{"checked_locations":[101],"cmd":"RoomUpdate","hint_points":1}]
+"#;
+    marks(rt.alloc(), ROOM_A, lines, expected)
 }
 
 #[test]
 fn two_sessions_of_a_slot(rt: HostRuntime) -> Result<(), Fail> {
-    let rest =
-        "text 1 [{\"cmd\":\"LocationChecks\",\"locations\":[102]}]\ntext 2 [{\"cmd\":\"LocationChecks\",\"locations\":[102]}]\ntake 1\ntake 2\n";
-    let script = two_sessions(rt.alloc(), ANN, ANN, rest)?;
-    let text = after_connecting(rt.alloc(), script.as_str())?;
-    assert_eq!(rt;
-        text.as_str(),
-        "1 [{\"checked_locations\":[102],\"cmd\":\"RoomUpdate\",\"hint_points\":1},{\"cmd\":\"ReceivedItems\",\"index\":1,\"items\":[{\"class\":\"NetworkItem\",\"flags\":0,\"item\":8,\"location\":102,\"player\":1}]}]\n2 [{\"checked_locations\":[102],\"cmd\":\"RoomUpdate\",\"hint_points\":1},{\"cmd\":\"ReceivedItems\",\"index\":1,\"items\":[{\"class\":\"NetworkItem\",\"flags\":0,\"item\":8,\"location\":102,\"player\":1}]}]\n"
-    );
-    Ok(())
+    let lines = r#"open
+open
+connect 1 Ann 7
+connect 2 Ann 7
+take 1
+take 2
+mark
+checks 1 [102]
+checks 2 [102]
+take 1
+take 2
+"#;
+    let expected =
+        r#"1 [{"checked_locations":[102],"cmd":"RoomUpdate","hint_points":1},{"cmd":"ReceivedItems","index":1,"items":[{"class":"NetworkItem","flags":0,"item":8,"location":102,"player":1}]}]
+2 [{"checked_locations":[102],"cmd":"RoomUpdate","hint_points":1},{"cmd":"ReceivedItems","index":1,"items":[{"class":"NetworkItem","flags":0,"item":8,"location":102,"player":1}]}]
+"#;
+    marks(rt.alloc(), ROOM_A, lines, expected)
 }
 
 #[test]
 fn sync_before_and_after(rt: HostRuntime) -> Result<(), Fail> {
-    let rest =
-        "text 1 [{\"cmd\":\"Sync\"}]\ntake 1\ntext 2 [{\"cmd\":\"LocationChecks\",\"locations\":[101]}]\ntake 1\ntext 1 [{\"cmd\":\"Sync\"}]\ntake 1\n";
-    let script = two_sessions(rt.alloc(), BOB, ANN, rest)?;
-    let text = after_connecting(rt.alloc(), script.as_str())?;
-    let line =
-        "1 [{\"cmd\":\"ReceivedItems\",\"index\":0,\"items\":[{\"class\":\"NetworkItem\",\"flags\":1,\"item\":7,\"location\":101,\"player\":1}]}]\n";
-    let twice = format!(in rt.alloc(); "{line}{line}")?;
-    assert_eq!(rt; text.as_str(), twice.as_str());
-    Ok(())
+    let lines = r#"open
+open
+connect 1 Bob 7
+connect 2 Ann 7
+take 1
+take 2
+mark
+sync 1
+take 1
+checks 2 [101]
+take 1
+sync 1
+take 1
+"#;
+    let expected =
+        r#"1 [{"cmd":"ReceivedItems","index":0,"items":[{"class":"NetworkItem","flags":1,"item":7,"location":101,"player":1}]}]
+1 [{"cmd":"ReceivedItems","index":0,"items":[{"class":"NetworkItem","flags":1,"item":7,"location":101,"player":1}]}]
+"#;
+    marks(rt.alloc(), ROOM_A, lines, expected)
 }
 
 #[test]
 fn the_whole_first_run(rt: HostRuntime) -> Result<(), Fail> {
-    let script = format!(in rt.alloc();
-        "open\ntext 1 {ANN}\ntext 1 [{{\"cmd\":\"LocationChecks\",\"locations\":[101]}}]\ntext 1 [{{\"cmd\":\"Sync\"}}]\ntake 1\n"
-    )?;
-    let outcome = printed(rt.alloc(), script.as_str())?;
     let sync =
         "1 [{\"cmd\":\"ReceivedItems\",\"index\":0,\"items\":[{\"class\":\"NetworkItem\",\"flags\":0,\"item\":5,\"location\":-2,\"player\":0}]}]\n";
-    let expected = format!(in rt.alloc(); "{FIRST_LINES}{sync}")?;
-    assert_eq!(rt; outcome.status, 0);
-    assert_eq!(rt; outcome.out.bytes(), expected.as_bytes());
-    assert_eq!(rt; outcome.err.bytes(), b"".as_slice());
-    Ok(())
+    let lines = format!(in rt.alloc(); "{FIRST_SCRIPT}sync 1\ntake 1\n")?;
+    drives(rt.alloc(), lines.as_str(), &[FIRST_LINES, sync])
 }
+
+/// Fails where a run of a line of words, on a folder that has this file as `A`, tells another text.
+fn tells_of(
+    alloc: Global,
+    line: &str,
+    file: &[u8],
+    script: &str,
+    wanted: &str,
+) -> Result<(), Fail> {
+    let mut folder = folder_of(alloc, file, NEVER)?;
+    let told = told_with(alloc, &mut folder, line, script, NEVER)?;
+    agree(told.as_str(), wanted)
+}
+
+/// A line of words, the seed file, the script, and what is told.
+const RUNS: [(&str, &str, &str, &str); 10] = [
+    ("drive A", ROOM_A, "", "0 "),
+    ("drive A", ROOM_A, "#\n\ntake 07\n", "0 7 gone\n"),
+    ("drive A", ROOM_A, "open\ntake 2", "0 2 gone\n"),
+    ("drive B", ROOM_A, "open\n", "5 device failed\n"),
+    (
+        "drive A",
+        "7",
+        "open\n",
+        "7 multidata refused: WrongKind /\n",
+    ),
+    (
+        "drive A",
+        "{}",
+        "open\n",
+        "7 multidata refused: MissingField /format\n",
+    ),
+    (
+        "drive A",
+        ROOM_A,
+        "open\nopen \n",
+        "7 script refused: line 2\n",
+    ),
+    (
+        "drive A",
+        ROOM_A,
+        "open\nlost 1\nopen x\n",
+        "7 script refused: line 3\n",
+    ),
+    ("drive A", ROOM_A, "open\ncommit\ncrash\n", "0 "),
+    (
+        "drive A",
+        ROOM_A,
+        "open\ncommit\ncrash \n",
+        "7 script refused: line 3\n",
+    ),
+];
 
 #[test]
 fn each_status_has_its_line(rt: HostRuntime) -> Result<(), Fail> {
-    let none = [NEVER; 4];
-    let script = "open\ntake 1\ntake 1\n";
-    let cases = [
-        ("drive A", ROOM_A, "", none, 0, ""),
-        ("drive A", ROOM_A, "#\n\ntake 07\n", none, 0, ""),
-        (
-            "drive A",
-            ROOM_A,
-            script,
-            [0, NEVER, NEVER, NEVER],
-            5,
-            "device failed\n",
-        ),
-        (
-            "drive A",
-            ROOM_A,
-            script,
-            [NEVER, 0, NEVER, NEVER],
-            5,
-            "device failed\n",
-        ),
-        (
-            "drive A",
-            ROOM_A,
-            script,
-            [NEVER, NEVER, 1, NEVER],
-            5,
-            "device failed\n",
-        ),
-        ("drive B", ROOM_A, script, none, 5, "device failed\n"),
-        ("drive A", ROOM_A, script, [0, NEVER, NEVER, 0], 5, ""),
-        (
-            "drive A",
-            "7",
-            script,
-            none,
-            7,
-            "multidata refused: WrongKind /\n",
-        ),
-        (
-            "drive A",
-            "{}",
-            script,
-            none,
-            7,
-            "multidata refused: MissingField /format\n",
-        ),
-        (
-            "drive A",
-            ROOM_A,
-            "open\nopen \n",
-            none,
-            7,
-            "script refused: line 2\n",
-        ),
-        (
-            "drive A",
-            ROOM_A,
-            "open\nlost 1\nopen x\n",
-            none,
-            7,
-            "script refused: line 3\n",
-        ),
-        ("drive A", ROOM_A, "open\ncommit\ncrash\n", none, 0, ""),
-        (
-            "drive A",
-            ROOM_A,
-            "open\ncommit\ncrash \n",
-            none,
-            7,
-            "script refused: line 3\n",
-        ),
-    ];
-    for (name, file, script, failing, status, line) in cases {
-        let outcome = run_words(
-            rt.alloc(),
-            name,
-            file.as_bytes(),
-            script.as_bytes(),
-            failing,
-        )?;
-        assert_eq!(rt; outcome.status, status, "at {script}");
-        assert_eq!(rt; outcome.err.bytes(), line.as_bytes(), "at {script}");
+    for (line, seed, script, wanted) in RUNS {
+        tells_of(rt.alloc(), line, seed.as_bytes(), script, wanted)?;
+    }
+    Ok(())
+}
+
+/// Whether `drive A` ends with 5 and this error line where these calls of the folder, the input
+/// and the two sinks fail.
+fn fails_so(alloc: Global, failing: [u64; 4], error: &str) -> Result<bool, Fail> {
+    let mut folder = folder_of(alloc, ROOM_A.as_bytes(), failing[0])?;
+    let words = words_of(alloc, "drive A")?;
+    let script = b"open\ntake 1\ntake 1\n";
+    let others = [failing[1], failing[2], failing[3]];
+    let outcome = outcome_of(alloc, &words, &mut folder, script, others)?;
+    Ok(outcome.status == 5 && outcome.err.bytes() == error.as_bytes())
+}
+
+/// The calls that fail, and the error line.
+const FAULTS: [([u64; 4], &str); 4] = [
+    ([0, NEVER, NEVER, NEVER], "device failed\n"),
+    ([NEVER, 0, NEVER, NEVER], "device failed\n"),
+    ([NEVER, NEVER, 1, NEVER], "device failed\n"),
+    ([0, NEVER, NEVER, 0], ""),
+];
+
+#[test]
+fn drive_tells_of_faults(rt: HostRuntime) -> Result<(), Fail> {
+    for (failing, error) in FAULTS {
+        assert!(rt; fails_so(rt.alloc(), failing, error)?);
     }
     Ok(())
 }
 
 #[test]
 fn bad_words(rt: HostRuntime) -> Result<(), Fail> {
-    let none = [NEVER; 4];
-    let one = run_words(rt.alloc(), "fly", b"", b"", none)?;
-    assert_eq!(rt; one.status, 2);
-    assert_eq!(rt; one.err.bytes(), b"bad words\n".as_slice());
-    let three = run_words(rt.alloc(), "drive A B C", b"", b"", none)?;
-    assert_eq!(rt; three.status, 2);
-    assert_eq!(rt; three.out.bytes(), b"".as_slice());
+    for line in ["fly", "drive A B C"] {
+        tells_of(rt.alloc(), line, b"", "", "2 bad words\n")?;
+    }
     Ok(())
 }
 
 #[test]
 fn gone_where_no_session_is_open(rt: HostRuntime) -> Result<(), Fail> {
-    let outcome = printed(rt.alloc(), "take 007\ntext 1 [{\"cmd\":\"Sync\"}]\n")?;
-    assert_eq!(rt; outcome.status, 0);
-    assert_eq!(rt; outcome.out.bytes(), b"7 gone\n1 gone\n".as_slice());
-    Ok(())
+    drives(rt.alloc(), "take 007\nsync 1\n", &["7 gone\n1 gone\n"])
 }
 
 #[test]
 fn cut_seed_file(rt: HostRuntime) -> Result<(), Fail> {
     let whole = ROOM_A.as_bytes();
+    let wanted = "7 multidata refused: NoJson /\n";
     for length in 0..whole.len() {
-        let outcome = run_words(rt.alloc(), "drive A", &whole[..length], b"", [NEVER; 4])?;
-        assert_eq!(rt; outcome.status, 7, "at {length}");
-        assert_eq!(rt;
-            outcome.err.bytes(),
-            b"multidata refused: NoJson /\n".as_slice()
-        );
+        tells_of(rt.alloc(), "drive A", &whole[..length], "", wanted)?;
     }
     Ok(())
 }
@@ -343,6 +306,5 @@ fn without_memory(alloc: Global) -> Result<String, Fail> {
 #[test]
 fn no_memory(rt: HostRuntime) -> Result<(), Fail> {
     let told = without_memory(rt.alloc())?;
-    assert_eq!(rt; told.as_str(), "6 no memory\n");
-    Ok(())
+    agree(told.as_str(), "6 no memory\n")
 }

@@ -1,6 +1,7 @@
 //! What words ask for.
 use crate::command_line::CommandLine;
 use crate::error::WordsError;
+use crate::harness::agree;
 use crate::words::read_words;
 use mw_base::Text;
 use mw_offline::DriveWords;
@@ -125,8 +126,7 @@ const ROWS: [(&str, &str); 51] = [
 #[test]
 fn each_row_asks_for_this(rt: HostRuntime) -> Result<(), Fail> {
     for (words, wanted) in ROWS {
-        let told = told(rt.alloc(), words)?;
-        assert_eq!(rt; told.as_str(), wanted, "at {words}");
+        agree(told(rt.alloc(), words)?.as_str(), wanted)?;
     }
     Ok(())
 }
