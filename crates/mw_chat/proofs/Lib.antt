@@ -2,4 +2,3 @@ pub mod Kept
 pub mod Listed
 pub mod Named
 pub mod Present
-pub mod Slots

@@ -1,6 +1,5 @@
 ghost use Rattle.std.specs.Prelude.{◌≡◌, IfOk};
 ghost use Rattle.std.specs.Option.{option_copied};
-ghost use Rattle.mw_model.specs.Seed.{slot_of};
 ghost use Rattle.mw_protocol.specs.Commands.{game_of, name_among};
 ghost use Rattle.mw_protocol.specs.Entering.{name_of};
 ghost use Rattle.mw_protocol.specs.Hints.{game_named, game_played};
@@ -13,15 +12,6 @@ use mw_multidata::{Game, Multidata, NamedId, RoomTables, Slot};
 use std::alloc::Global;
 use std::collections::HashMap;
 use std::marker::Model;
-
-/// The slot of a number.
-#[tactic(auto, using(crate::proofs::Slots::slot_of_before))]
-pub(crate) fn slot_at(seed: &Multidata, number: SlotId) -> Option<&Slot>
-    ensures { option_copied result ≡ slot_of seed.now number }
-{
-    let at = number.get() - 1;
-    seed.slots.get(usize::from(at))
-}
 
 /// A slot's name in a team; empty where there is no such team.
 pub(crate) fn name_in(slot: &Slot, team: TeamId) -> &str
@@ -37,7 +27,7 @@ pub(crate) fn name_in(slot: &Slot, team: TeamId) -> &str
 pub fn name_of(tables: &RoomTables, team: TeamId, slot: SlotId) -> &str
     ensures { result.now ≡ name_of tables.now team slot }
 {
-    match slot_at(tables.multidata(), slot) {
+    match tables.multidata().slot(slot) {
         Some(found) => name_in(found, team),
         None => "",
     }
@@ -59,7 +49,7 @@ fn game_named<'a>(games: &'a [Game], name: &str) -> Option<&'a Game>
 pub(crate) fn game_of(seed: &Multidata, slot: SlotId) -> Option<&Game>
     ensures { option_copied result ≡ game_of seed.now slot }
 {
-    match slot_at(seed, slot) {
+    match seed.slot(slot) {
         Some(found) => game_named(seed.games.as_slice(), found.game.as_str()),
         None => None,
     }

@@ -93,9 +93,3 @@ known_among n (h ∷ hs) slot location =
 -- what has a number is known
 pub known_numbered : (seed : Seed) (slot : ℕ) (location : ℤ) (o : Option ℕ) → o ≡ number_of seed slot location → is_some o ≡ is_some (held_at seed slot location)
 known_numbered seed slot location o e = ap (λ (x : Option ℕ). is_some x) e ∙ known_among 0 seed.locations slot location
-
--- ---- slots
-
-pub slot_of_before : (seed : Seed) (n : ℕ) → 1 ≤ n → slice_get seed.slots (n - 1) ≡ slot_of seed n
-slot_of_before seed zero h = absurd (omega arith)
-slot_of_before seed (suc n) h = ap (slice_get seed.slots) (omega arith)

@@ -1,10 +1,8 @@
 ghost use Rattle.std.specs.Prelude.{◌≡◌};
-ghost use Rattle.std.specs.Option.{option_copied};
-ghost use Rattle.mw_model.specs.Seed.{slot_of};
 ghost use Rattle.mw_protocol.specs.Checks.{found_item, start_item};
 
-use mw_base::{NetItem, SlotId};
-use mw_multidata::{Held, Multidata, Slot, StartItem};
+use mw_base::NetItem;
+use mw_multidata::{Held, StartItem};
 
 /// The item that stands at a location, as it is found.
 pub(crate) fn item_of(held: &Held) -> NetItem
@@ -28,13 +26,4 @@ pub(crate) fn start_of(start: &StartItem) -> NetItem
         player: 0,
         flags: start.flags,
     }
-}
-
-/// The slot of a number.
-#[tactic(auto, using(crate::proofs::Numbering::slot_of_before))]
-pub(crate) fn slot_at(seed: &Multidata, number: SlotId) -> Option<&Slot>
-    ensures { option_copied result ≡ slot_of seed.now number }
-{
-    let at = number.get() - 1;
-    seed.slots.get(usize::from(at))
 }

@@ -5,7 +5,7 @@ ghost use Rattle.mw_checks.specs.Rows.{one_if, standing};
 ghost use Rattle.mw_checks.specs.Views.{asked_of};
 
 use crate::handling::Handling;
-use crate::items::{item_of, slot_at, start_of};
+use crate::items::{item_of, start_of};
 use crate::places::Places;
 use mw_multidata::StartItem;
 
@@ -29,7 +29,7 @@ pub(crate) fn count_own_starts(handling: &Handling, places: &Places) -> usize
         (start_items (slot_of places.now handling.now.slot))) }
     ensures few { result < 2 ^ 63 }
 {
-    match slot_at(places.tables().multidata(), handling.slot) {
+    match places.tables().multidata().slot(handling.slot) {
         Some(slot) => count_starts(handling, slot.start.as_slice()),
         None => 0,
     }

@@ -24,12 +24,23 @@ use std::alloc::Global;
 use std::marker::Model;
 
 /// The distinct checks of a room in the order in which they were made, over the tables of its seed.
-#[derive(Drop)]
 pub struct CheckLog {
     pub(crate) alloc: Global,
     places: Places,
     rows: Rows,
     order: Vec<Check>,
+}
+
+/// By hand, so that whoever lets it go calls this, and what it frees is listed once.
+impl Drop for CheckLog {
+    fn drop(self) {
+        let CheckLog {
+            alloc: _,
+            places: _,
+            rows: _,
+            order: _,
+        } = self;
+    }
 }
 
 impl Model for CheckLog {

@@ -5,7 +5,7 @@ ghost use Rattle.mw_checks.specs.Rows.{standing};
 ghost use Rattle.mw_checks.specs.Views.{Takes};
 
 use crate::handling::Handling;
-use crate::items::{item_of, slot_at, start_of};
+use crate::items::{item_of, start_of};
 use crate::places::Places;
 use mw_base::{List, Memory, NetItem};
 use mw_multidata::StartItem;
@@ -68,7 +68,7 @@ impl Tail {
         ensures { OnOk result (Takes handling.now self.old self.new
             (start_items (slot_of places.now handling.now.slot))) }
     {
-        match slot_at(places.tables().multidata(), handling.slot) {
+        match places.tables().multidata().slot(handling.slot) {
             Some(slot) => self.offer_starts(handling, slot.start.as_slice()),
             None => Ok(()),
         }

@@ -1,18 +1,14 @@
--- Slots by number, ids by name, how many locations a slot has, and numbers that fit.
+-- Ids by name, how many locations a slot has, and numbers that fit.
 use Rattle.std.proofs.Common.{◌≡◌, ℕ, ℤ, zero, suc, ◌+◌, ◌-◌, ◌*◌, ◌^◌, ◌<◌, ◌≤◌, ◌==◌, List, [], ◌∷◌, Bool, true, false, Option, Some, None, length, max, bytes_eq, refl, ap, subst, cond, arith}
 use Rattle.std.proofs.Math.Nat.{mul-le-mul_left}
 use Rattle.std.proofs.lemmas.List.Elements.{All-head, All-tail}
 use Rattle.std.proofs.lemmas.List.Recursion.{is_count_by}
 use Rattle.std.specs.List.{count_by}
-use Rattle.std.specs.Prelude.{slice_get, All}
+use Rattle.std.specs.Prelude.{All}
 use Rattle.mw_model.specs.Seed.{Seed, Slot, Game, NamedId, Held, slot_of}
 use Rattle.mw_multidata.specs.SeedKept.{IsSeed, IsId, EntryKept, GameKept}
 use Rattle.mw_protocol.specs.Asked.{locations_among}
 use Rattle.mw_protocol.specs.Hints.{id_named, game_named, game_played, item_in, item_named, location_in, location_named}
-
-pub slot_of_before : (seed : Seed) (n : ℕ) → 1 ≤ n → slice_get seed.slots (n - 1) ≡ slot_of seed n
-slot_of_before seed zero h = absurd (omega arith)
-slot_of_before seed (suc n) h = ap (slice_get seed.slots) (omega arith)
 
 -- ---- names
 

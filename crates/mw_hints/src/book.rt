@@ -16,11 +16,21 @@ use std::marker::Model;
 
 /// The hints of a room, one for a location of a team at most, in the order in which they were
 /// made, and beside them how many each slot bought.
-#[derive(Drop)]
 pub struct HintBook {
     pub(crate) alloc: Global,
     pub(crate) hints: Hints,
     counts: Counts,
+}
+
+/// By hand, so that whoever lets it go calls this, and what it frees is listed once.
+impl Drop for HintBook {
+    fn drop(self) {
+        let HintBook {
+            alloc: _,
+            hints: _,
+            counts: _,
+        } = self;
+    }
 }
 
 impl Model for HintBook {

@@ -1,11 +1,10 @@
 ghost use Rattle.std.specs.Prelude.{◌≡◌, option_map};
-ghost use Rattle.std.specs.Option.{option_copied};
 ghost use Rattle.mw_model.specs.Seed.{slot_of};
 ghost use Rattle.mw_protocol.specs.Hints.{id_named, game_named, game_played};
 ghost use Rattle.mw_protocol.specs.Hints.{item_named, location_named};
 
 use mw_base::SlotId;
-use mw_multidata::{Game, Multidata, NamedId, Slot};
+use mw_multidata::{Game, Multidata, NamedId};
 
 /// The id of a name.
 fn id_of(ids: &[NamedId], name: &str) -> Option<i64>
@@ -31,21 +30,12 @@ fn game_of<'a>(games: &'a [Game], name: &str) -> Option<&'a Game>
     None
 }
 
-/// The slot of a number.
-#[tactic(auto, using(crate::proofs::Numbers::slot_of_before))]
-fn slot_at(seed: &Multidata, number: SlotId) -> Option<&Slot>
-    ensures { option_copied result ≡ slot_of seed.now number }
-{
-    let at = number.get() - 1;
-    seed.slots.get(usize::from(at))
-}
-
 /// The game that a slot plays.
 fn game_at(seed: &Multidata, slot: SlotId) -> Option<&Game>
     ensures { option_map (λ g. g.now) result
         ≡ game_played seed.now.games (slot_of seed.now slot) }
 {
-    match slot_at(seed, slot) {
+    match seed.slot(slot) {
         Some(slot) => game_of(seed.games.as_slice(), slot.game.as_str()),
         None => None,
     }

@@ -32,8 +32,9 @@ fn copy_items(alloc: Global, items: &[Tree]) -> Result<List<Tree>, Memory>
     Ok(copied)
 }
 
+/// A copy of members. `Memory` is its only error.
 #[cycle(copy)]
-fn copy_members(alloc: Global, members: &[Member]) -> Result<List<Member>, Memory>
+pub fn copy_members(alloc: Global, members: &[Member]) -> Result<List<Member>, Memory>
     ensures { IfOk result (λ ms. map member_view ms ≡ map member_view members.now) }
 {
     let mut copied = List::new(alloc);
@@ -43,4 +44,13 @@ fn copy_members(alloc: Global, members: &[Member]) -> Result<List<Member>, Memor
         copied.push(Member { name, value })?;
     }
     Ok(copied)
+}
+
+/// A copy of a member. `Memory` is its only error.
+pub fn copy_member(alloc: Global, member: &Member) -> Result<Member, Memory>
+    ensures { IfOk result (λ m. member_view m ≡ member_view member.now) }
+{
+    let name = Text::of(alloc, member.name.as_str())?;
+    let value = copy(alloc, &member.value)?;
+    Ok(Member { name, value })
 }

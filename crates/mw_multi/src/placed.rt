@@ -13,9 +13,16 @@ use std::marker::Model;
 
 /// A placement as a table with an entry for each place: the numbers over all slots of the progression item that stands
 /// there, one for each owner of its receiver. Together they are fewer than 2^31.
-#[derive(Debug, Drop)]
+#[derive(Debug)]
 pub struct Placed {
     table: Entries,
+}
+
+/// By hand, so that whoever lets it go calls this, and what it frees is listed once.
+impl Drop for Placed {
+    fn drop(self) {
+        let Placed { table: _ } = self;
+    }
 }
 
 impl Model for Placed {

@@ -36,9 +36,15 @@ impl Model for TreeRule {
 
 /// The rules of a joint by number, as trees of its own: slot by slot the entrances in table order, the locations in table
 /// order and the goal.
-#[derive(Drop)]
 pub struct TreeRules {
     trees: List<TreeRule>,
+}
+
+/// By hand, so that whoever lets it go calls this, and what it frees is listed once.
+impl Drop for TreeRules {
+    fn drop(self) {
+        let TreeRules { trees: _ } = self;
+    }
 }
 
 impl Model for TreeRules {

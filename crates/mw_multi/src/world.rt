@@ -26,7 +26,7 @@ impl Model for PoolEntry {
 
 /// The tables of one world. A region or an item is its index from 0 in its list; a place in a rule counts the regions
 /// and then the locations, from 0.
-#[derive(Debug, Drop)]
+#[derive(Debug)]
 pub struct World {
     /// The game's name, 1 to 128 characters, none below U+0020.
     pub game: Text,
@@ -46,6 +46,23 @@ pub struct World {
     pub filler: u32,
     /// When a slot has won.
     pub goal: Rule,
+}
+
+/// By hand, so that whoever lets it go calls this, and what it frees is listed once.
+impl Drop for World {
+    fn drop(self) {
+        let World {
+            game: _,
+            origin: _,
+            regions: _,
+            entrances: _,
+            locations: _,
+            items: _,
+            pool: _,
+            filler: _,
+            goal: _,
+        } = self;
+    }
 }
 
 impl Model for World {

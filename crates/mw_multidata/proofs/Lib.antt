@@ -6,8 +6,10 @@ pub mod Kept
 pub mod Names
 pub mod NamesAgain
 pub mod NamesKept
+pub mod Numbered
 pub mod Orders
 pub mod Plays
 pub mod SeedKept
 pub mod ShapeKept
+pub mod Trees
 pub mod Written

@@ -1,9 +1,9 @@
 use crate::seed::{Game, Held, Slot};
-use mw_base::{List, RoomOptions, SphereList, Text};
+use mw_base::{List, RoomOptions, SlotId, SphereList, Text};
 use std::marker::Model;
 
 /// A seed, which keeps the rules of its file's format. What keeps them is written and read again.
-#[derive(Debug, Drop)]
+#[derive(Debug)]
 pub struct Multidata {
     /// 1 to 128 characters.
     pub seed_name: Text,
@@ -19,6 +19,21 @@ pub struct Multidata {
     pub locations: List<Held>,
     /// The spheres, none of them empty; each slot is there.
     pub spheres: SphereList,
+}
+
+/// By hand, so that whoever lets it go calls this, and what it frees is listed once.
+impl Drop for Multidata {
+    fn drop(self) {
+        let Multidata {
+            seed_name: _,
+            teams: _,
+            server: _,
+            games: _,
+            slots: _,
+            locations: _,
+            spheres: _,
+        } = self;
+    }
 }
 
 impl Model for Multidata {
@@ -46,4 +61,19 @@ impl Model for Multidata {
       locations = m.locations;
       spheres = m.spheres;
     } };
+}
+
+impl Multidata {
+    ghost use Rattle.std.specs.Prelude.{◌≡◌};
+    ghost use Rattle.std.specs.Option.{option_copied};
+    ghost use Rattle.mw_model.specs.Seed.{slot_of};
+
+    /// The slot of a number; None where the seed has no such slot.
+    #[tactic(auto, using(crate::proofs::Numbered::slot_of_before))]
+    pub fn slot(&self, number: SlotId) -> Option<&Slot>
+        ensures { option_copied result ≡ slot_of self.now number }
+    {
+        let at = number.get() - 1;
+        self.slots.get(usize::from(at))
+    }
 }

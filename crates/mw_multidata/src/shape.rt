@@ -1,7 +1,8 @@
 ghost use Rattle.std.specs.Prelude.{◌≡◌};
 ghost use Rattle.mw_json.specs.View.{view};
 ghost use Rattle.mw_json.specs.Grammar.{Gives, number_at};
-ghost use Rattle.mw_multidata.specs.Shape.{format_of, format_at, seed_name_of, seed_name_at, shape_at};
+ghost use Rattle.mw_json.specs.Readers.{list_of_at};
+ghost use Rattle.mw_multidata.specs.Shape.{format_of, format_at, seed_name_of, seed_name_at, held_at, shape_at};
 
 use crate::games::games_of;
 use crate::locations::held_of;
@@ -86,6 +87,13 @@ fn teams_in(alloc: Global, tree: &Tree) -> Result<u8, Refusal>
     Ok(number as u8)
 }
 
+/// At most 2^24 locations.
+fn locations_of(alloc: Global, tree: &Tree) -> Result<List<Held>, Refusal>
+    ensures { Gives result (list_of_at 16777216 held_at (view tree.now)) }
+{
+    list(alloc, tree, 16_777_216, held_of)
+}
+
 /// What stands in a seed file by its shape.
 #[tactic(auto, unfolding(crate::specs::Shape::shape_at, crate::specs::Shape::members_at))]
 pub(crate) fn shape_of(alloc: Global, tree: &Tree) -> Result<Shape, Refusal>
@@ -98,9 +106,7 @@ pub(crate) fn shape_of(alloc: Global, tree: &Tree) -> Result<Shape, Refusal>
     let server = field_in(alloc, members, "server", server_of)?;
     let games = field_in(alloc, members, "games", games_of)?;
     let slots = field_in(alloc, members, "slots", |a, t| slots_of(a, t, teams))?;
-    let locations = field_in(alloc, members, "locations", |a, t| {
-        list(a, t, 16_777_216, held_of)
-    })?;
+    let locations = field_in(alloc, members, "locations", locations_of)?;
     let spheres = field_in(alloc, members, "spheres", spheres_of)?;
     Ok(Shape {
         seed_name,

@@ -49,11 +49,11 @@ fn slot_tree(alloc: Global, slot: &Slot) -> Result<Tree, Memory>
     ensures value { IfOk result (λ t. view t ≡ slot_json slot.now) }
     ensures writable { IfOk result (λ t. IsWritable (view t)) }
 {
-    let names = texts_tree(alloc, slot.names.as_slice())?;
-    let start = start_tree(alloc, slot.start.as_slice())?;
     let mut parts = List::new(alloc);
     put_words(alloc, &mut parts, "game", slot.game.as_str())?;
+    let names = texts_tree(alloc, slot.names.as_slice())?;
     put(alloc, &mut parts, "names", names)?;
+    let start = start_tree(alloc, slot.start.as_slice())?;
     put(alloc, &mut parts, "start", start)?;
     Ok(object_tree(parts))
 }

@@ -1,5 +1,6 @@
 ghost use Rattle.mw_json.specs.View.{view};
-ghost use Rattle.mw_json.specs.Grammar.{Gives};
+ghost use Rattle.mw_json.specs.Grammar.{Gives, name_at};
+ghost use Rattle.mw_json.specs.Readers.{list_of_at};
 ghost use Rattle.mw_multidata.specs.Shape.{names_at, start_item_at, slot_at, slots_at};
 
 use crate::parts::flags_in;
@@ -11,12 +12,26 @@ use mw_json::{
 };
 use std::alloc::Global;
 
+/// A player's name, of at most 16 characters.
+fn player_name_in(alloc: Global, tree: &Tree) -> Result<Text, Refusal>
+    ensures { Gives result (name_at 16 (view tree.now)) }
+{
+    name_in(alloc, tree, 16)
+}
+
+/// A game's name, of at most 128 characters.
+fn game_name_in(alloc: Global, tree: &Tree) -> Result<Text, Refusal>
+    ensures { Gives result (name_at 128 (view tree.now)) }
+{
+    name_in(alloc, tree, 128)
+}
+
 #[tactic(auto, unfolding(crate::specs::Shape::names_at))]
 fn names_of(alloc: Global, tree: &Tree, teams: u8) -> Result<List<Text>, Refusal>
     ensures { Gives result (names_at teams (view tree.now)) }
 {
     let items = list_with(alloc, tree, teams as usize)?;
-    each(alloc, items, |a, t| name_in(a, t, 16))
+    each(alloc, items, player_name_in)
 }
 
 #[tactic(auto, unfolding(crate::specs::Shape::start_item_at))]
@@ -29,16 +44,21 @@ fn start_item_of(alloc: Global, tree: &Tree) -> Result<StartItem, Refusal>
     Ok(StartItem { item, flags })
 }
 
+/// At most 256 items to begin with.
+fn start_of(alloc: Global, tree: &Tree) -> Result<List<StartItem>, Refusal>
+    ensures { Gives result (list_of_at 256 start_item_at (view tree.now)) }
+{
+    list(alloc, tree, 256, start_item_of)
+}
+
 #[tactic(auto, unfolding(crate::specs::Shape::slot_at))]
 fn slot_of(alloc: Global, tree: &Tree, teams: u8) -> Result<Slot, Refusal>
     ensures { Gives result (slot_at teams (view tree.now)) }
 {
     let members = object_of(alloc, tree)?;
     let names = field_in(alloc, members, "names", |a, t| names_of(a, t, teams))?;
-    let game = field_in(alloc, members, "game", |a, t| name_in(a, t, 128))?;
-    let start = field_in(alloc, members, "start", |a, t| {
-        list(a, t, 256, start_item_of)
-    })?;
+    let game = field_in(alloc, members, "game", game_name_in)?;
+    let start = field_in(alloc, members, "start", start_of)?;
     Ok(Slot { names, game, start })
 }
 

@@ -7,9 +7,16 @@ use std::alloc::Global;
 use std::marker::Model;
 
 /// A seed, kept for the look-ups of a room.
-#[derive(Debug, Drop)]
+#[derive(Debug)]
 pub struct RoomTables {
     multidata: Multidata,
+}
+
+/// By hand, so that whoever lets it go calls this, and what it frees is listed once.
+impl Drop for RoomTables {
+    fn drop(self) {
+        let RoomTables { multidata: _ } = self;
+    }
 }
 
 impl Model for RoomTables {

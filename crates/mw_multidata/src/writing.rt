@@ -45,18 +45,18 @@ fn seed_tree(alloc: Global, seed: &Multidata) -> Result<Tree, Memory>
     ensures value { IfOk result (λ t. view t ≡ seed_json seed.now) }
     ensures writable { IfOk result (λ t. IsWritable (view t)) }
 {
-    let games = games_tree(alloc, seed.games.as_slice())?;
-    let locations = locations_tree(alloc, seed.locations.as_slice())?;
-    let server = server_tree(alloc, &seed.server)?;
-    let slots = slots_tree(alloc, seed.slots.as_slice())?;
-    let spheres = spheres_tree(alloc, seed.spheres.as_slice())?;
     let mut parts = List::new(alloc);
     put_words(alloc, &mut parts, "format", "mw-multidata-1")?;
+    let games = games_tree(alloc, seed.games.as_slice())?;
     put(alloc, &mut parts, "games", games)?;
+    let locations = locations_tree(alloc, seed.locations.as_slice())?;
     put(alloc, &mut parts, "locations", locations)?;
     put_words(alloc, &mut parts, "seed_name", seed.seed_name.as_str())?;
+    let server = server_tree(alloc, &seed.server)?;
     put(alloc, &mut parts, "server", server)?;
+    let slots = slots_tree(alloc, seed.slots.as_slice())?;
     put(alloc, &mut parts, "slots", slots)?;
+    let spheres = spheres_tree(alloc, seed.spheres.as_slice())?;
     put(alloc, &mut parts, "spheres", spheres)?;
     put_number(alloc, &mut parts, "teams", u64::from(seed.teams))?;
     Ok(object_tree(parts))

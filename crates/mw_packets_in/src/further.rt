@@ -13,7 +13,7 @@ ghost use Rattle.mw_packets_in.specs.Own.{label_of, own_names};
 use crate::row::Row;
 use crate::whole::some_member;
 use mw_base::{List, Memory, Text};
-use mw_json::{Kind, Member, Refusal, Step, copy, named};
+use mw_json::{Kind, Member, Refusal, Step, copy_member};
 use std::alloc::Global;
 
 fn is_bounce_name(name: &str) -> bool
@@ -58,15 +58,6 @@ fn label(row: Row) -> &'static str
         Row::Get => "keys",
         Row::Set => "operations",
     }
-}
-
-/// A copy of a member.
-fn copy_member(alloc: Global, member: &Member) -> Result<Member, Memory>
-    ensures { IfOk result (λ m. member_view m ≡ member_view member.now) }
-{
-    let name = Text::of(alloc, member.name.as_str())?;
-    let value = copy(alloc, &member.value)?;
-    Ok(named(name, value))
 }
 
 /// Whether a row has this member.

@@ -23,7 +23,6 @@ pub use joining::{write_both, write_message, write_with};
 pub use lists::{item_tree, texts_tree};
 pub use packet::{InvalidKind, ServerPacket};
 pub use people::{Connected, NetworkPlayer, NetworkSlot};
-pub use placing::copy_members;
 pub use print::PrintJson;
 pub use room::{GameSum, RoomInfo};
 pub use values::{Retrieved, SetReply};

@@ -5,7 +5,7 @@ ghost use Rattle.mw_json.specs.View.{view, member_view, members_view};
 ghost use Rattle.mw_packets_out.specs.Places.{place_in};
 
 use mw_base::{List, Memory, Text};
-use mw_json::{Member, Tree, copy, named, put};
+use mw_json::{Member, Tree, copy, copy_members, named, put};
 use std::alloc::Global;
 
 /// Where a member of this name is put: before the first whose name is greater.
@@ -47,15 +47,6 @@ pub(crate) fn put_copies(
         put(alloc, members, member.name.as_str(), value)?;
     }
     Ok(())
-}
-
-/// A copy of members. Memory is its only error.
-pub fn copy_members(alloc: Global, given: &[Member]) -> Result<List<Member>, Memory>
-    ensures { IfOk result (λ ms. map member_view ms ≡ map member_view given.now) }
-{
-    let mut copies = List::new(alloc);
-    put_copies(alloc, &mut copies, given)?;
-    Ok(copies)
 }
 
 /// A copy of a packet's further members, to which its own are added.

@@ -4,9 +4,9 @@ ghost use Rattle.mw_model.specs.Trees.{put_member};
 ghost use Rattle.mw_protocol.specs.Messages.{retrieved_json, set_reply_json};
 ghost use Rattle.mw_json.specs.View.{view, members_view};
 
-use crate::placing::{copy_members, further_of, insert};
+use crate::placing::{further_of, insert};
 use mw_base::{List, Memory, SlotId, Text};
-use mw_json::{Member, Tree, copy, number_tree, words_tree};
+use mw_json::{Member, Tree, copy, copy_members, number_tree, words_tree};
 use std::alloc::Global;
 use std::marker::Model;
 

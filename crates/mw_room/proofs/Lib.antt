@@ -9,7 +9,6 @@ mod HintsMade
 mod Joined
 mod Keeping
 mod Messages
-mod Numbers
 mod Places
 mod Planning
 mod ReadOnce

@@ -19,10 +19,12 @@ told_at now team finder location None = []
 told_at now team finder location (Some at) =
     record {
       audience = slots_hear team finder at.receiver;
-      packet = printed (hint_print (found_item at) at.receiver (is_checked now team finder location));
+      packet = printed
+          (hint_print (found_item at) at.receiver (is_checked now team finder location));
     } ∷ []
 
--- a hint that is there is told again or not, one that isn't there is made where the location isn't checked
+-- a hint that is there is told again or not, one that isn't there is made where the location isn't
+-- checked
 abbrev pub told_where : Option Hint → Bool → Bool → Bool
 told_where None again found = not found
 told_where (Some h) again found = again

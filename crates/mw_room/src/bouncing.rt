@@ -7,14 +7,14 @@ ghost use Rattle.mw_packets_out.specs.View.{packet_view};
 ghost use Rattle.mw_room.specs.Parts.{IsQuiet};
 ghost use Rattle.mw_room.specs.Views.{effect_view};
 
-use crate::connect::slot_at;
 use crate::effect::{Audience, Effect, announcing, one_told};
 use crate::hearing::has_text;
 use crate::member::{Member, copy_texts};
 use mw_base::{List, Memory, Text};
+use mw_json::copy_members;
 use mw_multidata::{Multidata, Slot};
 use mw_packets_in::Bounce;
-use mw_packets_out::{Bounced, ServerPacket, copy_members};
+use mw_packets_out::{Bounced, ServerPacket};
 use std::alloc::Global;
 use std::marker::Model;
 
@@ -75,7 +75,7 @@ fn is_game_among(games: &[Text], slot: Option<&Slot>) -> bool
 pub fn is_named(seed: &Multidata, named: &Named, member: &Member) -> bool
     ensures { result ≡ is_named_lem seed.now named.now member.now }
 {
-    is_game_among(named.games.as_slice(), slot_at(seed, member.slot))
+    is_game_among(named.games.as_slice(), seed.slot(member.slot))
         || has_number(named.slots.as_slice(), i128::from(member.slot.get()))
         || share_text(named.tags.as_slice(), member.tags.as_slice())
 }

@@ -1,6 +1,5 @@
 ghost use Rattle.std.specs.Prelude.{◌≡◌, ◌≤◌, ◌-◌, ◌++◌, length, slice_get, IfOk, OnOk, unwrap_or, []};
 ghost use Rattle.std.specs.Option.{option_copied};
-ghost use Rattle.mw_model.specs.Seed.{slot_of};
 ghost use Rattle.mw_protocol.specs.Connecting.{connect_errors as connect_errors_lem, error_where, is_game_of as is_game_of_lem, is_old as is_old_lem, is_wrong_password as is_wrong_password_lem, looks_on as looks_on_lem, member_by as member_by_lem, player_named as player_named_lem, slot_played as slot_played_lem, team_named as team_named_lem, text_or_empty};
 ghost use Rattle.mw_room.specs.Joining.{errors_with, mask_asked, member_where as member_where_lem};
 ghost use Rattle.mw_room.specs.Playable.{IsPlayable};
@@ -112,21 +111,12 @@ fn mask_in(items_handling: &Option<i128>) -> Option<u8>
     }
 }
 
-/// The slot of a number.
-#[tactic(auto, using(crate::proofs::Numbers::slot_of_before))]
-pub(crate) fn slot_at(seed: &Multidata, number: SlotId) -> Option<&Slot>
-    ensures { option_copied result ≡ slot_of seed.now number }
-{
-    let at = number.get() - 1;
-    seed.slots.get(usize::from(at))
-}
-
 /// The slot that a player has.
 fn slot_played<'a>(seed: &'a Multidata, player: &Option<Player>) -> Option<&'a Slot>
     ensures { option_copied result ≡ slot_played_lem seed.now player.now }
 {
     match player {
-        Some(player) => slot_at(seed, player.slot),
+        Some(player) => seed.slot(player.slot),
         None => None,
     }
 }

@@ -2,7 +2,6 @@ ghost use Rattle.std.specs.Prelude.{◌≡◌};
 ghost use Rattle.mw_protocol.specs.Named.{has_location, has_locations, has_player, is_named};
 ghost use Rattle.mw_records.specs.Records.{hint_view, record_view};
 
-use crate::connect::slot_at;
 use crate::standing::Standing;
 use mw_base::{HintRecord, LocId, SlotId, TeamId};
 use mw_records::Record;
@@ -13,7 +12,7 @@ impl Standing {
         ensures { result ≡ has_player self.now.log.seed team slot }
     {
         let seed = self.seed();
-        team.get() < seed.teams && slot_at(seed, slot).is_some()
+        team.get() < seed.teams && seed.slot(slot).is_some()
     }
 
     /// Whether the seed has a location of a slot of a team.
@@ -46,7 +45,7 @@ impl Standing {
                 loc,
                 buyer,
                 ..
-            } => self.has_location(team, finder, loc) && slot_at(self.seed(), buyer).is_some(),
+            } => self.has_location(team, finder, loc) && self.seed().slot(buyer).is_some(),
             HintRecord::Marked {
                 team,
                 finder,

@@ -10,17 +10,18 @@ ghost use Rattle.mw_room.specs.Parts.{IsQuiet, standing_of};
 ghost use Rattle.mw_room.specs.Reading.{AreRead};
 ghost use Rattle.mw_room.specs.Views.{effect_view};
 
-use crate::connect::{Player, slot_at};
+use crate::connect::Player;
 use crate::effect::{Effect, answering};
 use crate::standing::Standing;
 use mw_base::{List, Memory, SlotId, TeamId, Text};
 use mw_hints::Hint;
 use mw_json::{
-    Member as Field, Tree, copy, find, id_tree, number_tree, push_tree, put, put_number, put_words,
+    Member as Field, Tree, copy, copy_members, find, id_tree, number_tree, push_tree, put,
+    put_number, put_words,
 };
 use mw_multidata::Multidata;
 use mw_packets_in::Get;
-use mw_packets_out::{Retrieved, ServerPacket, copy_members};
+use mw_packets_out::{Retrieved, ServerPacket};
 use mw_storage::{Store, is_private, set_member};
 use std::alloc::Global;
 
@@ -55,7 +56,7 @@ fn player_of(seed: &Multidata, team: u16, slot: u16) -> Option<Player>
     }
     let team = TeamId::new(team as u8)?;
     let slot = SlotId::new(slot)?;
-    match slot_at(seed, slot) {
+    match seed.slot(slot) {
         Some(_) => Some(Player { team, slot }),
         None => None,
     }

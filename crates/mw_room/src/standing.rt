@@ -12,12 +12,23 @@ use std::alloc::Global;
 
 /// What a room's records come to: the distinct checks, the hints, the statuses of slots, and the
 /// data storage.
-#[derive(Drop)]
 pub struct Standing {
     pub log: CheckLog,
     pub hints: HintBook,
     pub statuses: Vec<SlotStatus>,
     pub store: Store,
+}
+
+/// By hand, so that whoever lets it go calls this, and what it frees is listed once.
+impl Drop for Standing {
+    fn drop(self) {
+        let Standing {
+            log: _,
+            hints: _,
+            statuses: _,
+            store: _,
+        } = self;
+    }
 }
 
 impl Standing {

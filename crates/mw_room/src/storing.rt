@@ -17,7 +17,7 @@ use crate::effect::{Announced, Audience, Effect, NewValue, answering, one_told};
 use crate::member::Member;
 use crate::standing::Standing;
 use mw_base::{List, Memory, Text};
-use mw_json::{Member as Field, SetPacket, Tree, copy, named, same};
+use mw_json::{Member as Field, SetPacket, Tree, copy, copy_member, same};
 use mw_packets_out::{InvalidKind, ServerPacket, SetReply};
 use mw_records::{Record, Stored};
 use mw_storage::{Changed, Store, StoreGrowth, StoreRefusal};
@@ -137,15 +137,6 @@ fn is_reply_member(member: &Field) -> bool
 {
     let name = member.name.as_str();
     "original_value" == name || "slot" == name || "value" == name
-}
-
-/// A copy of a member.
-fn copy_member(alloc: Global, member: &Field) -> Result<Field, Memory>
-    ensures { IfOk result (λ m. member_view m ≡ member_view member.now) }
-{
-    let name = Text::of(alloc, member.name.as_str())?;
-    let value = copy(alloc, &member.value)?;
-    Ok(named(name, value))
 }
 
 /// Copies of a Set's further members but for those that the answer has itself.

@@ -19,11 +19,21 @@ use std::alloc::Global;
 use std::marker::Model;
 
 /// The data storage of a room: values under keys, in the order in which the keys came.
-#[derive(Drop)]
 pub struct Store {
     alloc: Global,
     kept: IndexMap<String, Tree>,
     bytes: Option<u64>,
+}
+
+/// By hand, so that whoever lets it go calls this, and what it frees is listed once.
+impl Drop for Store {
+    fn drop(self) {
+        let Store {
+            alloc: _,
+            kept: _,
+            bytes: _,
+        } = self;
+    }
 }
 
 impl Model for Store {
