@@ -7,6 +7,7 @@ use mw_chat::{
     part_item, part_location, part_player, part_text, players_text, points_text, reached_goal,
     released, remaining_text, too_dear_text,
 };
+use mw_checks::CheckLog;
 use mw_json::{Tree, can_write, compact};
 use mw_packets_out::{ServerPacket, packet_text};
 use std::alloc::Global;
@@ -186,14 +187,26 @@ fn tells(
 #[test]
 fn what_a_player_does_is_printed(rt: HostRuntime) -> Result<(), Fail> {
     let alloc = rt.alloc();
-    let print = left(alloc, team(), ann(), "Ann");
-    assert!(rt; tells(alloc, print, "left", "Part")?);
-    let print = reached_goal(alloc, team(), ann(), "Ann");
-    assert!(rt; tells(alloc, print, "reached the goal", "Goal")?);
-    let print = released(alloc, team(), ann(), "Ann");
-    assert!(rt; tells(alloc, print, "released", "Release")?);
-    let print = collected(alloc, team(), ann(), "Ann");
-    assert!(rt; tells(alloc, print, "collected", "Collect")?);
+    let (team, ann) = (team(), ann());
+    assert!(rt; tells(alloc, left(alloc, team, ann, "Ann"), "left", "Part")?);
+    let goal = "reached the goal";
+    assert!(rt; tells(alloc, reached_goal(alloc, team, ann, "Ann"), goal, "Goal")?);
+    assert!(rt;
+        tells(
+            alloc,
+            released(alloc, team, ann, "Ann"),
+            "released",
+            "Release"
+        )?
+    );
+    assert!(rt;
+        tells(
+            alloc,
+            collected(alloc, team, ann, "Ann"),
+            "collected",
+            "Collect"
+        )?
+    );
     Ok(())
 }
 
@@ -247,15 +260,18 @@ fn is_text(text: Result<Text, Memory>, wanted: &str) -> bool {
     }
 }
 
+/// Whether Ann is told so what is missing, checked and remaining.
+fn tells_of_ann(alloc: Global, log: &CheckLog, texts: [&str; 3]) -> bool {
+    is_text(missing_text(alloc, log, team(), ann()), texts[0])
+        && is_text(checked_text(alloc, log, team(), ann()), texts[1])
+        && is_text(remaining_text(alloc, log, team(), ann()), texts[2])
+}
+
 #[test]
 fn commands_tell_of_a_slot(rt: HostRuntime) -> Result<(), Fail> {
     let log = new_log(rt.alloc())?;
-    let text = missing_text(rt.alloc(), &log, team(), ann());
-    assert!(rt; is_text(text, "2 missing: A1, A2"));
-    let text = checked_text(rt.alloc(), &log, team(), ann());
-    assert!(rt; is_text(text, "0 checked: "));
-    let text = remaining_text(rt.alloc(), &log, team(), ann());
-    assert!(rt; is_text(text, "2 remaining: Coin, Map"));
+    let texts = ["2 missing: A1, A2", "0 checked: ", "2 remaining: Coin, Map"];
+    assert!(rt; tells_of_ann(rt.alloc(), &log, texts));
     Ok(())
 }
 

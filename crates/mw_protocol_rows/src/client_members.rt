@@ -1,7 +1,8 @@
 //! Each member of each packet of a client: missing, null, and of each other kind.
 use crate::client_packets::{is_bad, packets_in, sole};
+use mw_base::List;
 use mw_cases::part;
-use mw_packets_in::BadKind;
+use mw_packets_in::{BadKind, Inbound};
 use std::alloc::Global;
 use std::test::Fail;
 
@@ -32,20 +33,29 @@ fn is_fine(case: &str, value: &str) -> bool {
     false
 }
 
+/// Whether these are one packet.
+fn is_packet(found: List<Inbound>) -> bool {
+    sole(&found).is_some()
+}
+
+/// Whether these are one packet of a case's cmd, whose member is wrong for this reason.
+fn is_refused(found: List<Inbound>, case: &str, why: &str) -> bool {
+    is_bad(&found, BadKind::Arguments, Some(part(case, 0)), why)
+}
+
+/// Whether a message is one packet whose member is wrong as a case tells.
+fn is_wrong(alloc: Global, case: &str, text: &str) -> Result<bool, Fail> {
+    let why = format!(in alloc; "arguments: {}", part(case, 4))?;
+    Ok(is_refused(packets_in(alloc, text)?, case, why.as_str()))
+}
+
 /// Whether a message is answered as its member's value asks for.
 fn is_answered(alloc: Global, case: &str, value: &str) -> Result<bool, Fail> {
     let text = message(alloc, case, value)?;
-    let why = format!(in alloc; "arguments: {}", part(case, 4))?;
-    let found = packets_in(alloc, text.as_str())?;
     if is_fine(case, value) {
-        return Ok(sole(&found).is_some());
+        return Ok(is_packet(packets_in(alloc, text.as_str())?));
     }
-    Ok(is_bad(
-        &found,
-        BadKind::Arguments,
-        Some(part(case, 0)),
-        why.as_str(),
-    ))
+    is_wrong(alloc, case, text.as_str())
 }
 
 /// The values for which it isn't.
