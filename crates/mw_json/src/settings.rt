@@ -73,3 +73,17 @@ pub fn count_in(alloc: Global, tree: &Tree, most: u32) -> Result<u32, Refusal>
     let number = number_between(alloc, tree, 0, most as u64)?;
     Ok(number as u32)
 }
+
+/// What a hint costs: at most 1,000 percent.
+pub fn hint_cost_in(alloc: Global, tree: &Tree) -> Result<u32, Refusal>
+    ensures { Gives result (number_at 0 1000 (view tree.now)) }
+{
+    count_in(alloc, tree, 1_000)
+}
+
+/// What a checked location is worth: at most 1,000,000 points.
+pub fn points_in(alloc: Global, tree: &Tree) -> Result<u32, Refusal>
+    ensures { Gives result (number_at 0 1000000 (view tree.now)) }
+{
+    count_in(alloc, tree, 1_000_000)
+}

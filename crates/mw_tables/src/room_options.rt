@@ -1,15 +1,15 @@
 ghost use Rattle.std.specs.Prelude.{◌≡◌, ℕ, List, IfOk};
 ghost use Rattle.mw_base.specs.Permissions.{permission_number};
 ghost use Rattle.mw_json.specs.View.{view, members_view};
-ghost use Rattle.mw_json.specs.Grammar.{Gives, GivesBy, number_at};
+ghost use Rattle.mw_json.specs.Grammar.{Gives, GivesBy};
 ghost use Rattle.mw_json.specs.Readers.{field_or_at};
 ghost use Rattle.mw_json.specs.Settings.{permission_at};
 ghost use Rattle.mw_tables.specs.PlayersShape.{room_at, usual_room as usual_settings};
 
 use mw_base::{Memory, Permission, RoomOptions, Text};
 use mw_json::{
-    Member, Refusal, Tree, count_in, field_or, field_or_seen, object_of, password_in,
-    permission_in, remaining_in,
+    Member, Refusal, Tree, field_or, field_or_seen, hint_cost_in, object_of, password_in,
+    permission_in, points_in, remaining_in,
 };
 use std::alloc::Global;
 
@@ -25,20 +25,6 @@ pub(crate) fn usual_room(alloc: Global) -> Result<RoomOptions, Memory>
         collect: Permission::Auto,
         remaining: Permission::Goal,
     })
-}
-
-/// At most 1,000 percent.
-fn hint_cost_in(alloc: Global, tree: &Tree) -> Result<u32, Refusal>
-    ensures { Gives result (number_at 0 1000 (view tree.now)) }
-{
-    count_in(alloc, tree, 1_000)
-}
-
-/// At most 1,000,000 points.
-fn points_in(alloc: Global, tree: &Tree) -> Result<u32, Refusal>
-    ensures { Gives result (number_at 0 1000000 (view tree.now)) }
-{
-    count_in(alloc, tree, 1_000_000)
 }
 
 /// The permission under a name, `auto` where it is absent.
@@ -63,8 +49,14 @@ pub(crate) fn room_of(alloc: Global, tree: &Tree) -> Result<RoomOptions, Refusal
         Text::of(alloc, "")?,
         |a, t| password_in(a, t),
     )?;
-    let hint_cost = field_or(alloc, members, "hint_cost", 10, hint_cost_in)?;
-    let location_check_points = field_or(alloc, members, "location_check_points", 1, points_in)?;
+    let hint_cost = field_or(alloc, members, "hint_cost", 10, |a, t| hint_cost_in(a, t))?;
+    let location_check_points = field_or(
+        alloc,
+        members,
+        "location_check_points",
+        1,
+        |a, t| points_in(a, t),
+    )?;
     let release = permission_or_auto(alloc, members, "release")?;
     let collect = permission_or_auto(alloc, members, "collect")?;
     let remaining = field_or_seen(
