@@ -16,7 +16,7 @@ pub enum InvalidKind {
 }
 
 /// What a room tells a session, after Archipelago's network protocol.
-#[derive(Debug, Drop)]
+#[derive(Debug)]
 pub enum ServerPacket {
     /// The room, to a session that was just opened.
     RoomInfo(RoomInfo),
@@ -65,4 +65,31 @@ pub enum ServerPacket {
     SetReply(SetReply),
     /// A message of a client.
     Bounced(Bounced),
+}
+
+/// By hand, so that whoever lets it go calls this, and what it frees is listed once.
+impl Drop for ServerPacket {
+    fn drop(self) {
+        match self {
+            ServerPacket::RoomInfo(_) => {}
+            ServerPacket::Connected(_) => {}
+            ServerPacket::ReceivedItems { index: _, items: _ } => {}
+            ServerPacket::RoomUpdate {
+                checked_locations: _,
+                hint_points: _,
+            } => {}
+            ServerPacket::ConnectionRefused { errors: _ } => {}
+            ServerPacket::LocationInfo { locations: _ } => {}
+            ServerPacket::DataPackage(_) => {}
+            ServerPacket::InvalidPacket {
+                kind: _,
+                original_cmd: _,
+                text: _,
+            } => {}
+            ServerPacket::PrintJson(_) => {}
+            ServerPacket::Retrieved(_) => {}
+            ServerPacket::SetReply(_) => {}
+            ServerPacket::Bounced(_) => {}
+        }
+    }
 }

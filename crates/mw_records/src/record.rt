@@ -7,7 +7,7 @@ use crate::stored::Stored;
 use mw_base::{ClientStatus, HintRecord, List, LocId, SlotId, TeamId};
 
 /// An entry of a room's journal.
-#[derive(Debug, Drop)]
+#[derive(Debug)]
 pub enum Record {
     /// A slot of a team checked locations of its own.
     Checks(CheckedLocations),
@@ -38,6 +38,24 @@ pub enum Record {
     Hint(HintRecord),
     /// A key of the data storage holds a value.
     Store(Stored),
+}
+
+/// By hand, so that whoever lets it go calls this, and what it frees is listed once.
+impl Drop for Record {
+    fn drop(self) {
+        match self {
+            Record::Checks(_) => {}
+            Record::Release { team: _, slot: _ } => {}
+            Record::Collect { team: _, slot: _ } => {}
+            Record::Status {
+                team: _,
+                slot: _,
+                status: _,
+            } => {}
+            Record::Hint(_) => {}
+            Record::Store(_) => {}
+        }
+    }
 }
 
 impl Record {

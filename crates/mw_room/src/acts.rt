@@ -224,7 +224,7 @@ impl Room {
         ensures { room_view self.new ≡ planned plan (room_view self.old) }
     {
         let Plan {
-            effect,
+            mut effect,
             length,
             opened,
             changes,
@@ -236,20 +236,14 @@ impl Room {
             store_growth,
             sessions_growth,
         } = plan;
-        let Effect {
-            team,
-            new,
-            status,
-            hints,
-            stored,
-            ..
-        } = effect;
         self.standing
             .log
-            .add_grown(team, new.as_slice(), log_growth);
-        self.standing.hints.add_grown(hints.as_slice(), hint_growth);
-        set_status(&mut self.standing.statuses, status, status_growth);
-        put_stored(&mut self.standing.store, stored, store_growth);
+            .add_grown(effect.team, effect.new.as_slice(), log_growth);
+        self.standing
+            .hints
+            .add_grown(effect.hints.as_slice(), hint_growth);
+        set_status(&mut self.standing.statuses, effect.status, status_growth);
+        put_stored(&mut self.standing.store, effect.stored.take(), store_growth);
         self.recorded = length;
         self.opened = opened;
         change_all(&mut self.sessions, changes, length);

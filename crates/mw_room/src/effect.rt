@@ -42,10 +42,20 @@ pub enum Audience {
 }
 
 /// A packet beside who hears it.
-#[derive(Debug, Drop)]
+#[derive(Debug)]
 pub struct Announced {
     pub audience: Audience,
     pub packet: ServerPacket,
+}
+
+/// By hand, so that whoever lets it go calls this, and what it frees is listed once.
+impl Drop for Announced {
+    fn drop(self) {
+        let Announced {
+            audience: _,
+            packet: _,
+        } = self;
+    }
 }
 
 /// A key of the data storage with its new value.
@@ -75,7 +85,6 @@ impl Model for NewValue {
 /// hints, the slot that pays for one, and a key's value; its answers to the sender, whether the
 /// sender is owed its whole view, the member that it becomes, if it becomes one, and what is told
 /// to several.
-#[derive(Drop)]
 pub struct Effect {
     pub records: List<Record>,
     pub team: TeamId,
@@ -88,6 +97,25 @@ pub struct Effect {
     pub whole: bool,
     pub member: Option<Member>,
     pub announced: List<Announced>,
+}
+
+/// By hand, so that whoever lets it go calls this, and what it frees is listed once.
+impl Drop for Effect {
+    fn drop(self) {
+        let Effect {
+            records: _,
+            team: _,
+            new: _,
+            status: _,
+            hints: _,
+            payer: _,
+            stored: _,
+            answers: _,
+            whole: _,
+            member: _,
+            announced: _,
+        } = self;
+    }
 }
 
 /// An effect that records nothing.

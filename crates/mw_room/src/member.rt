@@ -8,7 +8,7 @@ use std::marker::Model;
 
 /// The team and slot that a session plays, the items that it wants, what kind of client it is, and
 /// the keys of the data storage that it watches.
-#[derive(Debug, Drop)]
+#[derive(Debug)]
 pub struct Member {
     /// The team.
     pub team: TeamId,
@@ -20,6 +20,19 @@ pub struct Member {
     pub tags: List<Text>,
     /// The keys of the data storage whose changes it is told of.
     pub keys: List<Text>,
+}
+
+/// By hand, so that whoever lets it go calls this, and what it frees is listed once.
+impl Drop for Member {
+    fn drop(self) {
+        let Member {
+            team: _,
+            slot: _,
+            mask: _,
+            tags: _,
+            keys: _,
+        } = self;
+    }
 }
 
 impl Model for Member {

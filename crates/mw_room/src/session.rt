@@ -14,7 +14,6 @@ const MOST_BYTES: usize = 16_777_216;
 /// An open session: its number, whom it plays, its untaken messages with their bytes, counted up to
 /// the most that are kept, the greatest length of the journal that one of them carries, and whether
 /// it was owed more than it may keep.
-#[derive(Drop)]
 pub struct Session {
     pub number: u64,
     pub member: Option<Member>,
@@ -23,6 +22,20 @@ pub struct Session {
     pub shows: u64,
     pub overrun: bool,
     ghost counted: { bytes ≡ bytes_kept untaken.items },
+}
+
+/// By hand, so that whoever lets it go calls this, and what it frees is listed once.
+impl Drop for Session {
+    fn drop(self) {
+        let Session {
+            number: _,
+            member: _,
+            untaken: _,
+            bytes: _,
+            shows: _,
+            overrun: _,
+        } = self;
+    }
 }
 
 /// What an event does to the session at an index: the member that it becomes, if it becomes one,

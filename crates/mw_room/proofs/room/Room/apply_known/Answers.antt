@@ -1,4 +1,4 @@
-use Rattle.std.proofs.Common.{ℕ, ℤ, ◌≡◌, ◌++◌, List, length, map, ap, ap₂, ◌∙◌, arith}
+use Rattle.std.proofs.Common.{ℕ, ℤ, ◌≡◌, ◌++◌, List, Option, length, map, ap, ap₂, ◌∙◌, arith}
 use Rattle.std.proofs.lemmas.List.{map-append}
 use Rattle.mw_model.specs.Seed.{Seed}
 use Rattle.mw_protocol.specs.Checks.{Check}
@@ -11,8 +11,9 @@ use Rattle.mw_checks.specs.Log.{checks_of}
 use Rattle.mw_records.specs.Records.{hint_view}
 use Rattle.mw_base.specs.declared.hint.HintRecord.{HintRecord}
 use Rattle.mw_room.specs.Known.{Shown}
-use Rattle.mw_room.specs.Parts.{standing_of, stated_by}
+use Rattle.mw_room.specs.Parts.{kept_by, standing_of, stated_by}
 use Rattle.mw_room.specs.Views.{session_view, changed, left, plan_records}
+use Rattle.mw_room.specs.declared.effect.NewValue.{NewValue}
 use Rattle.mw_room.specs.declared.session.Session.{Session}
 use Rattle.mw_room.proofs.Places.{written_over}
 use Rattle.mw_room.proofs.room.Room.apply_known.Goals as goal
@@ -28,7 +29,7 @@ returns c =
     let comes : record { checked = c.add_grown.new.self.checked; statuses = c.set_status.new.statuses.items; hints = c.add_grown-2.new.self.hints; storage = c.put_stored.new.store.kept } ≡ steps now.log.seed (standing_of now) (plan_records plan) =
     ap₂ (λ (cs : List Check) (ss : List SlotStatus). record { checked = cs; statuses = ss; hints = c.add_grown-2.new.self.hints; storage = c.put_stored.new.store.kept }) checked c.set_status.ensures
     ∙ ap (λ (hs : List Hint). record { checked = now.log.checked ++ checks_of plan.effect.team plan.effect.new; statuses = stated_by plan.effect.status now.statuses.items; hints = hs; storage = c.put_stored.new.store.kept }) hints
-    ∙ ap (λ (ks : List Kept). record { checked = now.log.checked ++ checks_of plan.effect.team plan.effect.new; statuses = stated_by plan.effect.status now.statuses.items; hints = hinted_all now.hints.hints (map hint_view plan.effect.hints); storage = ks }) c.put_stored.ensures
+    ∙ ap (λ (ks : List Kept). record { checked = now.log.checked ++ checks_of plan.effect.team plan.effect.new; statuses = stated_by plan.effect.status now.statuses.items; hints = hinted_all now.hints.hints (map hint_view plan.effect.hints); storage = ks }) (c.put_stored.ensures ∙ ap (λ (s : Option NewValue). kept_by s now.store.kept) c.take.ensures.value)
     ∙ c.requires.logged.comes_to in
     let changed_ones : map session_view c.change_all.new.sessions ≡ changed plan.length old plan.changes.items =
     c.change_all.ensures ∙ ap (λ (ss : List Session). changed plan.length (map session_view ss) plan.changes.items) c.deref_mut.ensures.value in
