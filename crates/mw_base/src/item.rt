@@ -18,7 +18,17 @@ impl Model for NetItem {
 
     ghost Value = { plain.NetItem };
 
-    ghost view = { λ i. record { item = i.item; location = i.location; player = i.player; flags = i.flags } };
+    ghost view = { λ i. record {
+      item = i.item;
+      location = i.location;
+      player = i.player;
+      flags = i.flags;
+    } };
 
-    ghost inverse = { λ i. record { item = i.item; location = i.location; player = i.player; flags = i.flags } };
+    ghost inverse = { λ i. record {
+      item = i.item;
+      location = i.location;
+      player = i.player;
+      flags = i.flags;
+    } };
 }

@@ -24,7 +24,9 @@ impl<'a> Model for Wanted<'a> {
 
     ghost view = { λ w. w.wanted.now };
 
-    ghost invariant = { λ w. (q : List ℕ) → hashed.contains_by (λ k. bytes_eq q k.now) w.names ≡ has_text (unwrap_or w.wanted.now []) q };
+    ghost invariant = { λ w. (q : List ℕ)
+        → hashed.contains_by (λ k. bytes_eq q k.now) w.names
+        ≡ has_text (unwrap_or w.wanted.now []) q };
 }
 
 impl<'a> Wanted<'a> {

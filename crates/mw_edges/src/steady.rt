@@ -238,8 +238,10 @@ impl Folder for SteadyFolder {
     ghost refusals = { λ s. s.refused };
 
     fn read_file(&mut self, alloc: Global, name: &Text, limit: u64) -> Result<FileRead, FolderError>
-        ensures read { IfOk result (GivesFile (steady_file self.old.files self.old.disks name.now) limit) }
-        ensures same { (n : List ℕ) → steady_file self.new.files self.new.disks n ≡ steady_file self.old.files self.old.disks n }
+        ensures read { IfOk result
+            (GivesFile (steady_file self.old.files self.old.disks name.now) limit) }
+        ensures same { (n : List ℕ) → steady_file self.new.files self.new.disks n
+            ≡ steady_file self.old.files self.old.disks n }
         ensures files { self.new.files ≡ self.old.files }
         ensures steady { result ≢ Err FolderError.Failed }
         ensures cause { HasCause self.old.failed self.new.failed FolderError.Failed result }
@@ -267,13 +269,15 @@ impl Folder for SteadyFolder {
     #[tactic(auto, using(crate::proofs::Replaced::entry_there, crate::proofs::Replaced::others_there))]
     fn write_file(&mut self, alloc: Global, name: &Text, bytes: &[u8]) -> Result<(), FolderError>
         ensures written { OnOk result
-            (IsWritten (steady_file self.old.files self.old.disks name.now) (steady_file self.new.files self.new.disks name.now)
-            bytes.now) }
+            (IsWritten (steady_file self.old.files self.old.disks name.now)
+            (steady_file self.new.files self.new.disks name.now) bytes.now) }
         ensures untold { steady_file self.old.files self.old.disks name.now ≡ None
             → steady_file self.new.files self.new.disks name.now ≡ None }
         ensures others { (n : List ℕ) → n ≢ name.now
-            → steady_file self.new.files self.new.disks n ≡ steady_file self.old.files self.old.disks n }
-        ensures files { OnOk result (self.new.files ≡ with_entry self.old.files name.now bytes.now) }
+            → steady_file self.new.files self.new.disks n
+            ≡ steady_file self.old.files self.old.disks n }
+        ensures files { OnOk result
+            (self.new.files ≡ with_entry self.old.files name.now bytes.now) }
         ensures same { OnErr result (self.new.files ≡ self.old.files) }
         ensures steady { result ≢ Err FolderError.Failed }
         ensures cause { HasCause self.old.failed self.new.failed FolderError.Failed result }

@@ -22,9 +22,19 @@ impl Model for ItemCopy {
 
     ghost Value = { plain.ItemCopy };
 
-    ghost view = { λ c. record { receiver = c.receiver; item = c.item; number = c.number; locality = c.locality } };
+    ghost view = { λ c. record {
+      receiver = c.receiver;
+      item = c.item;
+      number = c.number;
+      locality = c.locality;
+    } };
 
-    ghost inverse = { λ c. record { receiver = c.receiver; item = c.item; number = c.number; locality = c.locality } };
+    ghost inverse = { λ c. record {
+      receiver = c.receiver;
+      item = c.item;
+      number = c.number;
+      locality = c.locality;
+    } };
 }
 
 impl ItemCopy {

@@ -34,7 +34,12 @@ impl Model for Lists {
 
     ghost Value = { plain.Lists };
 
-    ghost view = { λ l. record { asked = l.asked; openings = l.openings; helping = l.helping; filling = l.filling } };
+    ghost view = { λ l. record {
+      asked = l.asked;
+      openings = l.openings;
+      helping = l.helping;
+      filling = l.filling;
+    } };
 }
 
 /// The copies and the locations of a joint, in the order of its tables; `Memory` where memory ran out.

@@ -20,9 +20,19 @@ impl Model for Opening {
 
     ghost Value = { plain.Opening };
 
-    ghost view = { λ s. record { place = s.place; slot = s.slot; kind = s.kind; filler = s.filler } };
+    ghost view = { λ s. record {
+      place = s.place;
+      slot = s.slot;
+      kind = s.kind;
+      filler = s.filler;
+    } };
 
-    ghost inverse = { λ s. record { place = s.place; slot = s.slot; kind = s.kind; filler = s.filler } };
+    ghost inverse = { λ s. record {
+      place = s.place;
+      slot = s.slot;
+      kind = s.kind;
+      filler = s.filler;
+    } };
 }
 
 impl Opening {

@@ -36,7 +36,8 @@ pub fn append<D: Disk>(
         → Appends D.may_leave D.moment D.left_since D.faults digest kept place risked
         (map record_view records.now) journal.old result journal.new }
     ensures quiet { records.now ≡ [] → journal.new ≡ journal.old }
-    ensures tells { is_some (D.told (disk_of journal.new)) ≡ is_some (D.told (disk_of journal.old)) }
+    ensures tells { is_some (D.told (disk_of journal.new))
+        ≡ is_some (D.told (disk_of journal.old)) }
     ensures count { D.faults (disk_of journal.old) ≤ D.faults (disk_of journal.new) }
 {
     if records.is_empty() {

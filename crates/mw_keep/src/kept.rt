@@ -155,7 +155,8 @@ impl<D: Disk> KeptRoom<D> {
     /// Makes an event: appends its records, if it has some, and then does it.
     fn happen(&mut self, event: &Event) -> Reply
         ensures origin { origin_of self.new ≡ origin_of self.old }
-        ensures tells { is_some (D.told (kept_disk self.new)) ≡ is_some (D.told (kept_disk self.old)) }
+        ensures tells { is_some (D.told (kept_disk self.new))
+            ≡ is_some (D.told (kept_disk self.old)) }
         ensures count { D.faults (kept_disk self.old) ≤ D.faults (kept_disk self.new) }
         ensures goes { (digest : List ℕ) (life : plain.Life)
             → Keeps D.may_leave digest (plain.counted life) self.old → life.stopped ≡ None
@@ -176,7 +177,8 @@ impl<D: Disk> KeptRoom<D> {
     /// Makes a call that isn't refused.
     fn go(&mut self, call: Call) -> Reply
         ensures origin { origin_of self.new ≡ origin_of self.old }
-        ensures tells { is_some (D.told (kept_disk self.new)) ≡ is_some (D.told (kept_disk self.old)) }
+        ensures tells { is_some (D.told (kept_disk self.new))
+            ≡ is_some (D.told (kept_disk self.old)) }
         ensures count { D.faults (kept_disk self.old) ≤ D.faults (kept_disk self.new) }
         ensures goes { (digest : List ℕ) (life : plain.Life)
             → Keeps D.may_leave digest (plain.counted life) self.old
@@ -207,7 +209,8 @@ impl<D: Disk> KeptRoom<D> {
             → Keeps D.may_leave digest life self.old
             → Acts D.may_leave D.moment D.left_since D.faults digest life
             (call_view call) self.old (reply_view result) self.new }
-        ensures tells { is_some (D.told (kept_disk self.new)) ≡ is_some (D.told (kept_disk self.old)) }
+        ensures tells { is_some (D.told (kept_disk self.new))
+            ≡ is_some (D.told (kept_disk self.old)) }
         ensures count { D.faults (kept_disk self.old) ≤ D.faults (kept_disk self.new) }
         ensures origin { origin_of self.new ≡ origin_of self.old }
     {

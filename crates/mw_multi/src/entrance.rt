@@ -25,5 +25,10 @@ impl Model for Entrance {
 
     ghost coded = { Prim.hlevel (codes, coded_rule) };
 
-    ghost view = { λ e. record { name = e.name; from = e.from; to = e.to; rule = rule_view e.rule } };
+    ghost view = { λ e. record {
+      name = e.name;
+      from = e.from;
+      to = e.to;
+      rule = rule_view e.rule;
+    } };
 }

@@ -24,7 +24,15 @@ impl<'a> Model for Joint<'a> {
 
     ghost coded = { Prim.hlevel (codes, coded_rule) };
 
-    ghost view = { λ j. record { teams = j.players.now.teams; room = j.players.now.room; slots = j.slots } };
+    ghost view = { λ j. record {
+      teams = j.players.now.teams;
+      room = j.players.now.room;
+      slots = j.slots;
+    } };
 
-    ghost invariant = { λ j. IsJoint record { teams = j.players.now.teams; room = j.players.now.room; slots = j.slots } };
+    ghost invariant = { λ j. IsJoint record {
+      teams = j.players.now.teams;
+      room = j.players.now.room;
+      slots = j.slots;
+    } };
 }

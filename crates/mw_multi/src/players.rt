@@ -21,5 +21,9 @@ impl Model for Players {
 
     ghost view = { λ p. record { teams = p.teams; room = p.room; players = p.players } };
 
-    ghost invariant = { λ p. IsPlayers record { teams = p.teams; room = p.room; players = p.players } };
+    ghost invariant = { λ p. IsPlayers record {
+      teams = p.teams;
+      room = p.room;
+      players = p.players;
+    } };
 }

@@ -31,8 +31,10 @@ impl<'a> Model for Catalog<'a> {
 
     ghost view = { λ c. c.game.now };
 
-    ghost invariant = { λ c. ((q : ℤ) → hashed.contains int_eq c.items q ≡ has_id c.game.now.item_name_to_id q)
-        × ((q : ℤ) → hashed.contains int_eq c.locations q ≡ has_id c.game.now.location_name_to_id q) };
+    ghost invariant = { λ c. ((q : ℤ)
+        → hashed.contains int_eq c.items q ≡ has_id c.game.now.item_name_to_id q)
+        × ((q : ℤ)
+        → hashed.contains int_eq c.locations q ≡ has_id c.game.now.location_name_to_id q) };
 }
 
 impl<'a> Catalog<'a> {

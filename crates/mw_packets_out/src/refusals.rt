@@ -51,7 +51,11 @@ pub(crate) fn invalid_packet_tree(
     text: &Text,
 ) -> Result<Tree, Memory>
     ensures value { IfOk result (λ t. view t
-        ≡ invalid_packet_json (record { kind = kind_view kind; cmd = original_cmd.now; why = text.now })) }
+        ≡ invalid_packet_json record {
+          kind = kind_view kind;
+          cmd = original_cmd.now;
+          why = text.now;
+        }) }
     ensures writable { IfOk result (λ t. IsWritable (view t)) }
 {
     let original_cmd = text_or_null_tree(alloc, original_cmd)?;

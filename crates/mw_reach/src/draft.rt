@@ -19,7 +19,12 @@ impl Model for Draft {
 
     ghost Value = { Rows };
 
-    ghost view = { λ d. record { rows = d.rows; origins = d.origins; by_place = d.by_place; by_item = d.by_item } };
+    ghost view = { λ d. record {
+      rows = d.rows;
+      origins = d.origins;
+      by_place = d.by_place;
+      by_item = d.by_item;
+    } };
 }
 
 impl Draft {
