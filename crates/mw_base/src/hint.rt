@@ -2,7 +2,7 @@ use crate::ids::{LocId, SlotId, TeamId};
 use crate::status::HintStatus;
 
 /// What is recorded of hints.
-#[derive(Clone, Copy, Debug, PartialEq, Eq)]
+#[derive(Clone, Copy, PartialEq, Eq)]
 pub enum HintRecord {
     /// A hint of where a finder's location stands is made.
     Made {

@@ -4,7 +4,7 @@ ghost use Rattle.std.specs.Option.{SomeIff};
 use std::marker::Model;
 
 /// A team's number, 0 to 7.
-#[derive(Clone, Copy, Debug, PartialEq, Eq, PartialOrd, Ord, Hash)]
+#[derive(Clone, Copy, Debug, PartialEq, Eq, Hash)]
 pub struct TeamId {
     value: u8,
 }
@@ -41,7 +41,7 @@ impl TeamId {
 }
 
 /// A slot's number, 1 to 1,024.
-#[derive(Clone, Copy, Debug, PartialEq, Eq, PartialOrd, Ord, Hash)]
+#[derive(Clone, Copy, Debug, PartialEq, Eq, Hash)]
 pub struct SlotId {
     value: u16,
 }
@@ -78,7 +78,7 @@ impl SlotId {
 }
 
 /// An item's number, 1 to 2^53 - 1.
-#[derive(Clone, Copy, Debug, PartialEq, Eq, PartialOrd, Ord, Hash)]
+#[derive(Clone, Copy, PartialEq, Eq)]
 pub struct ItemId {
     value: i64,
 }
@@ -115,7 +115,7 @@ impl ItemId {
 }
 
 /// A location's number, 1 to 2^53 - 1.
-#[derive(Clone, Copy, Debug, PartialEq, Eq, PartialOrd, Ord, Hash)]
+#[derive(Clone, Copy, Debug, PartialEq, Eq, Hash)]
 pub struct LocId {
     value: i64,
 }
@@ -152,7 +152,7 @@ impl LocId {
 }
 
 /// A session's number.
-#[derive(Clone, Copy, Debug, PartialEq, Eq, PartialOrd, Ord, Hash)]
+#[derive(Clone, Copy)]
 pub struct SessionId {
     value: u64,
 }

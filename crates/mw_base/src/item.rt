@@ -1,7 +1,7 @@
 use std::marker::Model;
 
 /// An item as the protocol shows it.
-#[derive(Clone, Copy, Debug, PartialEq, Eq)]
+#[derive(Clone, Copy, PartialEq, Eq)]
 pub struct NetItem {
     /// The item's number.
     pub item: i64,

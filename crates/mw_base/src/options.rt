@@ -4,7 +4,7 @@ use crate::text::Text;
 use std::marker::Model;
 
 /// Who may use a command of the room, and when.
-#[derive(Clone, Copy, Debug, PartialEq, Eq)]
+#[derive(Clone, Copy, Debug)]
 pub enum Permission {
     /// Never.
     Disabled,

@@ -5,7 +5,7 @@ ghost use Rattle.mw_model.specs.Statuses as plain;
 use std::marker::Model;
 
 /// What a slot is doing: unknown 0, connected 5, ready 10, playing 20, goal reached 30.
-#[derive(Clone, Copy, Debug, PartialEq, Eq)]
+#[derive(Clone, Copy)]
 pub struct ClientStatus {
     value: u8,
 }
@@ -42,7 +42,7 @@ impl ClientStatus {
 }
 
 /// What is asked of a hint's location: unspecified 0, no priority 10, avoid 20, priority 30.
-#[derive(Clone, Copy, Debug, PartialEq, Eq)]
+#[derive(Clone, Copy, PartialEq, Eq)]
 pub struct HintStatus {
     value: u8,
 }

@@ -6,7 +6,7 @@ use mw_base::{Memory, Text};
 use std::alloc::Global;
 
 /// What a client says.
-#[derive(Debug, Drop)]
+#[derive(Drop)]
 pub enum Said {
     /// A text for all.
     Chat(Text),

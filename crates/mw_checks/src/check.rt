@@ -2,7 +2,7 @@ use mw_base::{LocId, SlotId, TeamId};
 use std::marker::Model;
 
 /// A location of a slot, checked in a team.
-#[derive(Clone, Copy, Debug, PartialEq, Eq)]
+#[derive(Clone, Copy)]
 pub struct Check {
     /// The team, 0 to 7.
     pub team: TeamId,

@@ -5,7 +5,7 @@ use mw_base::{NetItem, SlotId};
 
 /// Which items a session of a slot asks for: bit 1 of the mask those from other worlds, bit 2
 /// those from its own, bit 4 those that it starts with.
-#[derive(Clone, Copy, Debug, PartialEq, Eq)]
+#[derive(Clone, Copy)]
 pub(crate) struct Handling {
     pub(crate) slot: SlotId,
     pub(crate) mask: u8,

@@ -1,7 +1,7 @@
 use mw_offline::{CheckWords, DriveWords, GenerateWords, NewRoomWords, ReachWords};
 
 /// What a command line asks for.
-#[derive(Debug, Drop)]
+#[derive(Drop)]
 pub enum CommandLine {
     /// A seed file is to be made.
     Generate(GenerateWords),

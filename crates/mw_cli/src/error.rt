@@ -4,7 +4,7 @@ use mw_base::Memory;
 use std::alloc::{AllocError, AllocFailed};
 
 /// Why words ask for nothing.
-#[derive(Clone, Copy, Debug, PartialEq, Eq)]
+#[derive(Clone, Copy)]
 pub enum WordsError {
     /// They are no command.
     BadWords,

@@ -2,7 +2,7 @@ use crate::disk::DiskError;
 use mw_base::Bytes;
 
 /// What is asked of a disk.
-#[derive(Debug, Drop)]
+#[derive(Drop)]
 pub enum DiskCall {
     /// So many bytes from a place on.
     Read {
@@ -28,7 +28,7 @@ pub enum DiskCall {
 }
 
 /// A call that was made.
-#[derive(Debug, Drop)]
+#[derive(Drop)]
 pub struct MadeCall {
     /// What was asked.
     pub call: DiskCall,

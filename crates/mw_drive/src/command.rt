@@ -3,7 +3,7 @@ use mw_packets_in::Inbound;
 
 /// What a line of a script asks for. Sessions are numbered from 1 in the order of opening; a number
 /// may be no session's.
-#[derive(Debug, Drop)]
+#[derive(Drop)]
 pub enum Command {
     /// A session is opened.
     Open {

@@ -4,7 +4,7 @@ ghost use Rattle.mw_fill.specs.Copies.{is_of};
 use mw_multi::Class;
 
 /// Items that are placed together.
-#[derive(Clone, Copy, Debug, PartialEq, Eq)]
+#[derive(Clone, Copy)]
 pub enum Group {
     /// Those of class progression, which rules ask for.
     Asked,

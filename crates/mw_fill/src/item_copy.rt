@@ -5,7 +5,7 @@ use mw_multi::Put;
 use std::marker::Model;
 
 /// A copy of an item of a pool.
-#[derive(Clone, Copy, Debug, PartialEq, Eq)]
+#[derive(Clone, Copy)]
 pub(crate) struct ItemCopy {
     /// The receiver's number, from 1.
     pub receiver: u16,

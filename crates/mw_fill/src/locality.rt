@@ -3,7 +3,7 @@ ghost use Rattle.mw_fill.specs.Copies.{locality_of};
 ghost use Rattle.mw_fill.specs.Openings.{may_stand};
 
 /// In which slots' worlds an item may stand.
-#[derive(Clone, Copy, Debug, PartialEq, Eq)]
+#[derive(Clone, Copy)]
 pub enum Locality {
     /// In each.
     Anywhere,

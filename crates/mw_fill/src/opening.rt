@@ -3,7 +3,7 @@ use mw_multi::LocKind;
 use std::marker::Model;
 
 /// A location with an id.
-#[derive(Clone, Copy, Debug, PartialEq, Eq)]
+#[derive(Clone, Copy)]
 pub(crate) struct Opening {
     /// Its number over all slots.
     pub place: u32,

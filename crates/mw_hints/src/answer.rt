@@ -1,7 +1,7 @@
 use mw_base::{HintRecord, Text};
 
 /// What a player wants to know.
-#[derive(Debug, Drop)]
+#[derive(Drop)]
 pub enum Wanted {
     /// Where the slot's item of this name is.
     Item(Text),
@@ -10,7 +10,7 @@ pub enum Wanted {
 }
 
 /// What a player is answered who wants to buy a hint.
-#[derive(Clone, Copy, Debug, PartialEq, Eq)]
+#[derive(Clone, Copy, PartialEq, Eq)]
 pub enum HintAnswer {
     /// The hint to record, which is paid for.
     Bought(HintRecord),

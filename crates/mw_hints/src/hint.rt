@@ -2,7 +2,7 @@ use mw_base::{ItemId, LocId, SlotId};
 use std::marker::Model;
 
 /// A hint as it is told: who receives what from whose location.
-#[derive(Clone, Copy, Debug, PartialEq, Eq)]
+#[derive(Clone, Copy, PartialEq, Eq)]
 pub struct Hint {
     /// The slot that receives the item, 1 to 1,024.
     pub receiving_player: u16,

@@ -11,7 +11,7 @@ use mw_base::{HintStatus, LocId, SlotId, TeamId};
 pub(crate) type Key = (TeamId, SlotId, LocId);
 
 /// What is kept of a hint.
-#[derive(Clone, Copy, Debug, PartialEq, Eq)]
+#[derive(Clone, Copy)]
 pub(crate) struct Kept {
     /// Whether it was paid for.
     pub(crate) bought: bool,

@@ -4,7 +4,7 @@ ghost use Rattle.mw_journal.specs.Opening.{gate_in};
 use crate::journal::LIMIT;
 
 /// What stands at a gate.
-#[derive(Clone, Copy, Debug, PartialEq, Eq)]
+#[derive(Clone, Copy)]
 pub(crate) enum Gate {
     /// It isn't open, and holds this byte.
     Shut(u8),

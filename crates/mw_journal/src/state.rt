@@ -1,5 +1,5 @@
 /// Whether a journal takes further batches.
-#[derive(Clone, Copy, Debug, PartialEq, Eq)]
+#[derive(Clone, Copy)]
 pub enum JournalState {
     /// It does.
     Whole,

@@ -3,7 +3,7 @@ use mw_base::{List, Text};
 use std::marker::Model;
 
 /// What is done to a value of the data storage, and with what.
-#[derive(Debug, Drop)]
+#[derive(Drop)]
 pub struct Operation {
     /// Its name, which may be no operation's.
     pub name: Text,
@@ -29,7 +29,7 @@ impl Model for Operation {
 }
 
 /// A change of the data storage, as a client asks for it.
-#[derive(Debug, Drop)]
+#[derive(Drop)]
 pub struct SetPacket {
     /// The key whose value is changed.
     pub key: Text,

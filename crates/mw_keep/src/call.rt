@@ -2,7 +2,7 @@ use mw_base::SessionId;
 use mw_packets_in::{Bad as BadPacket, Packet as ClientPacket};
 
 /// What is asked of a kept room.
-#[derive(Debug, Drop)]
+#[derive(Drop)]
 pub enum Call {
     /// A session is opened, at a time in whole seconds.
     Open {

@@ -1,7 +1,7 @@
 use mw_json::{Kind, Path};
 
 /// Why no room was recovered.
-#[derive(Debug, Drop)]
+#[derive(Drop)]
 pub enum KeepError {
     /// The seed file is refused.
     BadSeed {

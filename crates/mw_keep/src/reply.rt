@@ -1,7 +1,7 @@
 use mw_base::{List, SessionId, Text};
 
 /// What a kept room answers.
-#[derive(Debug, Drop)]
+#[derive(Drop)]
 pub enum Reply {
     /// A session is open, under this number.
     Opened(SessionId),
@@ -20,7 +20,7 @@ pub enum Reply {
 }
 
 /// Why a kept room goes no further.
-#[derive(Clone, Copy, Debug, PartialEq, Eq)]
+#[derive(Clone, Copy)]
 pub enum StopCause {
     /// The disk failed in an append.
     DiskFault,

@@ -12,7 +12,7 @@ use std::alloc::Global;
 use std::marker::Model;
 
 /// How many of each item there are, by the items' numbers over all slots; each count is below 2^31.
-#[derive(Debug, Drop)]
+#[derive(Drop)]
 pub struct Bag {
     counts: Vec<u32>,
 }

@@ -15,7 +15,7 @@ const LISTED: u32 = 4294967294;
 
 /// For each place a list of numbers. A word beside it tells what it is where nothing stands or one number, as at most places,
 /// so that few lists are looked at.
-#[derive(Debug, Drop)]
+#[derive(Drop)]
 pub(crate) struct Entries {
     lists: Vec<List<u32>>,
     words: Vec<u32>,

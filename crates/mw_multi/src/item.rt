@@ -2,7 +2,7 @@ use mw_base::{ItemId, Text};
 use std::marker::Model;
 
 /// What an item is good for.
-#[derive(Clone, Copy, Debug, PartialEq, Eq)]
+#[derive(Clone, Copy, PartialEq, Eq)]
 pub enum Class {
     /// A rule may ask for it.
     Progression,
@@ -15,7 +15,7 @@ pub enum Class {
 }
 
 /// An item of a world.
-#[derive(Debug, Drop)]
+#[derive(Drop)]
 pub struct Item {
     /// 1 to 128 characters, none below U+0020.
     pub name: Text,

@@ -6,7 +6,7 @@ use std::marker::Model;
 /// The worlds of all slots joined. A slot points at its world's tables, so that a world that many slots play stands
 /// once. Places and items are numbered over all slots, slot by slot: a slot's places are its regions in table order and
 /// then its locations.
-#[derive(Debug, Drop)]
+#[derive(Drop)]
 pub struct Joint<'a> {
     /// The players file.
     pub players: &'a Players,

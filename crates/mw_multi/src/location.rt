@@ -3,7 +3,7 @@ use mw_rules::Rule;
 use std::marker::Model;
 
 /// How a location is filled.
-#[derive(Clone, Copy, Debug, PartialEq, Eq)]
+#[derive(Clone, Copy, Debug)]
 pub enum LocKind {
     /// After those with priority.
     Default,

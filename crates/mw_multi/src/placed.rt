@@ -13,7 +13,6 @@ use std::marker::Model;
 
 /// A placement as a table with an entry for each place: the numbers over all slots of the progression item that stands
 /// there, one for each owner of its receiver. Together they are fewer than 2^31.
-#[derive(Debug)]
 pub struct Placed {
     table: Entries,
 }

@@ -3,7 +3,7 @@ use mw_base::{List, RoomOptions};
 use std::marker::Model;
 
 /// A players file: the teams, the settings of the room and the players.
-#[derive(Debug, Drop)]
+#[derive(Drop)]
 pub struct Players {
     /// 1 to 8 teams, which all play the same placement.
     pub teams: u8,

@@ -4,7 +4,7 @@ use mw_base::List;
 use std::marker::Model;
 
 /// A player's slot in a joint.
-#[derive(Debug, Drop)]
+#[derive(Drop)]
 pub struct Slot<'a> {
     /// The player, with a name for each team.
     pub player: &'a Player,

@@ -6,7 +6,7 @@ use mw_rules::Rule;
 use std::marker::Model;
 
 /// So many copies of an item.
-#[derive(Clone, Copy, Debug, PartialEq, Eq)]
+#[derive(Clone, Copy, Debug)]
 pub struct PoolEntry {
     /// An item with an id, by its index from 0.
     pub item: u32,
@@ -26,7 +26,6 @@ impl Model for PoolEntry {
 
 /// The tables of one world. A region or an item is its index from 0 in its list; a place in a rule counts the regions
 /// and then the locations, from 0.
-#[derive(Debug)]
 pub struct World {
     /// The game's name, 1 to 128 characters, none below U+0020.
     pub game: Text,

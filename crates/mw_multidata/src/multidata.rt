@@ -3,7 +3,6 @@ use mw_base::{List, RoomOptions, SlotId, SphereList, Text};
 use std::marker::Model;
 
 /// A seed, which keeps the rules of its file's format. What keeps them is written and read again.
-#[derive(Debug)]
 pub struct Multidata {
     /// 1 to 128 characters.
     pub seed_name: Text,

@@ -2,7 +2,7 @@ use mw_base::{ItemId, List, LocId, SlotId, Text};
 use std::marker::Model;
 
 /// A name with its id.
-#[derive(Debug, Drop)]
+#[derive(Drop)]
 pub struct NamedId {
     /// 1 to 128 characters, none below U+0020.
     pub name: Text,
@@ -19,7 +19,7 @@ impl Model for NamedId {
 }
 
 /// A game, with the names of its items and of its locations in byte order.
-#[derive(Debug, Drop)]
+#[derive(Drop)]
 pub struct Game {
     /// 1 to 128 characters, none below U+0020.
     pub name: Text,
@@ -42,7 +42,7 @@ impl Model for Game {
 }
 
 /// An item that a slot starts with.
-#[derive(Clone, Copy, Debug, PartialEq, Eq)]
+#[derive(Clone, Copy)]
 pub struct StartItem {
     /// An item of the slot's game.
     pub item: ItemId,
@@ -61,7 +61,7 @@ impl Model for StartItem {
 }
 
 /// A player's place in the seed.
-#[derive(Debug, Drop)]
+#[derive(Drop)]
 pub struct Slot {
     /// The player's name in each team, of 1 to 16 characters, none below U+0020.
     pub names: List<Text>,
@@ -80,7 +80,7 @@ impl Model for Slot {
 }
 
 /// A location of a slot, with the item that it holds.
-#[derive(Clone, Copy, Debug, PartialEq, Eq)]
+#[derive(Clone, Copy)]
 pub struct Held {
     /// The slot that finds it.
     pub slot: SlotId,

@@ -7,7 +7,6 @@ use std::alloc::Global;
 use std::marker::Model;
 
 /// A seed, kept for the look-ups of a room.
-#[derive(Debug)]
 pub struct RoomTables {
     multidata: Multidata,
 }

@@ -11,7 +11,7 @@ use mw_seeds::SeedRefusal;
 use std::alloc::Global;
 
 /// Why `check` finds that something isn't right.
-#[derive(Debug, Drop)]
+#[derive(Drop)]
 pub enum CheckCause {
     /// The tables are refused.
     Tables {

@@ -26,7 +26,7 @@ use mw_spheres::playthrough;
 use std::alloc::Global;
 
 /// The words of `check`.
-#[derive(Debug, Drop)]
+#[derive(Drop)]
 pub struct CheckWords {
     /// The players file's name.
     pub players: Text,

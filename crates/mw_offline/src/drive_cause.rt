@@ -9,7 +9,7 @@ use mw_drive::{DriveError, JournalRefusal};
 use std::alloc::Global;
 
 /// Why `drive` refuses what it read, or goes no further.
-#[derive(Debug, Drop)]
+#[derive(Drop)]
 pub enum DriveCause {
     /// The seed file is refused.
     SeedFile {

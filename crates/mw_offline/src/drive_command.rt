@@ -23,7 +23,7 @@ use mw_multidata::digest;
 use std::alloc::Global;
 
 /// The words of `drive`.
-#[derive(Debug, Drop)]
+#[derive(Drop)]
 pub struct DriveWords {
     /// The seed file's name.
     pub multidata: Text,

@@ -11,7 +11,7 @@ use std::alloc::Global;
 use std::fmt::Write;
 
 /// Why `generate` makes no seed file.
-#[derive(Debug, Drop)]
+#[derive(Drop)]
 pub enum GenerateCause {
     /// The tables are refused.
     Tables {

@@ -18,7 +18,7 @@ use mw_edges::{Folder, FolderError, Sink};
 use std::alloc::Global;
 
 /// The words of `generate`.
-#[derive(Debug, Drop)]
+#[derive(Drop)]
 pub struct GenerateWords {
     /// The players file's name.
     pub players: Text,

@@ -17,7 +17,7 @@ use mw_edges::{Folder, FolderError, Sink};
 use std::alloc::Global;
 
 /// The words of `new-room`.
-#[derive(Debug, Drop)]
+#[derive(Drop)]
 pub struct NewRoomWords {
     /// The seed file's name.
     pub multidata: Text,

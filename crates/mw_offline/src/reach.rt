@@ -16,7 +16,7 @@ use mw_edges::{Folder, Sink};
 use std::alloc::Global;
 
 /// The words of `reach`.
-#[derive(Debug, Drop)]
+#[derive(Drop)]
 pub struct ReachWords {
     /// The players file's name.
     pub players: Text,

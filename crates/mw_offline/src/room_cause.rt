@@ -9,7 +9,7 @@ use mw_journal::OpenError;
 use std::alloc::Global;
 
 /// Why `new-room` refuses what it read.
-#[derive(Debug, Drop)]
+#[derive(Drop)]
 pub enum RoomCause {
     /// The seed file is refused.
     SeedFile {

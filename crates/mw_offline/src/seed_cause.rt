@@ -9,7 +9,7 @@ use mw_json::{Kind, Path, kind_word, path_words};
 use std::alloc::Global;
 
 /// Why a seed file is refused.
-#[derive(Debug, Drop)]
+#[derive(Drop)]
 pub enum SeedCause {
     /// What it says.
     File {

@@ -9,7 +9,7 @@ use mw_edges::Sink;
 use std::alloc::Global;
 
 /// Why a command ends before its work is done.
-#[derive(Debug, Drop)]
+#[derive(Drop)]
 pub enum Stop<C> {
     /// The folder, the source or the out sink failed.
     Fault,

@@ -11,7 +11,7 @@ use mw_multi::{JointRefusal, OptionName};
 use std::alloc::Global;
 
 /// Why the tables of a players file are refused.
-#[derive(Debug, Drop)]
+#[derive(Drop)]
 pub enum TableCause {
     /// A players file or world file is over its limit.
     TooLong {

@@ -1,7 +1,7 @@
 use mw_base::Text;
 
 /// What is wrong with what a client sent.
-#[derive(Clone, Copy, Debug, PartialEq, Eq)]
+#[derive(Clone, Copy)]
 pub enum BadKind {
     /// It is no list of packets, or the packet has no command that there is.
     Cmd,
@@ -10,7 +10,7 @@ pub enum BadKind {
 }
 
 /// What stands in a packet's place where it is none.
-#[derive(Debug, Drop)]
+#[derive(Drop)]
 pub struct Bad {
     /// What is wrong.
     pub kind: BadKind,

@@ -16,7 +16,7 @@ use std::alloc::Global;
 use std::marker::Model;
 
 /// The version that a client speaks, each number from -2^63 to 2^64 - 1.
-#[derive(Clone, Copy, Debug, PartialEq, Eq)]
+#[derive(Clone, Copy)]
 pub struct Version {
     /// The first number.
     pub major: i128,
@@ -37,7 +37,7 @@ impl Model for Version {
 }
 
 /// What a session that wants to play a slot says of itself.
-#[derive(Debug, Drop)]
+#[derive(Drop)]
 pub struct Connect {
     /// The slot's name in its team.
     pub name: Text,
@@ -69,7 +69,7 @@ impl Model for Connect {
 }
 
 /// What a session changes about itself.
-#[derive(Debug, Drop)]
+#[derive(Drop)]
 pub struct ConnectUpdate {
     /// Which items the session wants to hear of: 0, 1, 3, 5 or 7; as before where it is absent.
     pub items_handling: Option<u8>,

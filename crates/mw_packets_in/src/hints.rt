@@ -13,7 +13,7 @@ use std::alloc::Global;
 use std::marker::Model;
 
 /// A change of a hint's status.
-#[derive(Debug, Drop)]
+#[derive(Drop)]
 pub struct UpdateHint {
     /// The finder's slot.
     pub player: i128,

@@ -2,7 +2,7 @@ use crate::bad::Bad;
 use crate::packet::Packet;
 
 /// An element of a client's message.
-#[derive(Debug, Drop)]
+#[derive(Drop)]
 pub enum Inbound {
     /// It is a packet.
     Good(Packet),

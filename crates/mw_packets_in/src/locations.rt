@@ -12,7 +12,7 @@ use std::alloc::Global;
 use std::marker::Model;
 
 /// A question for what stands at locations of the session's own slot.
-#[derive(Debug, Drop)]
+#[derive(Drop)]
 pub struct LocationScouts {
     /// Their numbers, some of which may be no location's.
     pub locations: List<i128>,

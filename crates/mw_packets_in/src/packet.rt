@@ -7,7 +7,7 @@ use mw_base::{List, Text};
 use mw_json::SetPacket;
 
 /// What a client asks for, after Archipelago's network protocol. Numbers are from -2^63 to 2^64 - 1.
-#[derive(Debug, Drop)]
+#[derive(Drop)]
 pub enum Packet {
     /// The session wants to play a slot.
     Connect(Connect),

@@ -1,5 +1,5 @@
 /// The packets that have further members.
-#[derive(Clone, Copy, Debug, PartialEq, Eq)]
+#[derive(Clone, Copy)]
 pub(crate) enum Row {
     /// A message for other clients.
     Bounce,

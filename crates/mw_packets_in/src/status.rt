@@ -12,7 +12,7 @@ use std::alloc::Global;
 use std::marker::Model;
 
 /// What the session's slot is doing.
-#[derive(Debug, Drop)]
+#[derive(Drop)]
 pub struct StatusUpdate {
     /// The status: 0 unknown, 5 connected, 10 ready, 20 playing, 30 goal reached.
     pub status: u8,

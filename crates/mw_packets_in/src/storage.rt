@@ -16,7 +16,7 @@ use std::alloc::Global;
 use std::marker::Model;
 
 /// A message for the clients whose game, slot or tag is among these.
-#[derive(Debug, Drop)]
+#[derive(Drop)]
 pub struct Bounce {
     /// Games; none where it is absent.
     pub games: Option<List<Text>>,
@@ -56,7 +56,7 @@ impl Model for Bounce {
 }
 
 /// A question for values of the data storage.
-#[derive(Debug, Drop)]
+#[derive(Drop)]
 pub struct Get {
     /// Their keys.
     pub keys: List<Text>,

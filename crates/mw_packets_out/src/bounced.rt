@@ -11,7 +11,7 @@ use std::alloc::Global;
 use std::marker::Model;
 
 /// A message of a client for those whose game, slot or tag is among these.
-#[derive(Debug, Drop)]
+#[derive(Drop)]
 pub struct Bounced {
     /// Games; none where the message has no such member.
     pub games: Option<List<Text>>,

@@ -9,7 +9,7 @@ use std::alloc::Global;
 use std::marker::Model;
 
 /// The names of games, as a tree that can be written and is read again as it stands.
-#[derive(Debug, Drop)]
+#[derive(Drop)]
 pub struct DataPackage {
     /// An object of the games, without numbers that aren't whole, each object's members ascending
     /// in byte order of their names.

@@ -7,7 +7,7 @@ use crate::values::{Retrieved, SetReply};
 use mw_base::{List, NetItem, Text};
 
 /// What is wrong with what a client sent.
-#[derive(Clone, Copy, Debug, PartialEq, Eq)]
+#[derive(Clone, Copy)]
 pub enum InvalidKind {
     /// It is no list of packets, or the packet has no command that there is.
     Cmd,
@@ -16,7 +16,6 @@ pub enum InvalidKind {
 }
 
 /// What a room tells a session, after Archipelago's network protocol.
-#[derive(Debug)]
 pub enum ServerPacket {
     /// The room, to a session that was just opened.
     RoomInfo(RoomInfo),

@@ -2,7 +2,7 @@ use mw_base::{List, SlotId, TeamId, Text};
 use std::marker::Model;
 
 /// A player of a team.
-#[derive(Debug, Drop)]
+#[derive(Drop)]
 pub struct NetworkPlayer {
     /// The team.
     pub team: TeamId,
@@ -21,7 +21,7 @@ impl Model for NetworkPlayer {
 }
 
 /// What is played in a slot.
-#[derive(Debug, Drop)]
+#[derive(Drop)]
 pub struct NetworkSlot {
     /// The slot.
     pub slot: SlotId,
@@ -40,7 +40,7 @@ impl Model for NetworkSlot {
 }
 
 /// What a session is told once it is connected.
-#[derive(Debug, Drop)]
+#[derive(Drop)]
 pub struct Connected {
     /// The session's team.
     pub team: TeamId,

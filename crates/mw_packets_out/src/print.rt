@@ -10,7 +10,7 @@ use std::alloc::Global;
 use std::marker::Model;
 
 /// A text of the room for its players.
-#[derive(Debug, Drop)]
+#[derive(Drop)]
 pub struct PrintJson {
     /// What kind of print it is: the member `type`.
     pub kind: Text,

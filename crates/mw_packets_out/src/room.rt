@@ -2,7 +2,7 @@ use mw_base::{List, Permission, Text};
 use std::marker::Model;
 
 /// A game, and the checksum of its names.
-#[derive(Debug, Drop)]
+#[derive(Drop)]
 pub struct GameSum {
     /// The game's name.
     pub game: Text,
@@ -19,7 +19,7 @@ impl Model for GameSum {
 }
 
 /// What a session is told first.
-#[derive(Debug, Drop)]
+#[derive(Drop)]
 pub struct RoomInfo {
     /// Whether a password is set.
     pub password: bool,

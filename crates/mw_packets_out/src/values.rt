@@ -11,7 +11,7 @@ use std::alloc::Global;
 use std::marker::Model;
 
 /// The values of keys of the data storage.
-#[derive(Debug, Drop)]
+#[derive(Drop)]
 pub struct Retrieved {
     /// Each key with its value, in ascending byte order of the keys.
     pub keys: List<Member>,
@@ -43,7 +43,7 @@ impl Model for Retrieved {
 }
 
 /// What a change made of a key's value.
-#[derive(Debug, Drop)]
+#[derive(Drop)]
 pub struct SetReply {
     /// The key.
     pub key: Text,

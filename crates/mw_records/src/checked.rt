@@ -2,7 +2,7 @@ use mw_base::{List, LocId, SlotId, TeamId};
 use std::marker::Model;
 
 /// Locations of its own that a slot of a team checked, at least one.
-#[derive(Debug, Drop)]
+#[derive(Drop)]
 pub struct CheckedLocations {
     /// The team.
     pub team: TeamId,

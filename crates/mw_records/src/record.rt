@@ -7,7 +7,6 @@ use crate::stored::Stored;
 use mw_base::{ClientStatus, HintRecord, List, LocId, SlotId, TeamId};
 
 /// An entry of a room's journal.
-#[derive(Debug)]
 pub enum Record {
     /// A slot of a team checked locations of its own.
     Checks(CheckedLocations),

@@ -5,7 +5,7 @@ use mw_base::Memory;
 use std::alloc::{AllocError, AllocFailed};
 
 /// Why reading stops.
-#[derive(Clone, Copy, Debug, PartialEq, Eq)]
+#[derive(Clone, Copy)]
 pub(crate) enum Stop {
     /// No field of its kind begins there.
     Bad,

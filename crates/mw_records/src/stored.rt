@@ -4,7 +4,7 @@ use std::alloc::Global;
 use std::marker::Model;
 
 /// A key of the data storage, and what it holds.
-#[derive(Debug, Drop)]
+#[derive(Drop)]
 pub struct Stored {
     /// The key, shorter than 2^32 bytes.
     pub key: Text,

@@ -19,7 +19,7 @@ use std::alloc::Global;
 use std::marker::Model;
 
 /// Whom a message is for: those who play one of the games or slots, or have one of the tags.
-#[derive(Debug, Drop)]
+#[derive(Drop)]
 pub struct Named {
     /// Games.
     pub games: List<Text>,

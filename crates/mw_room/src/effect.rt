@@ -17,7 +17,7 @@ use std::alloc::Global;
 use std::marker::Model;
 
 /// Who hears what is told to several.
-#[derive(Debug, Drop)]
+#[derive(Drop)]
 pub enum Audience {
     /// Of a print: everybody of a team.
     Team(TeamId),
@@ -42,7 +42,6 @@ pub enum Audience {
 }
 
 /// A packet beside who hears it.
-#[derive(Debug)]
 pub struct Announced {
     pub audience: Audience,
     pub packet: ServerPacket,
@@ -59,7 +58,7 @@ impl Drop for Announced {
 }
 
 /// A key of the data storage with its new value.
-#[derive(Debug, Drop)]
+#[derive(Drop)]
 pub struct NewValue {
     pub key: Text,
     pub value: Tree,

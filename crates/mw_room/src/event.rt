@@ -2,7 +2,7 @@ use mw_base::SessionId;
 use mw_packets_in::{Bad as BadPacket, Packet as ClientPacket};
 
 /// What happens to a room.
-#[derive(Debug, Drop)]
+#[derive(Drop)]
 pub enum Event {
     /// A session is opened, at a time in whole seconds.
     Open {

@@ -24,7 +24,7 @@ pub struct Given {
 }
 
 /// What a member's slot gives, or gets.
-#[derive(Clone, Copy, Debug)]
+#[derive(Clone, Copy)]
 pub enum Giving {
     /// All that its world holds.
     Release,

@@ -8,7 +8,6 @@ use std::marker::Model;
 
 /// The team and slot that a session plays, the items that it wants, what kind of client it is, and
 /// the keys of the data storage that it watches.
-#[derive(Debug)]
 pub struct Member {
     /// The team.
     pub team: TeamId,

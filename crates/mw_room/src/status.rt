@@ -7,7 +7,7 @@ use mw_base::{ClientStatus, Growth, SlotId, TeamId};
 use std::marker::Model;
 
 /// What a slot of a team is doing.
-#[derive(Clone, Copy, Debug, PartialEq, Eq)]
+#[derive(Clone, Copy)]
 pub struct SlotStatus {
     pub team: TeamId,
     pub slot: SlotId,

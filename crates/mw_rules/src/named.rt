@@ -9,7 +9,7 @@ use mw_base::{List, Memory};
 use std::alloc::Global;
 
 /// The items and the places that a rule names, each once, ascending.
-#[derive(Debug, Drop)]
+#[derive(Drop)]
 pub struct Named {
     /// Items' numbers in their slot, from 0.
     pub items: List<u32>,

@@ -13,7 +13,7 @@ const MOST_BYTES: u64 = 4_194_304;
 const MOST_KEYS: u64 = 65_536;
 
 /// What a change makes of a value.
-#[derive(Debug, Drop)]
+#[derive(Drop)]
 pub struct Changed {
     /// The value that was kept, or that the change begins with where none was.
     pub old: Tree,

@@ -1,7 +1,7 @@
 use mw_base::Memory;
 
 /// Why an operation fails.
-#[derive(Clone, Copy, Debug, PartialEq, Eq)]
+#[derive(Clone, Copy)]
 pub(crate) enum Fault {
     /// Its name, its operand or the value is another than stated.
     Bad,

@@ -4,7 +4,7 @@ use mw_rules::Rule;
 use std::marker::Model;
 
 /// A rule whose names are resolved, seen as what it stands for.
-#[derive(Debug, Drop)]
+#[derive(Drop)]
 pub(crate) struct NamedRule {
     pub rule: Rule,
 }
@@ -23,7 +23,7 @@ impl Model for NamedRule {
 }
 
 /// What the names of a world stand for.
-#[derive(Debug, Drop)]
+#[derive(Drop)]
 pub(crate) struct NamedWorld {
     pub origin: u32,
     pub entrances: List<Entrance>,

@@ -17,7 +17,7 @@ use std::alloc::Global;
 use std::marker::Model;
 
 /// What stands in a players file, before its names are judged.
-#[derive(Debug, Drop)]
+#[derive(Drop)]
 pub(crate) struct RawPlayers {
     pub teams: u8,
     pub room: RoomOptions,

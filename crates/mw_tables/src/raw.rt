@@ -4,7 +4,7 @@ use mw_multi::{Item, LocKind};
 use std::marker::Model;
 
 /// An entrance as it is written.
-#[derive(Debug, Drop)]
+#[derive(Drop)]
 pub(crate) struct RawEntrance {
     pub name: Text,
     pub from: Text,
@@ -31,7 +31,7 @@ impl Model for RawEntrance {
 }
 
 /// A location as it is written.
-#[derive(Debug, Drop)]
+#[derive(Drop)]
 pub(crate) struct RawLocation {
     pub name: Text,
     pub id: Option<LocId>,
@@ -62,7 +62,7 @@ impl Model for RawLocation {
 }
 
 /// An entry of the pool as it is written.
-#[derive(Debug, Drop)]
+#[derive(Drop)]
 pub(crate) struct RawEntry {
     pub item: Text,
     pub count: u32,
@@ -77,7 +77,7 @@ impl Model for RawEntry {
 }
 
 /// What stands in a world file, before its names are judged.
-#[derive(Debug, Drop)]
+#[derive(Drop)]
 pub(crate) struct RawWorld {
     pub game: Text,
     pub origin: Text,

@@ -2,7 +2,7 @@ use mw_base::{List, Text};
 use mw_json::Seen;
 
 /// A rule as it is written, with items, regions and locations by their names.
-#[derive(Debug, Drop)]
+#[derive(Drop)]
 pub(crate) enum RawRule {
     Always,
     Never,
