@@ -18,7 +18,8 @@ fn read_member<T: Drop, F: Fn(Global, &str, &Tree) -> Result<T, Refusal>>(
 ) -> Result<T, Refusal>
     requires { F.IsAlwaysCallable read.now }
     ensures { (at : List ℕ → Json → Result T Breach) → ReadsNamed F.Fn read.now at
-        → Gives result (under (Name (member_view member.now).0) (at (member_view member.now).0 (member_view member.now).1)) }
+        → Gives result (under (Name (member_view member.now).0)
+        (at (member_view member.now).0 (member_view member.now).1)) }
 {
     let name = member.name.as_str();
     at_name(alloc, read(alloc, name, &member.value), name)
