@@ -36,10 +36,10 @@ pub fn game_tree(alloc: Global, game: &Game) -> Result<Tree, Memory>
     ensures value { IfOk result (λ t. view t ≡ game_json game.now) }
     ensures writable { IfOk result (λ t. IsWritable (view t)) }
 {
-    let items = ids_tree(alloc, game.item_name_to_id.as_slice())?;
-    let locations = ids_tree(alloc, game.location_name_to_id.as_slice())?;
     let mut parts = List::new(alloc);
+    let items = ids_tree(alloc, game.item_name_to_id.as_slice())?;
     put(alloc, &mut parts, "item_name_to_id", items)?;
+    let locations = ids_tree(alloc, game.location_name_to_id.as_slice())?;
     put(alloc, &mut parts, "location_name_to_id", locations)?;
     Ok(object_tree(parts))
 }

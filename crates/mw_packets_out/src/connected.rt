@@ -43,19 +43,23 @@ pub(crate) fn connected_tree(alloc: Global, it: &Connected) -> Result<Tree, Memo
     ensures value { IfOk result (λ t. view t ≡ connected_json it.now) }
     ensures writable { IfOk result (λ t. IsWritable (view t)) }
 {
-    let checked = ids_tree(alloc, it.checked_locations.as_slice())?;
-    let missing = ids_tree(alloc, it.missing_locations.as_slice())?;
-    let players = players_tree(alloc, it.players.as_slice())?;
-    let slot_data = Tree::Members(List::new(alloc));
-    let slot_info = slot_info_tree(alloc, it.slot_info.as_slice())?;
     let mut parts = List::new(alloc);
+    let checked = ids_tree(alloc, it.checked_locations.as_slice())?;
     put(alloc, &mut parts, "checked_locations", checked)?;
     put_words(alloc, &mut parts, "cmd", "Connected")?;
     put_number(alloc, &mut parts, "hint_points", it.hint_points)?;
+    let missing = ids_tree(alloc, it.missing_locations.as_slice())?;
     put(alloc, &mut parts, "missing_locations", missing)?;
+    let players = players_tree(alloc, it.players.as_slice())?;
     put(alloc, &mut parts, "players", players)?;
     put_number(alloc, &mut parts, "slot", u64::from(it.slot.get()))?;
-    put(alloc, &mut parts, "slot_data", slot_data)?;
+    put(
+        alloc,
+        &mut parts,
+        "slot_data",
+        Tree::Members(List::new(alloc)),
+    )?;
+    let slot_info = slot_info_tree(alloc, it.slot_info.as_slice())?;
     put(alloc, &mut parts, "slot_info", slot_info)?;
     put_number(alloc, &mut parts, "team", u64::from(it.team.get()))?;
     Ok(Tree::Members(parts))

@@ -71,16 +71,15 @@ fn front(alloc: Global, info: &RoomInfo) -> Result<List<Member>, Memory>
     ensures value { IfOk result (λ ms. map member_view ms ≡ room_front info.now) }
     ensures writable { IfOk result (λ ms. MembersAreWritable (members_of (room_front info.now))) }
 {
-    let checksums = checksums_tree(alloc, info.games.as_slice())?;
-    let games = games_tree(alloc, info.games.as_slice())?;
-    let version = version_tree(alloc)?;
     let cost = u64::from(info.hint_cost);
     let points = u64::from(info.location_check_points);
     let mut parts = List::new(alloc);
     put_words(alloc, &mut parts, "cmd", "RoomInfo")?;
+    let checksums = checksums_tree(alloc, info.games.as_slice())?;
     put(alloc, &mut parts, "datapackage_checksums", checksums)?;
+    let games = games_tree(alloc, info.games.as_slice())?;
     put(alloc, &mut parts, "games", games)?;
-    put(alloc, &mut parts, "generator_version", version)?;
+    put(alloc, &mut parts, "generator_version", version_tree(alloc)?)?;
     put_number(alloc, &mut parts, "hint_cost", cost)?;
     put_number(alloc, &mut parts, "location_check_points", points)?;
     Ok(parts)
@@ -91,17 +90,18 @@ fn rest(alloc: Global, info: &RoomInfo) -> Result<List<Member>, Memory>
     ensures value { IfOk result (λ ms. map member_view ms ≡ room_rest info.now) }
     ensures writable { IfOk result (λ ms. MembersAreWritable (members_of (room_rest info.now))) }
 {
-    let password = Tree::Flag(info.password);
-    let permissions = permissions_tree(alloc, info)?;
-    let tags = Tree::Many(List::new(alloc));
-    let version = version_tree(alloc)?;
     let mut parts = List::new(alloc);
-    put(alloc, &mut parts, "password", password)?;
-    put(alloc, &mut parts, "permissions", permissions)?;
+    put(alloc, &mut parts, "password", Tree::Flag(info.password))?;
+    put(
+        alloc,
+        &mut parts,
+        "permissions",
+        permissions_tree(alloc, info)?,
+    )?;
     put_words(alloc, &mut parts, "seed_name", info.seed_name.as_str())?;
-    put(alloc, &mut parts, "tags", tags)?;
+    put(alloc, &mut parts, "tags", Tree::Many(List::new(alloc)))?;
     put_number(alloc, &mut parts, "time", info.time)?;
-    put(alloc, &mut parts, "version", version)?;
+    put(alloc, &mut parts, "version", version_tree(alloc)?)?;
     Ok(parts)
 }
 
