@@ -11,6 +11,7 @@ mod options;
 mod spheres;
 mod status;
 mod text;
+mod texts;
 
 pub use growth::Growth;
 pub use hint::HintRecord;
@@ -22,3 +23,4 @@ pub use options::{Permission, RoomOptions};
 pub use spheres::{SphereList, Spot};
 pub use status::{ClientStatus, HintStatus};
 pub use text::Text;
+pub use texts::{copy_texts, has_text};

@@ -8,9 +8,8 @@ ghost use Rattle.mw_room.specs.Parts.{IsQuiet};
 ghost use Rattle.mw_room.specs.Views.{effect_view};
 
 use crate::effect::{Audience, Effect, announcing, one_told};
-use crate::hearing::has_text;
-use crate::member::{Member, copy_texts};
-use mw_base::{List, Memory, Text};
+use crate::member::Member;
+use mw_base::{List, Memory, Text, copy_texts, has_text};
 use mw_json::copy_members;
 use mw_multidata::{Multidata, Slot};
 use mw_packets_in::Bounce;

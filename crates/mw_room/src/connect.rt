@@ -4,9 +4,9 @@ ghost use Rattle.mw_protocol.specs.Connecting.{connect_errors as connect_errors_
 ghost use Rattle.mw_room.specs.Joining.{errors_with, mask_asked, member_where as member_where_lem};
 ghost use Rattle.mw_room.specs.Playable.{IsPlayable};
 
-use crate::member::{Member, copy_texts, tags_or};
+use crate::member::{Member, tags_or};
 use crate::playable::playable;
-use mw_base::{List, Memory, SlotId, TeamId, Text};
+use mw_base::{List, Memory, SlotId, TeamId, Text, copy_texts};
 use mw_multidata::{Multidata, Slot};
 use mw_packets_in::{Connect, Version, has_tag};
 use std::alloc::Global;

@@ -8,7 +8,7 @@ ghost use Rattle.mw_room.specs.Written.{AreWritten};
 use crate::bouncing::is_named;
 use crate::effect::{Announced, Audience};
 use crate::member::Member;
-use mw_base::{Memory, Text};
+use mw_base::{Memory, Text, has_text};
 use mw_multidata::Multidata;
 use mw_packets_out::packet_text;
 use std::alloc::Global;
@@ -22,18 +22,6 @@ pub fn written(alloc: Global, announced: &[Announced]) -> Result<Vec<Text>, Memo
         texts.push(packet_text(alloc, &one.packet)?)?;
     }
     Ok(texts)
-}
-
-/// Whether a text is among these.
-pub fn has_text(texts: &[Text], text: &str) -> bool
-    ensures { result ≡ has_text_lem texts.now text.now }
-{
-    for first in texts {
-        if first.as_str() == text {
-            return true;
-        }
-    }
-    false
 }
 
 /// Whether a member hears no print.

@@ -1,7 +1,7 @@
 ghost use Rattle.std.specs.Prelude.{◌≡◌, IfOk, unwrap_or};
 ghost use Rattle.mw_protocol.specs.Connecting.{updated as updated_lem};
 
-use mw_base::{List, Memory, SlotId, TeamId, Text};
+use mw_base::{List, Memory, SlotId, TeamId, Text, copy_texts};
 use mw_packets_in::ConnectUpdate;
 use std::alloc::Global;
 use std::marker::Model;
@@ -63,17 +63,6 @@ impl Member {
             keys: copy_texts(alloc, self.keys.as_slice())?,
         })
     }
-}
-
-/// Copies of texts.
-pub(crate) fn copy_texts(alloc: Global, texts: &[Text]) -> Result<List<Text>, Memory>
-    ensures { IfOk result (λ ts. ts ≡ texts.now) }
-{
-    let mut copies = List::new(alloc);
-    for text in texts {
-        copies.push(Text::of(alloc, text.as_str())?)?;
-    }
-    Ok(copies)
 }
 
 /// Copies of the tags, where there are some.

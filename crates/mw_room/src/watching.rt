@@ -4,9 +4,8 @@ ghost use Rattle.mw_room.specs.Parts.{IsQuiet};
 ghost use Rattle.mw_room.specs.Views.{effect_view};
 
 use crate::effect::{Effect, quiet};
-use crate::hearing::has_text;
-use crate::member::{Member, copy_texts};
-use mw_base::{List, Memory, Text};
+use crate::member::Member;
+use mw_base::{List, Memory, Text, copy_texts, has_text};
 use mw_storage::is_private;
 use std::alloc::Global;
 

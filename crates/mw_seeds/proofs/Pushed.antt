@@ -11,9 +11,6 @@ drop_next xs i x h is =
     let one_more : suc i ≡ i + 1 = omega arith in
     drop-cons xs i x h ∙ ap (λ y. y ∷ drop (suc i) xs) (sym is) ∙ ap (λ k. x ∷ drop k xs) one_more
 
-pub copied : {X : Type 0} (xs before after : List X) (i : ℕ) (x y : X) → i < length xs → y ≡ get_or xs i y → after ≡ before ++ x ∷ [] → before ≡ take i xs → x ≡ y → after ≡ take (i + 1) xs
-copied {X = X} xs before after i x y h is grown so same = grown ∙ ap₂ (λ (zs : List X) z. zs ++ z ∷ []) so same ∙ sym (next xs i y h is)
-
 pub mapped : {X Y : Type 0} (f : X → Y) (xs : List X) (before after : List Y) (i : ℕ) (z : Y) (y : X) → i < length xs → y ≡ get_or xs i y → after ≡ before ++ z ∷ [] → before ≡ map f (take i xs) → z ≡ f y
     → after ≡ map f (take (i + 1) xs)
 mapped {Y = Y} f xs before after i z y h is grown so same =

@@ -5,7 +5,6 @@
 mod agreeing;
 mod catalog;
 mod checking;
-mod copies;
 mod file_puts;
 mod keys;
 mod making;

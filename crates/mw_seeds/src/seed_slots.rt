@@ -3,8 +3,7 @@ ghost use Rattle.std.specs.Prelude.{◌≡◌, ◌++◌, IfOk, OnOk, Some, flat_
 ghost use Rattle.mw_multi.specs.Joint.{StartFits};
 ghost use Rattle.mw_seeds.specs.SeedFile.{class_flags as plain_flags, start_of, start_copies, start_items, file_slot};
 
-use crate::copies::copy_texts;
-use mw_base::{List, Memory, Text};
+use mw_base::{List, Memory, Text, copy_texts};
 use mw_multi::{Class, Item, Joint, PoolEntry, Slot};
 use mw_multidata::{Slot as FileSlot, StartItem};
 use std::alloc::Global;

@@ -1,5 +1,5 @@
 use Rattle.std.proofs.Common.{◌≡◌, ◌++◌, drop}
-use Rattle.mw_room.proofs.member.copy_texts.Given as goal
+use Rattle.mw_base.proofs.texts.copy_texts.Given as goal
 
 abbrev pub invariant-loop-text : goal.invariant-loop-text
 invariant-loop-text l = l.copies ++ drop l.text-index l.texts ≡ l.texts
