@@ -1,4 +1,1 @@
 pub mod Kept
-pub mod Listed
-pub mod Named
-pub mod Present

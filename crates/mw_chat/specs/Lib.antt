@@ -1,5 +1,2 @@
-pub mod Index
 pub mod Kept
-pub mod Names
-pub mod Present
 pub mod View

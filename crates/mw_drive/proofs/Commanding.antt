@@ -10,7 +10,7 @@ use Rattle.mw_protocol.specs.Rooms.{Room, Session, Message, lost, text_of, sessi
 use Rattle.mw_keep.specs.Keeps.{Keeps}
 use Rattle.mw_keep.specs.declared.kept.KeptRoom.{KeptRoom}
 use Rattle.mw_drive.specs.Calls.{IsDone, AreDone, HaveStopped, IsPerformed}
-use Rattle.mw_drive.specs.Commands.{Command, opens, sends, takes, loses, commits, crashes}
+use Rattle.mw_script.specs.Commands.{Command, opens, sends, takes, loses, commits, crashes}
 use Rattle.mw_drive.specs.Drive.{Put, gone, overrun, message, text_put, message_line, message_lines, gone_line, overrun_line, is_absent, is_absent_in, named, calls, calls_of, call_for, is_overrun, is_stopped, texts_in, life_through, meet_overrun, stop, puts, told_of, taken_by, taken_from, after, is_crash}
 use Rattle.mw_drive.specs.Left.{IsGoing}
 use Rattle.mw_drive.specs.declared.error.DriveError.{DriveError}

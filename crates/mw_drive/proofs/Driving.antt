@@ -26,7 +26,7 @@ use Rattle.mw_keep.specs.declared.error.KeepError.{KeepError}
 use Rattle.mw_keep.specs.declared.error.KeepError.TheVariants as keep
 use Rattle.mw_keep.specs.declared.kept.KeptRoom.{KeptRoom}
 use Rattle.mw_drive.specs.Calls.{IsOutside}
-use Rattle.mw_drive.specs.Commands.{Command}
+use Rattle.mw_script.specs.Commands.{Command}
 use Rattle.mw_drive.specs.Crashes.{error_of}
 use Rattle.mw_drive.specs.declared.error.JournalRefusal.{JournalRefusal}
 use Rattle.mw_drive.specs.declared.error.JournalRefusal.TheVariants.{NotJournal, OtherSeed, BadRecord}

@@ -12,7 +12,7 @@ use Rattle.mw_protocol.specs.Spelled.{records_bytes}
 use Rattle.mw_journal.specs.Settled.{AllShut}
 use Rattle.mw_keep.specs.Keeps.{Keeps, kept_disk}
 use Rattle.mw_keep.specs.declared.kept.KeptRoom.{KeptRoom}
-use Rattle.mw_drive.specs.Commands.{Command}
+use Rattle.mw_script.specs.Commands.{Command}
 use Rattle.mw_drive.specs.Drive.{text_put, is_full, puts, after, Run, after_puts, run, drive_text}
 use Rattle.mw_drive.specs.Left.{IsGoing, IsLeft, HasDriven, IsKept}
 use Rattle.mw_drive.specs.Runs.{IsCut, HasHalted, IsShownKept}

@@ -1,17 +1,11 @@
 pub mod Calling
 pub mod Commanding
 pub mod Crashing
-pub mod Digits
 pub mod Driving
 pub mod Finishing
-pub mod Front
-pub mod Judged
 pub mod Looping
 pub mod Lucky
 pub mod Naming
 pub mod Passing
 pub mod Running
 pub mod Stepping
-pub mod Steps
-pub mod Texts
-pub mod Walks

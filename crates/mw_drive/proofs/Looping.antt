@@ -7,7 +7,7 @@ use Rattle.mw_multidata.specs.Digest.{digest_of}
 use Rattle.mw_protocol.specs.Lives.{Life}
 use Rattle.mw_keep.specs.Keeps.{kept_disk}
 use Rattle.mw_keep.specs.declared.kept.KeptRoom.{KeptRoom}
-use Rattle.mw_drive.specs.Commands.{Command}
+use Rattle.mw_script.specs.Commands.{Command}
 use Rattle.mw_drive.specs.Drive.{is_crash}
 use Rattle.mw_drive.specs.Left.{FindsItself}
 use Rattle.mw_drive.specs.Runs.{HasStepped, IsCut, IsKeptIn, HasHalted}

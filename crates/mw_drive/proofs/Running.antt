@@ -13,7 +13,7 @@ use Rattle.mw_laws.specs.Kept.{journal_after}
 use Rattle.mw_laws.specs.Naming.{JournalsAreNamed}
 use Rattle.mw_laws.specs.Shows.{ShowsChecked, ShownIsChecked}
 use Rattle.mw_laws.specs.Tails.{TailsOfTheLastView, untaken_in}
-use Rattle.mw_drive.specs.Commands.{Command, opens, sends, takes, loses, commits, crashes}
+use Rattle.mw_script.specs.Commands.{Command, opens, sends, takes, loses, commits, crashes}
 use Rattle.mw_drive.specs.Drive.{Put, gone, overrun, message, put_line, text_put, calls, calls_of, named, is_absent, meet_overrun, is_full, puts, told_of, taken_by, taken_from, after, Run, after_puts, run}
 use Rattle.mw_drive.specs.Left.{IsTold, IsKept}
 use Rattle.mw_drive.proofs.Calling.{call_step, through_steps, all_after}

@@ -4,11 +4,11 @@ use Rattle.mw_model.specs.Seed.{Seed}
 use Rattle.mw_protocol.specs.Lives.{Life, Call, Reply, opens, done, messages, gone, overrun, stopped, memory, StopCause, disk_fault, journal_full, too_many_calls, Step, fine, reply_to, life_after, after_all}
 use Rattle.mw_keep.specs.Keeps.{Keeps, kept_disk}
 use Rattle.mw_keep.specs.declared.kept.KeptRoom.{KeptRoom}
-use Rattle.mw_drive.specs.Commands.{Command}
+use Rattle.mw_script.specs.Commands.{Command}
 use Rattle.mw_drive.specs.Drive.{is_stopped, life_through, meet_overrun, stop, calls, is_full, after, puts, text_put}
 use Rattle.mw_drive.specs.Left.{IsGoing}
-use Rattle.mw_drive.specs.declared.script.ScriptError.{ScriptError}
-use Rattle.mw_drive.specs.declared.script.ScriptError.TheVariants as script
+use Rattle.mw_script.specs.declared.script.ScriptError.{ScriptError}
+use Rattle.mw_script.specs.declared.script.ScriptError.TheVariants as script
 use Rattle.mw_drive.specs.declared.error.DriveError.{DriveError}
 use Rattle.mw_drive.specs.declared.error.DriveError.TheVariants.{Fault, Memory, Full, Journal, Script}
 

@@ -7,7 +7,7 @@ use Rattle.mw_protocol.specs.Lives.{Life, Call, happens, Reply, opens as opened_
 use Rattle.mw_protocol.specs.Lives.{commits as commit_call, takes as take_call}
 use Rattle.mw_protocol.specs.Packets.{Inbound, good, wrong}
 use Rattle.mw_protocol.specs.Rooms.{Room, Message, Event, opened, sent, failed, lost, text_of, session_in, member_in, untaken_of}
-use Rattle.mw_drive.specs.Commands.{Command, opens, sends, takes, loses, commits, crashes}
+use Rattle.mw_script.specs.Commands.{Command, opens, sends, takes, loses, commits, crashes}
 
 -- ---- what is put
 

@@ -11,7 +11,7 @@ use Rattle.mw_journal.specs.Refused.{IsNotJournal, IsOtherSeed}
 use Rattle.mw_journal.specs.Settled.{AllSettled, AllShut}
 use Rattle.mw_keep.specs.Entered.{AreSound, IsBadRecord}
 use Rattle.mw_keep.specs.Holds.{AreRecords}
-use Rattle.mw_drive.specs.Commands.{Command}
+use Rattle.mw_script.specs.Commands.{Command}
 use Rattle.mw_drive.specs.Input.{HasScript, HasNoScript}
 use Rattle.mw_drive.specs.Left.{FindsItself, HasDriven}
 use Rattle.mw_drive.specs.Runs.{HasHalted}

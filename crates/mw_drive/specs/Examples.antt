@@ -1,11 +1,10 @@
 -- Rows of a script beside the definitions.
-use Rattle.std.specs.Prelude.{◌≡◌, ◌∷◌, [], Some, None, true, false, codes, refl}
+use Rattle.std.specs.Prelude.{◌≡◌, ◌∷◌, [], None, true, false, refl}
 use Rattle.mw_model.specs.Seed.{Seed}
 use Rattle.mw_protocol.specs.Lives.{Life, new_life}
 use Rattle.mw_protocol.specs.Packets.{good, sync}
-use Rattle.mw_drive.specs.Commands.{opens, sends, takes, loses, commits, crashes}
+use Rattle.mw_script.specs.Commands.{opens, sends, takes, loses, commits, crashes}
 use Rattle.mw_drive.specs.Drive.{run, overrun, gone}
-use Rattle.mw_drive.specs.Lines.{commit_line, crash_line, line_in}
 
 -- a room that was just made
 abbrev pub made : Seed → Life
@@ -57,9 +56,3 @@ first_again seed = refl
 pub not_full : (seed : Seed)
     → (run (new_life seed [] 1073741823) (opens 0 ∷ commits ∷ takes 1 ∷ loses 1 ∷ [])).full ≡ false
 not_full seed = refl
-
-pub a_crash : line_in (codes "crash") ≡ Some crash_line
-a_crash = refl
-
-pub a_commit : line_in (codes "commit") ≡ Some commit_line
-a_commit = refl

@@ -1,8 +1,8 @@
 -- The script that is read from the input.
 use Rattle.std.specs.Prelude.{◌≡◌, ◌≤◌, ◌⊎◌, ℕ, List, length, Option, Ok, Err}
 use Rattle.std.specs.Io.KnownBytes.{Consumes, IsAtEnd}
-use Rattle.mw_drive.specs.Commands.{Command}
-use Rattle.mw_drive.specs.Script.{max_script, script_of}
+use Rattle.mw_script.specs.Commands.{Command}
+use Rattle.mw_script.specs.Script.{max_script, script_of}
 use Rattle.mw_drive.specs.declared.error.DriveError.{DriveError}
 use Rattle.mw_drive.specs.declared.error.DriveError.TheVariants.{Fault, Memory, Script}
 

@@ -14,7 +14,7 @@ use Rattle.mw_laws.specs.Kept.{journal_after}
 use Rattle.mw_laws.specs.Shows.{MayPlayAs, ShowsChecked}
 use Rattle.mw_laws.specs.Tails.{AreTails, untaken_in}
 use Rattle.mw_keep.specs.Holds.{AreRecords, IsAmong}
-use Rattle.mw_drive.specs.Commands.{Command}
+use Rattle.mw_script.specs.Commands.{Command}
 use Rattle.mw_drive.specs.Drive.{Put, gone, overrun, message, text_put, is_crash, run, drive_text}
 
 -- ---- lives

@@ -1,12 +1,8 @@
 pub mod Calls
-pub mod Commands
 pub mod Crashes
 pub mod Drive
 pub mod Ends
 pub mod Examples
-pub mod Gives
 pub mod Input
 pub mod Left
-pub mod Lines
 pub mod Runs
-pub mod Script

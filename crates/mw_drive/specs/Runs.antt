@@ -11,7 +11,7 @@ use Rattle.mw_keep.specs.Entered.{AreSound}
 use Rattle.mw_keep.specs.Keeps.{Keeps, kept_disk}
 use Rattle.mw_keep.specs.declared.kept.KeptRoom.{KeptRoom}
 use Rattle.mw_drive.specs.Calls.{IsOutside}
-use Rattle.mw_drive.specs.Commands.{Command}
+use Rattle.mw_script.specs.Commands.{Command}
 use Rattle.mw_drive.specs.Drive.{is_full, after, puts, text_put, run, drive_text}
 use Rattle.mw_drive.specs.Input.{HasScript, HasNoScript}
 use Rattle.mw_drive.specs.Left.{IsGoing, IsLeft, FindsItself, HasDriven, KeepsShown}

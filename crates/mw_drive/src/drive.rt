@@ -5,25 +5,24 @@ ghost use Rattle.mw_multidata.specs.SeedOf.{SeedOf};
 ghost use Rattle.mw_protocol.specs.Lives.{Step, life_after_all};
 ghost use Rattle.mw_keep.specs.Keeps.{kept_disk};
 ghost use Rattle.mw_laws.specs.Naming.{NamesFit};
-ghost use Rattle.mw_drive.specs.Commands.{command_view};
+ghost use Rattle.mw_script.specs.Commands.{command_view};
 ghost use Rattle.mw_drive.specs.Ends.{Drives, IsAsRead, IsFound, IsOfJournal, Refuses};
 ghost use Rattle.mw_drive.specs.Ends.{StaysSettled, StopsWith};
 ghost use Rattle.mw_drive.specs.Input.{HasScript, HasNoScript};
 ghost use Rattle.mw_drive.specs.Left.{IsLeft, KeepsShown};
 ghost use Rattle.mw_drive.specs.Runs.{HasLife, RunsScript, HaltsScript};
 
-use crate::command::Command;
 use crate::crash::drive_error;
 use crate::error::DriveError;
 use crate::input::read_script;
 use crate::run::run_all;
-use crate::script::judge_script;
 use mw_base::List;
 use mw_disk::Disk;
 use mw_edges::{Sink, Source};
 use mw_keep::{KeptRoom, resume};
 use mw_laws::{journals_are_named, lives_keep};
 use mw_multidata::{Multidata, digest};
+use mw_script::{Command, judge_script};
 use std::alloc::Global;
 
 /// Reads the script of an input to its end, and judges it.

@@ -1,5 +1,5 @@
-use crate::script::ScriptError;
 use mw_base::Memory;
+use mw_script::ScriptError;
 use thiserror::Error;
 
 /// Why a journal gives no room.

@@ -3,17 +3,17 @@ ghost use Rattle.mw_packets_in.specs.View.{inbound_view};
 ghost use Rattle.mw_keep.specs.Keeps.{kept_disk};
 ghost use Rattle.mw_keep.specs.Views.{call_view, reply_view};
 ghost use Rattle.mw_drive.specs.Calls.{Makes, StopsAmong, Performs, StopsIn};
-ghost use Rattle.mw_drive.specs.Commands.{command_view, opens, sends, takes, loses, commits};
+ghost use Rattle.mw_script.specs.Commands.{command_view, opens, sends, takes, loses, commits};
 ghost use Rattle.mw_drive.specs.Drive.{call_for as call_for_lem, is_crash, is_overrun as is_overrun_lem, texts_in as texts_in_lem};
 
 use crate::acting::act;
-use crate::command::Command;
 use crate::error::DriveError;
 use crate::printing::{gone, messages, overrun};
 use mw_base::{List, SessionId, Text};
 use mw_disk::Disk;
 use mw_keep::{Call, KeptRoom, Reply};
 use mw_packets_in::Inbound;
+use mw_script::Command;
 use std::alloc::Global;
 
 /// Whether a reply is that its session was owed more than it may keep.

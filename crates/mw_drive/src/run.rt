@@ -2,12 +2,11 @@ ghost use Rattle.std.specs.Prelude.{◌≡◌, ◌≤◌, ◌⊎◌, IfOk, IfErr
 ghost use Rattle.std.specs.Io.KnownBytes.{Appends};
 ghost use Rattle.mw_edges.specs.Causes.{PutsFront, Rose};
 ghost use Rattle.mw_keep.specs.Keeps.{kept_disk};
-ghost use Rattle.mw_drive.specs.Commands.{command_view};
+ghost use Rattle.mw_script.specs.Commands.{command_view};
 ghost use Rattle.mw_drive.specs.Crashes.{disk_left};
 ghost use Rattle.mw_drive.specs.Drive.{is_crash as is_crash_lem};
 ghost use Rattle.mw_drive.specs.Runs.{StepsOn, IsCutOn, FaultShows, StepsAlways, IsCutAlways, HasLife, FaultIsTold, RunsAlways, HaltsAlways};
 
-use crate::command::Command;
 use crate::crash::crash;
 use crate::error::DriveError;
 use crate::performing::perform;
@@ -16,6 +15,7 @@ use mw_disk::Disk;
 use mw_edges::{Sink, SinkError};
 use mw_keep::KeptRoom;
 use mw_laws::{journals_are_named, shown_is_checked, tails_of_the_last_view};
+use mw_script::Command;
 use std::alloc::Global;
 
 /// Puts a text.

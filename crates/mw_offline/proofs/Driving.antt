@@ -18,7 +18,7 @@ use Rattle.mw_protocol.specs.Lives.{Life, Step, life_after_all}
 use Rattle.mw_protocol.specs.Records.{Record}
 use Rattle.mw_protocol.specs.Spelled.{records_bytes}
 use Rattle.mw_journal.specs.Settled.{AllSettled, AllShut}
-use Rattle.mw_drive.specs.Commands.{Command}
+use Rattle.mw_script.specs.Commands.{Command}
 use Rattle.mw_drive.specs.Ends.{IsFound, IsForeign, IsReady, Refuses, StaysSettled, Drives, StopsWith, IsOfJournal}
 use Rattle.mw_drive.specs.Left.{FindsItself, HasDriven, IsKept, IsLeft, KeepsShown}
 use Rattle.mw_drive.specs.Runs.{HasHalted}

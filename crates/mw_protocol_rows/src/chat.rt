@@ -1,11 +1,13 @@
 use crate::logs::{ann, bob, new_log, tables_of, team};
+use mw_answers::{
+    checked_text, help_text, missing_text, name_of, no_such_name, nothing_to_hint, players_text,
+    points_text, remaining_text, too_dear_text,
+};
 use mw_base::{Bytes, ItemId, LocId, Memory, NetItem, Text};
 use mw_cases::part;
 use mw_chat::{
-    Said, changed_tags, chatted, checked_text, collected, command_result, help_text, hint_print,
-    item_send, joined, left, missing_text, name_of, no_such_name, nothing_to_hint, parse_say,
-    part_item, part_location, part_player, part_text, players_text, points_text, reached_goal,
-    released, remaining_text, too_dear_text,
+    Said, changed_tags, chatted, collected, command_result, hint_print, item_send, joined, left,
+    parse_say, part_item, part_location, part_player, part_text, reached_goal, released,
 };
 use mw_checks::CheckLog;
 use mw_json::{Tree, can_write, compact};

@@ -21,11 +21,11 @@ use Rattle.mw_hints.proofs.Counting.{bought_made, bought_marked, bought_scouted}
 use Rattle.mw_records.specs.Records.{record_view, hint_view}
 use Rattle.mw_base.specs.declared.hint.HintRecord.{HintRecord}
 use Rattle.mw_room.specs.Hinting.{IsBought, all_told, scouted_where, told_with}
-use Rattle.mw_room.specs.Parts.{paid_by, standing_of}
-use Rattle.mw_room.specs.Views.{effect_view, IsEffect}
-use Rattle.mw_room.specs.declared.effect.Effect.{Effect}
-use Rattle.mw_room.specs.declared.standing.Standing.{Standing}
-use Rattle.mw_room.proofs.Effects.{none_paid}
+use Rattle.mw_effects.specs.Parts.{paid_by, standing_of}
+use Rattle.mw_effects.specs.Views.{effect_view, IsEffect}
+use Rattle.mw_effects.specs.declared.effect.Effect.{Effect}
+use Rattle.mw_effects.specs.declared.standing.Standing.{Standing}
+use Rattle.mw_effects.proofs.Effects.{none_paid}
 use Rattle.mw_room.proofs.HintsAgain.{again_told}
 use Rattle.mw_room.proofs.HintsMade.{hints_logged, new_told}
 

@@ -15,9 +15,9 @@ use Rattle.mw_records.specs.Records.{record_view, hint_view}
 use Rattle.mw_base.specs.declared.hint.HintRecord.{HintRecord}
 use Rattle.mw_base.specs.declared.hint.HintRecord.TheVariants.{Made, Marked}
 use Rattle.mw_room.specs.Hinting.{all_told, told_where, told_at}
-use Rattle.mw_room.specs.Parts.{IsLogged, kept_by, paid_by, standing_of, stated_by}
-use Rattle.mw_room.specs.declared.effect.Effect.{Effect}
-use Rattle.mw_room.specs.declared.standing.Standing.{Standing}
+use Rattle.mw_effects.specs.Parts.{IsLogged, kept_by, paid_by, standing_of, stated_by}
+use Rattle.mw_effects.specs.declared.effect.Effect.{Effect}
+use Rattle.mw_effects.specs.declared.standing.Standing.{Standing}
 
 -- a hint's record changes hints alone
 hint_step : (seed : Seed) (now : plain.Standing) (h : HintRecord) → step seed now (hint_view h) ≡ record { checked = now.checked; statuses = now.statuses; hints = hinted now.hints (hint_view h); storage = now.storage }

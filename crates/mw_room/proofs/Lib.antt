@@ -1,8 +1,5 @@
 mod Buying
-mod Effects
 mod Games
-mod Gifts
-mod Grown
 mod HintEffects
 mod HintsAgain
 mod HintsMade
@@ -11,12 +8,8 @@ mod Keeping
 mod Messages
 mod Places
 mod Planning
-mod ReadOnce
 mod Replayed
-mod Sets
 mod Slots
 mod Sparse
-mod Statuses
 mod Tags
 mod Turns
-mod Values

@@ -8,9 +8,10 @@ use Rattle.mw_records.specs.declared.record.Record.{Record}
 use Rattle.mw_room.specs.Known.{Shown, Known, shown, shown_at, told, dropped, with_text, with_member, known_closed, shown_after, greeted, leaves, known_effect, known_affected, known_next}
 use Rattle.mw_room.specs.Stands.{Stands, Plans, IsPlan}
 use Rattle.mw_room.specs.States.{state_of}
-use Rattle.mw_room.specs.Views.{session_view, room_view, planned, made, changed, effect_view, shown_state}
-use Rattle.mw_room.specs.Parts.{IsQuiet}
-use Rattle.mw_room.specs.declared.effect.Effect.{Effect}
+use Rattle.mw_effects.specs.Views.{effect_view}
+use Rattle.mw_room.specs.Views.{session_view, room_view, planned, made, changed, shown_state}
+use Rattle.mw_effects.specs.Parts.{IsQuiet}
+use Rattle.mw_effects.specs.declared.effect.Effect.{Effect}
 use Rattle.mw_room.specs.declared.plan.Plan.{Plan}
 use Rattle.mw_room.specs.declared.room.Room.{Room}
 use Rattle.mw_room.specs.declared.session.Change.{Change}

@@ -1,14 +1,12 @@
 -- Records that are entered one after the other.
-use Rattle.std.proofs.Common.{◌≡◌, ℕ, ℤ, suc, ◌+◌, ◌<◌, ◌&&◌, true, false, cond, List, [], ◌∷◌, ◌++◌, length, map, take, drop, get_or, is_some, refl, sym, ap, ap₂, ◌∙◌, subst, add-one, drop-cons, length-append}
+use Rattle.std.proofs.Common.{◌≡◌, ℕ, suc, ◌+◌, ◌<◌, true, List, [], ◌∷◌, ◌++◌, length, map, take, drop, get_or, sym, ap, ap₂, ◌∙◌, subst, add-one, drop-cons, length-append}
 use Rattle.std.proofs.lemmas.Bool.{and_parts}
 use Rattle.std.proofs.lemmas.List.{map-append, take_more}
-use Rattle.mw_model.specs.Seed.{Seed, held_at}
-use Rattle.mw_protocol.specs.Checks.{Check, checks_at}
-use Rattle.mw_protocol.specs.Named.{are_named, has_locations, is_named}
+use Rattle.mw_model.specs.Seed.{Seed}
+use Rattle.mw_protocol.specs.Named.{are_named, is_named}
 use Rattle.mw_protocol.specs.Records.{Record}
 use Rattle.mw_protocol.specs.Rooms as plain
 use Rattle.mw_protocol.specs.Standing.{Standing}
-use Rattle.mw_checks.specs.Fresh.{known_checks}
 use Rattle.mw_laws.proofs.Journal.{standing-append}
 use Rattle.mw_laws.specs.Told.{recording_more}
 use Rattle.mw_records.specs.Records.{record_view}
@@ -18,17 +16,6 @@ use Rattle.mw_room.specs.Replayed.{known_more}
 use Rattle.mw_room.specs.Stands.{Stands}
 use Rattle.mw_room.specs.Views.{room_view}
 use Rattle.mw_room.specs.declared.room.Room.{Room}
-
--- locations that the seed has are all known
-pub known_all : (seed : Seed) (team slot : ℕ) (ls : List ℤ) → has_locations seed slot ls ≡ true → known_checks seed (checks_at team slot ls) ≡ checks_at team slot ls
-known_all seed team slot [] h = refl
-known_all seed team slot (l ∷ ls) h =
-    let check : Check = record { team = team; slot = slot; location = l } in
-    let rest = known_checks seed (checks_at team slot ls) in
-    (elim (is_some (held_at seed slot l)) as (λ b. (b && has_locations seed slot ls) ≡ true → cond b (check ∷ rest) rest ≡ check ∷ checks_at team slot ls) [
-      | true ↦ (λ e. ap (λ (cs : List Check). check ∷ cs) (known_all seed team slot ls e))
-      | false ↦ (λ e. cc)
-    ]) h
 
 -- what is kept of a room with a record more
 known_recording : (r : plain.Room) (x : Record) → known (recording_more (x ∷ []) r) ≡ known_more (known r) x

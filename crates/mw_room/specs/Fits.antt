@@ -4,7 +4,7 @@ use Rattle.mw_base.specs.Space.{HasSpace}
 use Rattle.mw_checks.specs.Log.{HasRoom}
 use Rattle.mw_hints.specs.Room.{HasRoom as HasHintRoom}
 use Rattle.mw_storage.specs.Stored.{HasRoom as HasKeyRoom}
-use Rattle.mw_room.specs.Parts.{IsLogged, keys_in}
+use Rattle.mw_effects.specs.Parts.{IsLogged, keys_in}
 use Rattle.mw_room.specs.declared.plan.Plan.{Plan}
 use Rattle.mw_room.specs.declared.room.Room.{Room}
 use Rattle.mw_room.specs.declared.session.Change.{Change}

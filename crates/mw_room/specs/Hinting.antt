@@ -10,8 +10,8 @@ use Rattle.mw_protocol.specs.Hints.{Answer, Wanted, bought_for, scouted_among}
 use Rattle.mw_protocol.specs.Prints.{printed, hint_print}
 use Rattle.mw_protocol.specs.Records.{Hint}
 use Rattle.mw_protocol.specs.Standing.{Standing, is_checked, points}
-use Rattle.mw_room.specs.Parts.{standing_of}
-use Rattle.mw_room.specs.declared.standing.Standing.{Standing as RustStanding}
+use Rattle.mw_effects.specs.Parts.{standing_of}
+use Rattle.mw_effects.specs.declared.standing.Standing.{Standing as RustStanding}
 
 -- what is told of a hint of a finder's location, where something stands there
 abbrev pub told_at : Standing → ℕ → ℕ → ℤ → Option Held → List Announced

@@ -2,17 +2,11 @@ pub mod Answered
 pub mod Counted
 pub mod Events
 pub mod Fits
-pub mod Given
 pub mod Hinting
 pub mod Joining
 pub mod Known
-pub mod News
-pub mod Parts
-pub mod Playable
-pub mod Reading
 pub mod Replayed
 pub mod Stands
 pub mod States
-pub mod Storing
 pub mod Views
 pub mod Written

@@ -3,20 +3,16 @@ use Rattle.std.specs.Prelude.{◌≡◌, ℕ, zero, suc, ◌+◌, ◌==◌, ◌+
 use Rattle.mw_base.specs.Space.{HasSpace}
 use Rattle.mw_protocol.specs.Connecting.{Member}
 use Rattle.mw_protocol.specs.Effect as plain_effects
-use Rattle.mw_protocol.specs.Heard as heard
 use Rattle.mw_protocol.specs.Owed.{owed}
 use Rattle.mw_protocol.specs.Records as recorded
 use Rattle.mw_protocol.specs.Rooms as plain
 use Rattle.mw_protocol.specs.Standing.{steps}
-use Rattle.mw_packets_out.specs.View as told_by
 use Rattle.mw_records.specs.Records.{record_view}
 use Rattle.mw_room.specs.Known.{Shown, Known, message_of, shown_after, told, with_member, leaves}
-use Rattle.mw_room.specs.Parts.{IsLogged, grown, standing_of}
-use Rattle.mw_room.specs.declared.effect.Announced.{Announced}
-use Rattle.mw_room.specs.declared.effect.Audience.{Audience}
-use Rattle.mw_room.specs.declared.effect.Audience.TheVariants.{Team, Slots, Sender, Watchers, Named}
-use Rattle.mw_room.specs.declared.effect.Effect.{Effect}
-use Rattle.mw_room.specs.declared.standing.Standing.{Standing}
+use Rattle.mw_effects.specs.Parts.{grown, standing_of}
+use Rattle.mw_effects.specs.Views.{effect_view}
+use Rattle.mw_effects.specs.declared.effect.Effect.{Effect}
+use Rattle.mw_effects.specs.declared.standing.Standing.{Standing}
 use Rattle.mw_room.specs.declared.plan.Plan.{Plan}
 use Rattle.mw_room.specs.declared.room.Room.{Room}
 use Rattle.mw_room.specs.declared.session.Change.{Change}
@@ -93,26 +89,6 @@ due_by made text length s = told text length (with_member (plain.or_else made s.
 abbrev pub made_for : plain_effects.Effect → Bool → Option Member
 made_for effect sends = if sends then effect.member else None
 
-abbrev pub audience_view : Audience → heard.Audience
-audience_view (Team team) = heard.team_hears team
-audience_view (Slots team finder receiver) = heard.slots_hear team finder receiver
-audience_view Sender = heard.sender_hears
-audience_view (Watchers key replies) = heard.watchers_hear key replies
-audience_view (Named team whom) = heard.named_hear team whom
-
-abbrev pub announced_view : Announced → heard.Announced
-announced_view a =
-    record { audience = audience_view a.audience; packet = told_by.packet_view a.packet }
-
-abbrev pub effect_view : Effect → plain_effects.Effect
-effect_view e = record {
-  records = map record_view e.records;
-  answers = map told_by.packet_view e.answers;
-  whole = e.whole;
-  member = e.member;
-  announced = map announced_view e.announced;
-}
-
 -- the text that an effect of the sender's, or of another's, owes a session which is this member after it
 abbrev pub due_text : Standing → Effect → Bool → Option Member → Option (List ℕ)
 due_text s e sends member =
@@ -122,11 +98,6 @@ due_text s e sends member =
 abbrev pub due_after : Standing → Effect → ℕ → ℕ → Shown → Shown
 due_after now e sender length s =
     shown_after now.log.seed (standing_of now) (grown now e) (effect_view e) sender length s
-
--- the effect is what is due, and is logged
-pub record IsEffect (effect : Effect) (now : Standing) (due : plain_effects.Effect) : Type 0 where
-  pub is : effect_view effect ≡ due
-  pub logged : IsLogged now effect
 
 abbrev pub plan_records : Plan → List recorded.Record
 plan_records plan = map record_view plan.effect.records

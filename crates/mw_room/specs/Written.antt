@@ -2,7 +2,7 @@
 use Rattle.std.specs.Prelude.{◌≡◌, ℕ, List, map}
 use Rattle.mw_protocol.specs.Messages.{packet_text}
 use Rattle.mw_packets_out.specs.View.{packet_view}
-use Rattle.mw_room.specs.declared.effect.Announced.{Announced}
+use Rattle.mw_effects.specs.declared.effect.Announced.{Announced}
 
 abbrev pub text_of : Announced → List ℕ
 text_of a = packet_text (packet_view a.packet)

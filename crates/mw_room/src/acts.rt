@@ -6,11 +6,11 @@ ghost use Rattle.mw_room.specs.Known.{Known, greeted, texts_at, known_affected, 
 ghost use Rattle.mw_room.specs.Stands.{Stands, Plans, IsPlan};
 ghost use Rattle.mw_room.specs.Events.{event_view};
 ghost use Rattle.mw_room.specs.States.{state_of};
-ghost use Rattle.mw_room.specs.Parts.{IsLogged};
-ghost use Rattle.mw_room.specs.Views.{room_view, session_view, effect_view, planned, plan_records, made};
+ghost use Rattle.mw_effects.specs.Parts.{IsLogged};
+ghost use Rattle.mw_effects.specs.Views.{effect_view};
+ghost use Rattle.mw_room.specs.Views.{room_view, session_view, planned, plan_records, made};
 
 use crate::changes::changes_for;
-use crate::effect::{Effect, nothing};
 use crate::entering::parting;
 use crate::event::Event;
 use crate::packets::{bad_effect, effect_of};
@@ -19,11 +19,9 @@ use crate::plan::Plan;
 use crate::room::Room;
 use crate::session::{Change, Session, more_bytes};
 use crate::sessions::{change_all, close_lost, member_of, state_in, take_texts};
-use crate::standing::Standing;
 use crate::state::SessionState;
-use crate::status::set_status;
-use crate::storing::{keys_in, put_stored};
 use mw_base::{Growth, List, Memory, SessionId, Text};
+use mw_effects::{Effect, Standing, keys_in, nothing, put_stored, set_status};
 use mw_multidata::RoomTables;
 use mw_packets_in::{Bad, Packet};
 use mw_packets_out::{ServerPacket, write_message};

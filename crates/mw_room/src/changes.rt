@@ -5,17 +5,16 @@ ghost use Rattle.mw_protocol.specs.Rooms.{member_after as member_after_lem};
 ghost use Rattle.mw_packets_out.specs.View.{packet_view};
 ghost use Rattle.mw_room.specs.Fits.{ChangesFit};
 ghost use Rattle.mw_room.specs.Known.{shown_after, message_of};
-ghost use Rattle.mw_room.specs.Parts.{IsLogged};
+ghost use Rattle.mw_effects.specs.Parts.{IsLogged};
 ghost use Rattle.mw_room.specs.Written.{AreWritten};
-ghost use Rattle.mw_room.specs.Views.{session_view, changed, due_after, due_text, effect_view, made_for, due_by, IsChange};
+ghost use Rattle.mw_effects.specs.Views.{effect_view};
+ghost use Rattle.mw_room.specs.Views.{session_view, changed, due_after, due_text, made_for, due_by, IsChange};
 
-use crate::effect::Effect;
 use crate::hearing::{heard_texts, written};
-use crate::member::Member;
 use crate::owed::growth_owed;
 use crate::session::{Change, Session};
-use crate::standing::Standing;
 use mw_base::{Growth, Memory, Text};
+use mw_effects::{Effect, Member, Standing};
 use mw_packets_out::{ServerPacket, write_with};
 use std::alloc::Global;
 

@@ -2,32 +2,13 @@ ghost use Rattle.std.specs.Prelude.{◌≡◌, ◌≤◌, ◌-◌, ◌++◌, len
 ghost use Rattle.std.specs.Option.{option_copied};
 ghost use Rattle.mw_protocol.specs.Connecting.{connect_errors as connect_errors_lem, error_where, is_game_of as is_game_of_lem, is_old as is_old_lem, is_wrong_password as is_wrong_password_lem, looks_on as looks_on_lem, member_by as member_by_lem, player_named as player_named_lem, slot_played as slot_played_lem, team_named as team_named_lem, text_or_empty};
 ghost use Rattle.mw_room.specs.Joining.{errors_with, mask_asked, member_where as member_where_lem};
-ghost use Rattle.mw_room.specs.Playable.{IsPlayable};
+ghost use Rattle.mw_effects.specs.Playable.{IsPlayable};
 
-use crate::member::{Member, tags_or};
-use crate::playable::playable;
 use mw_base::{List, Memory, SlotId, TeamId, Text, copy_texts};
+use mw_effects::{Member, Player, playable, tags_or};
 use mw_multidata::{Multidata, Slot};
 use mw_packets_in::{Connect, Version, has_tag};
 use std::alloc::Global;
-use std::marker::Model;
-
-/// A player: the team, and the slot.
-#[derive(Clone, Copy)]
-pub struct Player {
-    pub team: TeamId,
-    pub slot: SlotId,
-}
-
-impl Model for Player {
-    ghost use Rattle.mw_protocol.specs.Connecting as plain;
-
-    ghost Value = { plain.Player };
-
-    ghost view = { λ p. record { team = p.team; slot = p.slot } };
-
-    ghost inverse = { λ p. record { team = p.team; slot = p.slot } };
-}
 
 /// The team whose name for a slot this is.
 fn team_named(names: &[Text], name: &str) -> Option<TeamId>

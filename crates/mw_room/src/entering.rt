@@ -4,16 +4,17 @@ ghost use Rattle.mw_protocol.specs.Effects.{stranger_effect};
 ghost use Rattle.mw_protocol.specs.Entering.{name_of as name_of_lem, parting as parting_lem, same_texts as same_texts_lem, tags_told as tags_told_lem, to_team as to_team_lem, updating as updating_lem};
 ghost use Rattle.mw_protocol.specs.Packets as plain;
 ghost use Rattle.mw_protocol.specs.Prints as prints;
-ghost use Rattle.mw_room.specs.Parts.{IsQuiet, standing_of};
-ghost use Rattle.mw_room.specs.Views.{announced_view, effect_view};
+ghost use Rattle.mw_effects.specs.Parts.{IsQuiet, standing_of};
+ghost use Rattle.mw_effects.specs.Views.{announced_view, effect_view};
 
 use crate::connect::{connect_errors, member_by};
-use crate::effect::{Announced, Audience, Effect, announcing, nothing, one_told, quiet};
-use crate::member::{Member, updated};
 use crate::people::connected;
-use crate::standing::Standing;
+use mw_answers::name_of;
 use mw_base::{List, Memory, Text};
-use mw_chat::{changed_tags, joined, left, name_of};
+use mw_chat::{changed_tags, joined, left};
+use mw_effects::{
+    Announced, Audience, Effect, Member, Standing, announcing, nothing, one_told, quiet, updated,
+};
 use mw_multidata::RoomTables;
 use mw_packets_in::{Connect, ConnectUpdate};
 use mw_packets_out::ServerPacket;

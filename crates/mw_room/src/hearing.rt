@@ -2,13 +2,11 @@ ghost use Rattle.std.specs.Prelude.{◌≡◌, ◌++◌, IfOk, map};
 ghost use Rattle.mw_model.specs.Texts.{has_text as has_text_lem};
 ghost use Rattle.mw_protocol.specs.Heard.{hears as hears_lem, heard, heard_by, wants_no_text as wants_no_text_lem};
 ghost use Rattle.mw_protocol.specs.Messages.{packet_text as packet_text_lem};
-ghost use Rattle.mw_room.specs.Views.{announced_view, audience_view};
+ghost use Rattle.mw_effects.specs.Views.{announced_view, audience_view};
 ghost use Rattle.mw_room.specs.Written.{AreWritten};
 
-use crate::bouncing::is_named;
-use crate::effect::{Announced, Audience};
-use crate::member::Member;
 use mw_base::{Memory, Text, has_text};
+use mw_effects::{Announced, Audience, Member, is_named};
 use mw_multidata::Multidata;
 use mw_packets_out::packet_text;
 use std::alloc::Global;

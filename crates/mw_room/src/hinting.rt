@@ -11,18 +11,16 @@ ghost use Rattle.mw_packets_out.specs.View.{packet_view};
 ghost use Rattle.mw_checks.specs.Log.{checks_of};
 ghost use Rattle.mw_room.specs.Hinting.{answered_in, scouted_where, told_if, told_with, all_told, is_told as is_told_lem, told_at};
 ghost use Rattle.mw_records.specs.Records.{hint_view, record_view};
-ghost use Rattle.mw_room.specs.Parts.{standing_of};
-ghost use Rattle.mw_room.specs.Views.{announced_view, effect_view, IsEffect};
+ghost use Rattle.mw_effects.specs.Parts.{standing_of};
+ghost use Rattle.mw_effects.specs.Views.{announced_view, effect_view, IsEffect};
 
-use crate::effect::{Announced, Audience, Effect, telling};
-use crate::member::Member;
-use crate::news::{Pair, found_item};
-use crate::playable::kept;
-use crate::scouts::scouts_of;
-use crate::standing::Standing;
+use mw_answers::{no_such_name, nothing_to_hint, too_dear_text};
 use mw_base::{HintRecord, HintStatus, List, LocId, Memory, SlotId, TeamId};
-use mw_chat::{hint_print, no_such_name, nothing_to_hint, too_dear_text};
+use mw_chat::hint_print;
 use mw_checks::CheckLog;
+use mw_effects::{
+    Announced, Audience, Effect, Member, Pair, Standing, found_item, kept, scouts_of, telling,
+};
 use mw_hints::{HintAnswer, Wanted};
 use mw_multidata::{Held, Multidata};
 use mw_packets_in::{LocationScouts, UpdateHint};

@@ -4,20 +4,17 @@ ghost use Rattle.mw_protocol.specs.Checks.{locations_in};
 ghost use Rattle.mw_protocol.specs.Owed.{items_from, update_with, growth_owed as growth_owed_lem};
 ghost use Rattle.mw_protocol.specs.Standing.{points};
 ghost use Rattle.mw_packets_out.specs.View.{packet_view};
-ghost use Rattle.mw_room.specs.News.{items_for, view_for, received_in, growth_in, points_before, points_after};
-ghost use Rattle.mw_room.specs.Parts.{standing_of, grown, news_of, paid_by, IsLogged};
+ghost use Rattle.mw_effects.specs.News.{items_for, view_for, received_in, growth_in, points_before, points_after};
+ghost use Rattle.mw_effects.specs.Parts.{standing_of, grown, news_of, paid_by, IsLogged};
 
-use crate::effect::Effect;
-use crate::member::Member;
-use crate::news::{add_locations, items_for_member};
-use crate::standing::Standing;
 use mw_base::{List, Memory, NetItem};
 use mw_checks::CheckLog;
+use mw_effects::{Effect, Member, Standing, add_locations, items_for_member};
 use mw_packets_out::ServerPacket;
 use std::alloc::Global;
 
 /// The points of the member's slot.
-#[tactic(auto, using(crate::proofs::Grown::points_now))]
+#[tactic(auto, using(mw_effects::proofs::Grown::points_now))]
 pub fn points_of(standing: &Standing, member: &Member) -> Result<u64, Memory>
     ensures { IfOk result (λ p. p ≡ points_before standing.now member.now) }
 {
@@ -39,7 +36,7 @@ fn paid_by(effect: &Effect, member: &Member) -> u64
 }
 
 /// The points of the member's slot with so many checks more, once the effect's hint is paid.
-#[tactic(auto, using(crate::proofs::Grown::points_then))]
+#[tactic(auto, using(mw_effects::proofs::Grown::points_then))]
 fn points_with(
     standing: &Standing,
     effect: &Effect,
@@ -202,7 +199,7 @@ fn growth_of(
 
 /// What a session is owed once an effect is done, beside the answer to its own packet and what is
 /// told to several.
-#[tactic(auto, using(crate::proofs::Grown::growth_is))]
+#[tactic(auto, using(mw_effects::proofs::Grown::growth_is))]
 pub fn growth_owed(
     alloc: Global,
     standing: &Standing,

@@ -7,24 +7,19 @@ ghost use Rattle.mw_protocol.specs.Packages.{package_json};
 ghost use Rattle.mw_protocol.specs.Words.{already_connected as already_connected_lem};
 ghost use Rattle.mw_packets_in.specs.View as asked;
 ghost use Rattle.mw_room.specs.Known.{members_of};
-ghost use Rattle.mw_room.specs.Parts.{IsQuiet, standing_of};
-ghost use Rattle.mw_room.specs.Views.{effect_view, session_view, IsEffect};
+ghost use Rattle.mw_effects.specs.Parts.{IsQuiet, standing_of};
+ghost use Rattle.mw_effects.specs.Views.{effect_view, IsEffect};
+ghost use Rattle.mw_room.specs.Views.{session_view};
 
-use crate::bouncing::bouncing;
-use crate::effect::{Effect, answering, nothing, quiet};
 use crate::entering::{joining, updating};
 use crate::hinting::{marking, scouting};
-use crate::locating::checking;
-use crate::member::Member;
-use crate::packages::data_package;
-use crate::reading::reading;
-use crate::refusals::{already_connected, invalid_packet};
 use crate::session::Session;
 use crate::speaking::{saying, stating};
-use crate::standing::Standing;
-use crate::storing::changing;
-use crate::watching::watching;
 use mw_base::{List, Memory, Text};
+use mw_effects::{
+    Effect, Member, Standing, already_connected, answering, bouncing, changing, checking,
+    data_package, invalid_packet, nothing, quiet, reading, watching,
+};
 use mw_multidata::RoomTables;
 use mw_packets_in::{Bad, Packet};
 use std::alloc::Global;
@@ -88,7 +83,7 @@ fn stranger_effect(alloc: Global, standing: &Standing, packet: &Packet) -> Resul
 }
 
 /// What a member's packet does, among the open sessions.
-#[tactic(auto, using(crate::proofs::Effects::quiet_effect))]
+#[tactic(auto, using(mw_effects::proofs::Effects::quiet_effect))]
 fn member_effect(
     alloc: Global,
     standing: &Standing,
@@ -122,7 +117,7 @@ fn member_effect(
 }
 
 /// What a packet of a session does, which is this member, if it is one, among the open sessions.
-#[tactic(auto, using(crate::proofs::Effects::quiet_effect))]
+#[tactic(auto, using(mw_effects::proofs::Effects::quiet_effect))]
 pub fn effect_of(
     alloc: Global,
     standing: &Standing,

@@ -3,15 +3,13 @@ ghost use Rattle.mw_model.specs.Games.{checksum_of};
 ghost use Rattle.mw_protocol.specs.Players.{games_played as games_played_lem, room_info_of, connected_of, name_in as name_in_lem, team_players, players_of as players_of_lem, slot_infos as slot_infos_lem};
 ghost use Rattle.mw_protocol.specs.Standing.{is_checked};
 ghost use Rattle.mw_protocol.specs.Asked.{locations_among};
-ghost use Rattle.mw_room.specs.Parts.{standing_of};
-ghost use Rattle.mw_room.specs.Playable.{IsPlayable};
+ghost use Rattle.mw_effects.specs.Parts.{standing_of};
+ghost use Rattle.mw_effects.specs.Playable.{IsPlayable};
 
-use crate::member::Member;
 use crate::owed::points_of;
-use crate::playable::playable;
-use crate::standing::Standing;
 use mw_base::{List, Memory, SlotId, TeamId, Text};
 use mw_datapack::{checksum_of_game, is_played};
+use mw_effects::{Member, Standing, playable};
 use mw_multidata::{Game, Held, Multidata, Slot};
 use mw_packets_out::{Connected, GameSum, NetworkPlayer, NetworkSlot, RoomInfo};
 use std::alloc::Global;

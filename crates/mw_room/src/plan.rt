@@ -1,8 +1,7 @@
-use crate::effect::Effect;
 use crate::session::{Change, Session};
-use crate::status::SlotStatus;
 use mw_base::{Growth, List};
 use mw_checks::CheckGrowth;
+use mw_effects::{Effect, SlotStatus};
 use mw_hints::HintGrowth;
 use mw_records::Record;
 use mw_storage::StoreGrowth;

@@ -1,7 +1,7 @@
 ghost use Rattle.std.specs.Prelude.{◌<◌, ◌^◌};
 
 use crate::session::Session;
-use crate::standing::Standing;
+use mw_effects::Standing;
 use std::alloc::Global;
 
 /// A room without its journal: what its records come to, how many there are, how many sessions were

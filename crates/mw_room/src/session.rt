@@ -1,8 +1,8 @@
 ghost use Rattle.std.specs.Prelude.{◌≡◌, ◌+◌, ◌≤◌, length, min};
 ghost use Rattle.mw_room.specs.Counted.{bytes_kept};
 
-use crate::member::Member;
 use mw_base::{Growth, Text};
+use mw_effects::Member;
 use std::alloc::Global;
 
 /// A session keeps no further message once it has this many untaken ones.

@@ -4,10 +4,10 @@ ghost use Rattle.mw_room.specs.Fits.{ChangesFit};
 ghost use Rattle.mw_room.specs.Known.{leaves, member_at, shown_at, texts_at, emptied_among};
 ghost use Rattle.mw_room.specs.Views.{session_view, changed, left, place_in, shown_state};
 
-use crate::member::Member;
 use crate::session::{Change, Session};
 use crate::state::SessionState;
 use mw_base::Text;
+use mw_effects::Member;
 use std::alloc::Global;
 
 /// Makes the changes, each to the session at its index.

@@ -8,27 +8,27 @@ ghost use Rattle.mw_protocol.specs.Sayings as said;
 ghost use Rattle.mw_protocol.specs.Sayings.{said_of};
 ghost use Rattle.mw_protocol.specs.Standing.{status_in};
 ghost use Rattle.mw_protocol.specs.Speaking.{announcing as announcing_lem, chatting as chatting_lem, giving as giving_lem, record_told, records_told as records_told_lem, saying as saying_lem, stating as stating_lem, where_allowed};
-ghost use Rattle.mw_chat.specs.Present.{played_by};
+ghost use Rattle.mw_answers.specs.Present.{played_by};
 ghost use Rattle.mw_chat.specs.View.{said_view};
 ghost use Rattle.mw_records.specs.Records.{record_view};
-ghost use Rattle.mw_room.specs.Given.{IsGiven, asking, given_with};
+ghost use Rattle.mw_effects.specs.Given.{IsGiven, asking, given_with};
 ghost use Rattle.mw_room.specs.Answered.{IsAnswered};
 ghost use Rattle.mw_room.specs.Known.{members_of};
-ghost use Rattle.mw_room.specs.Parts.{IsQuiet, standing_of};
-ghost use Rattle.mw_room.specs.Views.{announced_view, effect_view, session_view, IsEffect};
+ghost use Rattle.mw_effects.specs.Parts.{IsQuiet, standing_of};
+ghost use Rattle.mw_effects.specs.Views.{announced_view, effect_view, IsEffect};
+ghost use Rattle.mw_room.specs.Views.{session_view};
 
-use crate::effect::{Announced, Audience, Effect, announcing, nothing, one_told, telling};
-use crate::giving::{Given, Giving, at_goal, given_by, is_allowed};
 use crate::hinting::wanting;
-use crate::member::Member;
 use crate::owed::points_of;
 use crate::session::Session;
-use crate::standing::Standing;
-use crate::status::SlotStatus;
+use mw_answers::{
+    checked_text, help_text, missing_text, name_of, players_text, points_text, remaining_text,
+};
 use mw_base::{ClientStatus, List, Memory, Permission, SlotId, TeamId, Text};
-use mw_chat::{
-    Said, chatted, checked_text, collected, help_text, missing_text, name_of, parse_say,
-    players_text, points_text, reached_goal, released, remaining_text,
+use mw_chat::{Said, chatted, collected, parse_say, reached_goal, released};
+use mw_effects::{
+    Announced, Audience, Effect, Given, Giving, Member, SlotStatus, Standing, announcing, at_goal,
+    given_by, is_allowed, nothing, one_told, telling,
 };
 use mw_hints::{Wanted, cost};
 use mw_multidata::RoomTables;
@@ -335,7 +335,7 @@ fn answered(
 }
 
 /// The effect of what a member says, among the open sessions.
-#[tactic(auto, using(crate::proofs::Effects::quiet_effect))]
+#[tactic(auto, using(mw_effects::proofs::Effects::quiet_effect))]
 pub fn saying(
     alloc: Global,
     standing: &Standing,

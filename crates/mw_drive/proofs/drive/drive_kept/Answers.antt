@@ -1,7 +1,7 @@
 use Rattle.std.proofs.Common.{map, inl, inr}
 use Rattle.std.proofs.KnownBytes.{Keeps-refl}
 use Rattle.mw_journal.proofs.Told.{on_ok_one}
-use Rattle.mw_drive.specs.Commands.{command_view}
+use Rattle.mw_script.specs.Commands.{command_view}
 use Rattle.mw_drive.proofs.Passing.{if_err}
 use Rattle.mw_drive.proofs.drive.drive_kept.Goals as goal
 

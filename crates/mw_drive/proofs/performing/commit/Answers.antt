@@ -1,7 +1,7 @@
 use Rattle.std.proofs.Common.{◌∷◌, [], ◌∙◌, refl, sym}
 use Rattle.mw_keep.specs.Views.{reply_view}
 use Rattle.mw_protocol.specs.Lives.{commits as commit_call}
-use Rattle.mw_drive.specs.Commands.{commits}
+use Rattle.mw_script.specs.Commands.{commits}
 use Rattle.mw_drive.specs.Drive.{meet_overrun}
 use Rattle.mw_drive.proofs.Commanding.{performed_by, one_done, no_put}
 use Rattle.mw_drive.proofs.performing.commit.Goals as goal

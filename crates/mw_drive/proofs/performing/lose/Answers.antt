@@ -4,7 +4,7 @@ use Rattle.mw_keep.specs.Views.{reply_view}
 use Rattle.mw_protocol.specs.Lives.{happens}
 use Rattle.mw_protocol.specs.Rooms.{lost, session_in}
 use Rattle.mw_drive.specs.Calls.{StopsIn}
-use Rattle.mw_drive.specs.Commands.{loses}
+use Rattle.mw_script.specs.Commands.{loses}
 use Rattle.mw_drive.specs.Drive.{gone_line, meet_overrun}
 use Rattle.mw_drive.proofs.Commanding.{performed_by, performed_none, stopped_by, one_done, absent_calls, absent_text, present_calls, ended_puts}
 use Rattle.mw_drive.proofs.Passing.{passed_exit}

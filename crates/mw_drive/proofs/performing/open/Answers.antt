@@ -2,7 +2,7 @@ use Rattle.std.proofs.Common.{◌∷◌, [], ◌∙◌, refl, sym}
 use Rattle.mw_keep.specs.Views.{reply_view}
 use Rattle.mw_protocol.specs.Lives.{happens}
 use Rattle.mw_protocol.specs.Rooms.{opened}
-use Rattle.mw_drive.specs.Commands.{opens}
+use Rattle.mw_script.specs.Commands.{opens}
 use Rattle.mw_drive.specs.Drive.{meet_overrun}
 use Rattle.mw_drive.proofs.Commanding.{performed_by, one_done, no_put}
 use Rattle.mw_drive.proofs.performing.open.Goals as goal

@@ -2,7 +2,7 @@ use Rattle.std.proofs.Common.{◌≡◌, ◌∙◌, map, sym, ap, subst, rules}
 use Rattle.std.specs.Prelude.{IfOk, IfErr, string_bytes}
 use Rattle.mw_packets_in.specs.View.{inbound_view}
 use Rattle.mw_drive.specs.Calls.{Performs, StopsIn}
-use Rattle.mw_drive.specs.Commands.{command_view, opens, sends, takes, loses, commits}
+use Rattle.mw_script.specs.Commands.{command_view, opens, sends, takes, loses, commits}
 use Rattle.mw_drive.proofs.performing.perform.Goals as goal
 
 pub returns-in-Open-clause-ok : goal.returns-in-Open-clause-ok

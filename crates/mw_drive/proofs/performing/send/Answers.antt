@@ -3,7 +3,7 @@ use Rattle.std.specs.Option.{is_some}
 use Rattle.mw_packets_in.specs.View.{inbound_view}
 use Rattle.mw_protocol.specs.Rooms.{session_in}
 use Rattle.mw_drive.specs.Calls.{StopsIn}
-use Rattle.mw_drive.specs.Commands.{sends}
+use Rattle.mw_script.specs.Commands.{sends}
 use Rattle.mw_drive.specs.Drive.{gone_line, overrun_line, call_for, life_through}
 use Rattle.mw_drive.specs.declared.error.DriveError.TheVariants.{Memory}
 use Rattle.mw_drive.proofs.Commanding.{performed_by, performed_none, stopped_by, lacks_memory, absent_calls, absent_text, present_calls, sent_text}

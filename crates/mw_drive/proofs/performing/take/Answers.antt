@@ -4,7 +4,7 @@ use Rattle.mw_keep.specs.Views.{reply_view}
 use Rattle.mw_protocol.specs.Lives.{takes as take_call, life_after, fine}
 use Rattle.mw_protocol.specs.Rooms.{session_in}
 use Rattle.mw_drive.specs.Calls.{StopsIn}
-use Rattle.mw_drive.specs.Commands.{takes}
+use Rattle.mw_script.specs.Commands.{takes}
 use Rattle.mw_drive.specs.Drive.{gone_line, overrun_line, message_lines, meet_overrun}
 use Rattle.mw_drive.specs.declared.error.DriveError.TheVariants.{Memory}
 use Rattle.mw_drive.proofs.Commanding.{performed_by, performed_none, stopped_by, lacks_memory, one_done, absent_calls, absent_text, present_calls, taken_texts, taken_overrun}

@@ -2,7 +2,7 @@ use Rattle.std.proofs.Common.{inl, subst}
 use Rattle.std.specs.Io.KnownBytes.{Appends}
 use Rattle.mw_edges.specs.Causes.{PutsFront}
 use Rattle.std.specs.Prelude.{string_bytes}
-use Rattle.mw_drive.specs.Commands.{command_view}
+use Rattle.mw_script.specs.Commands.{command_view}
 use Rattle.mw_drive.proofs.Stepping.{cut_by_stop, fault_by_stop, step_by, cut_by_put}
 use Rattle.mw_drive.proofs.run.perform_and_put.Goals as goal
 

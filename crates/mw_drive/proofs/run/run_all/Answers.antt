@@ -2,7 +2,7 @@ use Rattle.std.proofs.Common.{rules, ◌≡◌, ◌∷◌, [], ◌∙◌, map, r
 use Rattle.std.proofs.lemmas.List.{nil_from_length}
 use Rattle.std.specs.Vec.Iter.{into_iter_items}
 use Rattle.mw_multidata.specs.Digest.{digest_of}
-use Rattle.mw_drive.specs.Commands.{command_view}
+use Rattle.mw_script.specs.Commands.{command_view}
 use Rattle.mw_drive.specs.Left.{HasDriven}
 use Rattle.mw_drive.specs.Runs.{IsShownKept}
 use Rattle.mw_drive.specs.declared.error.DriveError.TheVariants.{Fault}

@@ -4,7 +4,7 @@ use Rattle.std.specs.Vec.Iter.{into_iter_items}
 use Rattle.mw_model.specs.Seed.{Seed}
 use Rattle.mw_protocol.specs.Lives.{Life}
 use Rattle.mw_keep.specs.Keeps.{kept_disk}
-use Rattle.mw_drive.specs.Commands.{command_view}
+use Rattle.mw_script.specs.Commands.{command_view}
 use Rattle.mw_drive.specs.Runs.{HasLife, IsKeptIn}
 use Rattle.mw_drive.proofs.Looping.{IsAt}
 use Rattle.mw_drive.proofs.run.run_all.Given as goal

@@ -1,7 +1,7 @@
 use Rattle.std.proofs.Common.{◌≡◌, ◌∙◌, true, inl, sym, subst}
 use Rattle.mw_multidata.specs.Digest.{digest_of}
 use Rattle.mw_keep.specs.Keeps.{kept_disk}
-use Rattle.mw_drive.specs.Commands.{command_view, crashes}
+use Rattle.mw_script.specs.Commands.{command_view, crashes}
 use Rattle.mw_drive.specs.Drive.{is_crash}
 use Rattle.mw_drive.specs.Runs.{HasStepped, IsCut}
 use Rattle.mw_drive.proofs.Looping.{told_at_crash}

@@ -1,6 +1,7 @@
 use Rattle.std.proofs.Common.{◌==◌, Option, ap, ◌∙◌}
 use Rattle.mw_protocol.specs.Connecting.{Member}
-use Rattle.mw_room.specs.Views.{effect_view, due_text, due_by, due_after}
+use Rattle.mw_effects.specs.Views.{effect_view}
+use Rattle.mw_room.specs.Views.{due_text, due_by, due_after}
 use Rattle.mw_room.proofs.Turns.{change_due, due_is}
 use Rattle.mw_room.proofs.changes.change_of.Goals as goal
 

@@ -1,7 +1,7 @@
 use Rattle.std.proofs.Common.{◌≡◌, ◌+◌, drop}
 use Rattle.std.specs.List.{All}
 use Rattle.mw_protocol.specs.Connecting.{player_among}
-use Rattle.mw_room.specs.Playable.{HasFewNames}
+use Rattle.mw_effects.specs.Playable.{HasFewNames}
 use Rattle.mw_room.proofs.connect.player_named.Given as goal
 
 abbrev pub invariant-loop-before : goal.invariant-loop-before

@@ -4,8 +4,8 @@ use Rattle.mw_protocol.specs.Speaking.{buying}
 use Rattle.mw_protocol.specs.Standing.{points}
 use Rattle.mw_hints.specs.Answers.{wanted_view}
 use Rattle.mw_records.specs.Records.{record_view, hint_view}
-use Rattle.mw_room.specs.Parts.{standing_of}
-use Rattle.mw_room.specs.Views.{IsEffect}
+use Rattle.mw_effects.specs.Parts.{standing_of}
+use Rattle.mw_effects.specs.Views.{IsEffect}
 use Rattle.mw_room.proofs.Buying.{bought_is}
 use Rattle.mw_room.proofs.HintEffects.{bought_effect}
 use Rattle.mw_room.proofs.hinting.bought.Goals as goal

@@ -1,7 +1,7 @@
 use Rattle.std.proofs.Common.{◌≡◌, ◌++◌, drop, map}
 use Rattle.mw_room.specs.Hinting.{all_told}
-use Rattle.mw_room.specs.Parts.{standing_of}
-use Rattle.mw_room.specs.Views.{announced_view}
+use Rattle.mw_effects.specs.Parts.{standing_of}
+use Rattle.mw_effects.specs.Views.{announced_view}
 use Rattle.mw_room.proofs.hinting.scouts_told.Given as goal
 
 abbrev pub invariant-loop-pair : goal.invariant-loop-pair

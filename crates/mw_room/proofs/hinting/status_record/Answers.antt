@@ -6,7 +6,7 @@ use Rattle.mw_protocol.specs.Records.{Record, hint_status}
 use Rattle.mw_protocol.specs.Standing.{is_checked}
 use Rattle.mw_records.specs.Records.{hint_view}
 use Rattle.mw_base.specs.declared.hint.HintRecord.{HintRecord}
-use Rattle.mw_room.specs.Parts.{standing_of}
+use Rattle.mw_effects.specs.Parts.{standing_of}
 use Rattle.mw_room.proofs.hinting.status_record.Goals as goal
 
 listed : (o : Option HintRecord) (due : Option Record) → option_map hint_view o ≡ due → map hint_view (option_to_list o) ≡ option_to_list due

@@ -1,7 +1,7 @@
 use Rattle.std.proofs.Common.{◌≡◌, ◌++◌, drop}
 use Rattle.std.specs.List.{filter}
 use Rattle.mw_protocol.specs.Standing.{is_checked}
-use Rattle.mw_room.specs.Parts.{standing_of}
+use Rattle.mw_effects.specs.Parts.{standing_of}
 use Rattle.mw_protocol.specs.Asked.{locations_among}
 use Rattle.mw_room.proofs.people.checked_locations.Given as goal
 

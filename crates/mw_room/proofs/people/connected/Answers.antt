@@ -6,7 +6,7 @@ use Rattle.mw_protocol.specs.Connecting.{Member}
 use Rattle.mw_protocol.specs.Messages.{NetworkPlayer, NetworkSlot}
 use Rattle.mw_protocol.specs.Players.{players_of, slot_infos}
 use Rattle.mw_protocol.specs.Standing.{is_checked}
-use Rattle.mw_room.specs.Parts.{standing_of}
+use Rattle.mw_effects.specs.Parts.{standing_of}
 use Rattle.mw_room.proofs.people.connected.Goals as goal
 
 pub returns : goal.returns

@@ -2,9 +2,9 @@ use Rattle.std.proofs.Common.{rules, ◌≡◌, ◌<◌, true, length, arith}
 use Rattle.mw_base.specs.Permissions.{permission_number}
 use Rattle.mw_protocol.specs.Commands.{is_allowed}
 use Rattle.mw_protocol.specs.Standing.{status_in}
-use Rattle.mw_room.specs.Given.{asking}
-use Rattle.mw_room.specs.Parts.{standing_of}
-use Rattle.mw_room.proofs.Gifts.{gift_effect}
+use Rattle.mw_effects.specs.Given.{asking}
+use Rattle.mw_effects.specs.Parts.{standing_of}
+use Rattle.mw_effects.proofs.Gifts.{gift_effect}
 use Rattle.mw_room.proofs.speaking.giving.Goals as goal
 
 pub returns : goal.returns

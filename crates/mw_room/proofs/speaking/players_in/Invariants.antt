@@ -1,5 +1,5 @@
 use Rattle.std.proofs.Common.{◌≡◌, ◌++◌, drop, map}
-use Rattle.mw_chat.specs.Present.{played_by}
+use Rattle.mw_answers.specs.Present.{played_by}
 use Rattle.mw_room.specs.Known.{members_of}
 use Rattle.mw_room.specs.Views.{session_view}
 use Rattle.mw_room.proofs.speaking.players_in.Given as goal

@@ -11,9 +11,9 @@ use Rattle.mw_checks.specs.Log.{checks_of}
 use Rattle.mw_records.specs.Records.{hint_view}
 use Rattle.mw_base.specs.declared.hint.HintRecord.{HintRecord}
 use Rattle.mw_room.specs.Known.{Shown}
-use Rattle.mw_room.specs.Parts.{kept_by, standing_of, stated_by}
+use Rattle.mw_effects.specs.Parts.{kept_by, standing_of, stated_by}
 use Rattle.mw_room.specs.Views.{session_view, changed, left, plan_records}
-use Rattle.mw_room.specs.declared.effect.NewValue.{NewValue}
+use Rattle.mw_effects.specs.declared.effect.NewValue.{NewValue}
 use Rattle.mw_room.specs.declared.session.Session.{Session}
 use Rattle.mw_room.proofs.Places.{written_over}
 use Rattle.mw_room.proofs.room.Room.apply_known.Goals as goal

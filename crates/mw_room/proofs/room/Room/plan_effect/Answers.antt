@@ -1,5 +1,5 @@
 use Rattle.std.proofs.Common.{◌≡◌, List, map, subst, ◌∙◌}
-use Rattle.mw_room.specs.Parts.{grown}
+use Rattle.mw_effects.specs.Parts.{grown}
 use Rattle.mw_room.specs.Views.{room_view, session_view, changed, due_after}
 use Rattle.mw_room.specs.declared.session.Session.{Session}
 use Rattle.mw_room.proofs.Planning.{affected_made}

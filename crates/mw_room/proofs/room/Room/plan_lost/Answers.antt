@@ -4,10 +4,11 @@ use Rattle.mw_protocol.specs.Connecting.{Member}
 use Rattle.mw_protocol.specs.Entering.{parting}
 use Rattle.mw_protocol.specs.Rooms as plain
 use Rattle.mw_room.specs.Known.{known_effect, member_at}
-use Rattle.mw_room.specs.Parts.{grown}
-use Rattle.mw_room.specs.Views.{room_view, session_view, changed, due_after, effect_view}
+use Rattle.mw_effects.specs.Parts.{grown}
+use Rattle.mw_effects.specs.Views.{effect_view}
+use Rattle.mw_room.specs.Views.{room_view, session_view, changed, due_after}
 use Rattle.mw_room.specs.declared.session.Session.{Session}
-use Rattle.mw_room.proofs.Effects.{quiet_logged}
+use Rattle.mw_effects.proofs.Effects.{quiet_logged}
 use Rattle.mw_room.proofs.Planning.{lost_made}
 use Rattle.mw_room.proofs.room.Room.plan_lost.Goals as goal
 

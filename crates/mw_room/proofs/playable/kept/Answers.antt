@@ -1,6 +1,0 @@
-use Rattle.std.proofs.Common.{subst}
-use Rattle.mw_multidata.specs.SeedKept.{IsSeed}
-use Rattle.mw_room.proofs.playable.kept.Goals as goal
-
-pub returns : goal.returns
-returns c = subst IsSeed c.seed.view_is c.seed.invariant

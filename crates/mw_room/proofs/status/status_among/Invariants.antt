@@ -1,6 +1,0 @@
-use Rattle.std.proofs.Common.{◌≡◌, drop}
-use Rattle.mw_protocol.specs.Statuses.{status_of}
-use Rattle.mw_room.proofs.status.status_among.Given as goal
-
-abbrev pub invariant-loop-stated : goal.invariant-loop-stated
-invariant-loop-stated l = status_of l.statuses l.team l.slot ≡ status_of (drop l.stated-index l.statuses) l.team l.slot

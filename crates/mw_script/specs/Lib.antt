@@ -1,0 +1,5 @@
+pub mod Commands
+pub mod Examples
+pub mod Gives
+pub mod Lines
+pub mod Script
