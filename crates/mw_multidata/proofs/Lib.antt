@@ -9,6 +9,7 @@ pub mod NamesKept
 pub mod Numbered
 pub mod Orders
 pub mod Plays
+pub mod Runs
 pub mod SeedKept
 pub mod ShapeKept
 pub mod Trees

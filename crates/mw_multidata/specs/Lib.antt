@@ -1,6 +1,7 @@
 pub mod Ascending
 pub mod Digest
 pub mod Names
+pub mod OfSlot
 pub mod Parts
 pub mod SeedKept
 pub mod SeedOf

@@ -66,6 +66,7 @@ impl Multidata {
     ghost use Rattle.std.specs.Prelude.{◌≡◌};
     ghost use Rattle.std.specs.Option.{option_copied};
     ghost use Rattle.mw_model.specs.Seed.{slot_of};
+    ghost use Rattle.mw_multidata.specs.OfSlot.{held_of};
 
     /// The slot of a number; None where the seed has no such slot.
     #[tactic(auto, using(crate::proofs::Numbered::slot_of_before))]
@@ -74,5 +75,16 @@ impl Multidata {
     {
         let at = number.get() - 1;
         self.slots.get(usize::from(at))
+    }
+
+    /// The locations of a slot, by id. It searches for where they begin and end.
+    pub fn locations_of(&self, slot: SlotId) -> &[Held]
+        ensures { result.now ≡ held_of slot self.now.locations }
+    {
+        let locations = self.locations.as_slice();
+        let before = locations.partition_point(|held| held.slot.get() < slot.get());
+        let rest = &locations[before..];
+        let many = rest.partition_point(|held| held.slot.get() <= slot.get());
+        &rest[..many]
     }
 }
