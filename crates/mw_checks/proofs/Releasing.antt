@@ -5,6 +5,7 @@ use Rattle.std.specs.Ordering.{int_eq}
 use Rattle.std.proofs.lemmas.Bool.Decides.{Decides-and, Decides-eqb, Decides-int_eq}
 use Rattle.std.proofs.lemmas.List.{length-map, length-append}
 use Rattle.mw_model.specs.Seed.{Seed, Held, held_among, held_at}
+use Rattle.mw_multidata.specs.OfSlot.{held_of}
 use Rattle.mw_protocol.specs.Asked.{held_for, locations_among}
 use Rattle.mw_protocol.specs.Checks.{Check, checks_at, unseen}
 use Rattle.mw_checks.specs.Fresh.{known_checks, new_checks, looked, NotesAll}
@@ -33,6 +34,15 @@ fresh_joined seed checked team (p ∷ ps) qs first later =
     )
 
 -- ---- a seed's own locations
+
+-- the numbers of a slot's locations
+pub own_locations : (slot : ℕ) (hs : List Held) → map (λ (h : Held). h.location) (held_of slot hs) ≡ locations_among slot hs
+own_locations slot [] = refl
+own_locations slot (h ∷ hs) =
+    elim (h.slot == slot) as (λ b. map (λ (x : Held). x.location) (cond b (h ∷ held_of slot hs) (held_of slot hs)) ≡ cond b (h.location ∷ locations_among slot hs) (locations_among slot hs)) [
+      | true ↦ ap (λ ls. h.location ∷ ls) (own_locations slot hs)
+      | false ↦ own_locations slot hs
+    ]
 
 there : (xs hs : List Held) (h : Held) → is_some (held_among (xs ++ h ∷ hs) h.slot h.location) ≡ true
 there [] hs h =

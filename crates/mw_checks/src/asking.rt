@@ -1,6 +1,6 @@
 ghost use Rattle.std.specs.Prelude.{◌≡◌, ◌++◌, ◌∷◌, [], IfOk, OnOk};
-ghost use Rattle.mw_protocol.specs.Asked.{asked_by, held_for, locations_among};
-ghost use Rattle.mw_protocol.specs.Checks.{checks_at, unseen};
+ghost use Rattle.mw_protocol.specs.Asked.{asked_by, held_for};
+ghost use Rattle.mw_protocol.specs.Checks.{unseen};
 ghost use Rattle.mw_protocol.specs.Records.{release, collect};
 ghost use Rattle.mw_checks.specs.Fresh.{NotesAll};
 ghost use Rattle.mw_checks.specs.Log.{AreFresh, checks_of};
@@ -23,24 +23,6 @@ fn note_pairs(
 {
     for pair in pairs {
         note(log, team, *pair, found)?;
-    }
-    Ok(())
-}
-
-/// Notes a location, where it is of the slot.
-fn note_own(
-    log: &CheckLog,
-    team: TeamId,
-    slot: SlotId,
-    held: &Held,
-    found: &mut Pairs,
-) -> Result<(), Memory>
-    ensures { OnOk result (NotesAll log.now.seed log.now.checked team
-        (checks_at team slot (locations_among slot (held.now ∷ [])))
-        found.old.keys found.new.keys) }
-{
-    if held.slot == slot {
-        note(log, team, (slot, held.location), found)?;
     }
     Ok(())
 }
@@ -72,8 +54,8 @@ fn note_released(
     ensures { OnOk result (NotesAll log.now.seed log.now.checked team
         (asked_by log.now.seed (release team slot)) found.old.keys found.new.keys) }
 {
-    for held in log.tables().multidata().locations.as_slice() {
-        note_own(log, team, slot, held, found)?;
+    for held in log.tables().multidata().locations_of(slot) {
+        note(log, team, (slot, held.location), found)?;
     }
     Ok(())
 }
