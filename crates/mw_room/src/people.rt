@@ -2,7 +2,6 @@ ghost use Rattle.std.specs.Prelude.{◌≡◌, ◌≤◌, ◌++◌, IfOk, OnOk, 
 ghost use Rattle.mw_model.specs.Games.{checksum_of};
 ghost use Rattle.mw_protocol.specs.Players.{games_played as games_played_lem, room_info_of, connected_of, name_in as name_in_lem, team_players, players_of as players_of_lem, slot_infos as slot_infos_lem};
 ghost use Rattle.mw_protocol.specs.Standing.{is_checked};
-ghost use Rattle.mw_protocol.specs.Asked.{locations_among};
 ghost use Rattle.mw_effects.specs.Parts.{standing_of};
 ghost use Rattle.mw_effects.specs.Playable.{IsPlayable};
 
@@ -117,7 +116,7 @@ fn slot_infos(alloc: Global, team: u8, slots: &[Slot]) -> Result<List<NetworkSlo
     Ok(found)
 }
 
-/// The locations of the member's slot that aren't checked, by id.
+/// Of the locations of the member's slot those that aren't checked, by id.
 fn missing_locations(
     alloc: Global,
     locations: &[Held],
@@ -126,24 +125,19 @@ fn missing_locations(
 ) -> Result<List<i64>, Memory>
     ensures { IfOk result (λ ls. ls
         ≡ filter (λ l. not (is_checked (standing_of standing.now)
-        member.now.team member.now.slot l)) (locations_among member.now.slot locations.now)) }
+        member.now.team member.now.slot l)) (map (λ h. h.location) locations.now)) }
 {
     let mut found = List::new(alloc);
     for held in locations {
-        if held.slot == member.slot {
-            let number = held.location.get();
-            if !standing
-                .log
-                .is_checked(member.team, member.slot, held.location)
-            {
-                found.push(number)?;
-            }
+        let location = held.location;
+        if !standing.log.is_checked(member.team, member.slot, location) {
+            found.push(location.get())?;
         }
     }
     Ok(found)
 }
 
-/// The locations of the member's slot that are checked, by id.
+/// Of the locations of the member's slot those that are checked, by id.
 fn checked_locations(
     alloc: Global,
     locations: &[Held],
@@ -152,18 +146,13 @@ fn checked_locations(
 ) -> Result<List<i64>, Memory>
     ensures { IfOk result (λ ls. ls
         ≡ filter (λ l. is_checked (standing_of standing.now) member.now.team member.now.slot l)
-        (locations_among member.now.slot locations.now)) }
+        (map (λ h. h.location) locations.now)) }
 {
     let mut found = List::new(alloc);
     for held in locations {
-        if held.slot == member.slot {
-            let number = held.location.get();
-            if standing
-                .log
-                .is_checked(member.team, member.slot, held.location)
-            {
-                found.push(number)?;
-            }
+        let location = held.location;
+        if standing.log.is_checked(member.team, member.slot, location) {
+            found.push(location.get())?;
         }
     }
     Ok(found)
@@ -177,7 +166,7 @@ pub fn connected(alloc: Global, standing: &Standing, member: &Member) -> Result<
     let seed = standing.seed();
     playable(seed);
     let slots = seed.slots.as_slice();
-    let locations = seed.locations.as_slice();
+    let locations = seed.locations_of(member.slot);
     Ok(Connected {
         team: member.team,
         slot: member.slot,

@@ -1,12 +1,14 @@
-use Rattle.std.proofs.Common.{◌≡◌, ℕ, ℤ, List, not, ap, ap₂, ◌∙◌}
+use Rattle.std.proofs.Common.{◌≡◌, ℕ, ℤ, List, map, not, ap, ap₂, ◌∙◌}
 use Rattle.std.specs.List.{filter}
 use Rattle.mw_model.specs.Seed.{Seed, Slot, Held}
+use Rattle.mw_multidata.specs.OfSlot.{held_of}
 use Rattle.mw_protocol.specs.Asked.{locations_among}
 use Rattle.mw_protocol.specs.Connecting.{Member}
 use Rattle.mw_protocol.specs.Messages.{NetworkPlayer, NetworkSlot}
 use Rattle.mw_protocol.specs.Players.{players_of, slot_infos}
 use Rattle.mw_protocol.specs.Standing.{is_checked}
 use Rattle.mw_effects.specs.Parts.{standing_of}
+use Rattle.mw_checks.proofs.Releasing.{own_locations}
 use Rattle.mw_room.proofs.people.connected.Goals as goal
 
 pub returns : goal.returns
@@ -17,10 +19,13 @@ returns c =
     let now = standing_of s in
     let is = c.seed.view_is ∙ c.seed-seed.ensures in
     let slots : c.as_slice-slots.result.now ≡ seed.slots = c.as_slice-slots.ensures ∙ ap (λ (d : Seed). d.slots) is in
-    let held : c.as_slice-locations.result.now ≡ seed.locations = c.as_slice-locations.ensures ∙ ap (λ (d : Seed). d.locations) is in
+    let at = ap (λ (x : Member). x.slot) c.member.view_is in
+    let own : map (λ (h : Held). h.location) c.locations_of-locations.result.now ≡ locations_among m.slot seed.locations =
+    ap (map (λ (h : Held). h.location)) (c.locations_of-locations.ensures ∙ ap₂ (λ (n : ℕ) (d : Seed). held_of n d.locations) at c.seed-seed.ensures)
+    ∙ own_locations m.slot seed.locations in
     let players = c.in_ok-players_of.ensures ∙ ap₂ players_of (ap (λ (d : Seed). d.teams) is) slots in
-    let missing = c.in_ok-missing_locations.ensures ∙ ap (λ (hs : List Held). filter (λ x. not (is_checked now m.team m.slot x)) (locations_among m.slot hs)) held in
-    let checked = c.in_ok-checked_locations.ensures ∙ ap (λ (hs : List Held). filter (λ x. is_checked now m.team m.slot x) (locations_among m.slot hs)) held in
+    let missing = c.in_ok-missing_locations.ensures ∙ ap (filter (λ x. not (is_checked now m.team m.slot x))) own in
+    let checked = c.in_ok-checked_locations.ensures ∙ ap (filter (λ x. is_checked now m.team m.slot x)) own in
     let team = c.get.ensures.value ∙ ap (λ (x : Member). x.team) c.member.view_is in
     let infos = c.in_ok-slot_infos.ensures ∙ ap₂ (λ (t : ℕ) (ss : List Slot). slot_infos t 1 ss) team slots in
     ap₂ (λ (ps : List NetworkPlayer) (ms : List ℤ). record { team = c.member.inside.team; slot = c.member.inside.slot; players = ps; missing_locations = ms; checked_locations = c.in_ok-checked_locations.field-0; slot_info = c.in_ok-slot_infos.field-0; hint_points = c.in_ok-points_of.field-0 }) players missing
