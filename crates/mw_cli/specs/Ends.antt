@@ -1,15 +1,15 @@
 -- How a run ends.
 use Rattle.std.specs.Prelude.{◌≡◌, ◌⊎◌, ℕ, List, Option, codes}
-use Rattle.mw_offline.specs.Ends.{Told, IsTold}
-use Rattle.mw_offline.specs.Driving.{DriveEnds, drive_files}
+use Rattle.mw_causes.specs.Ends.{Told, IsTold}
+use Rattle.mw_words.specs.Commands.{drive_files, wanted_in, asked_in, room_in}
+use Rattle.mw_offline.specs.Driving.{DriveEnds}
 use Rattle.mw_offline.specs.Reaching.{ReachEnds}
-use Rattle.mw_offline.specs.Generating.{Wrote, wanted_in, GenerateEnds}
-use Rattle.mw_offline.specs.Checking.{asked_in, CheckEnds}
+use Rattle.mw_offline.specs.Generating.{Wrote, GenerateEnds}
+use Rattle.mw_offline.specs.Checking.{CheckEnds}
 use Rattle.mw_offline.specs.FilesAround.{FilesAround}
-use Rattle.mw_offline.specs.NewRooms.{room_in, NewRoomEnds}
-use Rattle.mw_cli.specs.Words.{bad_words}
-use Rattle.mw_cli.specs.declared.command_line.CommandLine.{CommandLine}
-use Rattle.mw_cli.specs.declared.command_line.CommandLine.TheVariants.{Generate, Check, Reach, NewRoom, Drive}
+use Rattle.mw_offline.specs.NewRooms.{NewRoomEnds}
+use Rattle.mw_words.specs.declared.command_line.CommandLine.{CommandLine}
+use Rattle.mw_words.specs.declared.command_line.CommandLine.TheVariants.{Generate, Check, Reach, NewRoom, Drive}
 
 -- what the folder's files were and are and what a crash may leave of them, the input before and
 -- after with what it tells is left, what the out sink held before and after and how often it failed,
@@ -45,6 +45,10 @@ LineEnds (Reach w) status a =
 LineEnds (NewRoom w) status a = NewRoomEnds status a.files (room_in w) a.out a.told
 LineEnds (Drive w) status a =
     DriveEnds a.left status a.files (drive_files w) a.input a.input_after a.out a.told
+
+-- the line for words that are no command
+abbrev pub bad_words : List ℕ
+bad_words = codes "bad words\n"
 
 -- words that are no command are told of as such, but where memory runs out before that is seen
 abbrev pub RefusalEnds : ℕ → Told → Type 0

@@ -1,13 +1,7 @@
 //! The program `multiworld`.
 #![tactic(auto)]
 
-mod arguments;
-mod command_line;
-mod commands;
-mod error;
-mod number;
 mod run;
-mod words;
 
 use crate::run::run;
 use mw_base::Text;

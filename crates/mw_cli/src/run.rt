@@ -1,24 +1,22 @@
 ghost use Rattle.std.specs.Prelude.{◌≡◌, ◌⊎◌, ℕ, List};
 ghost use Rattle.mw_edges.specs.Causes.{Rose};
-ghost use Rattle.mw_offline.specs.Ends.{told_by};
-ghost use Rattle.mw_offline.specs.Driving.{DriveFiles, DriveEnds};
+ghost use Rattle.mw_causes.specs.Ends.{told_by};
+ghost use Rattle.mw_words.specs.Commands.{DriveFiles, Wanted, Asked, RoomFiles};
+ghost use Rattle.mw_offline.specs.Driving.{DriveEnds};
 ghost use Rattle.mw_offline.specs.Reaching.{ReachEnds};
-ghost use Rattle.mw_offline.specs.Generating.{Wanted, wrote_by, GenerateEnds};
-ghost use Rattle.mw_offline.specs.Checking.{Asked, CheckEnds};
+ghost use Rattle.mw_offline.specs.Generating.{wrote_by, GenerateEnds};
+ghost use Rattle.mw_offline.specs.Checking.{CheckEnds};
 ghost use Rattle.mw_offline.specs.FilesAround.{files_around};
-ghost use Rattle.mw_offline.specs.NewRooms.{RoomFiles, NewRoomEnds};
-ghost use Rattle.mw_cli.specs.Words.{IsGenerate, IsCheck, IsReach, IsNewRoom, IsDrive};
-ghost use Rattle.mw_cli.specs.Lines.{IsNoCommand, HasTries, generate_line, new_room_line, drive_line};
+ghost use Rattle.mw_offline.specs.NewRooms.{NewRoomEnds};
+ghost use Rattle.mw_words.specs.Words.{IsGenerate, IsCheck, IsReach, IsNewRoom, IsDrive};
+ghost use Rattle.mw_words.specs.Lines.{IsNoCommand, HasTries, generate_line, new_room_line, drive_line};
 ghost use Rattle.mw_cli.specs.Ends.{around, LineEnds, RefusalEnds};
 
-use crate::command_line::CommandLine;
-use crate::error::WordsError;
-use crate::words::read_words;
 use mw_base::Text;
+use mw_causes::{end_without_memory, tell};
 use mw_edges::{Folder, Sink, Source};
-use mw_offline::{
-    cmd_check, cmd_drive, cmd_generate, cmd_new_room, cmd_reach, end_without_memory, tell,
-};
+use mw_offline::{cmd_check, cmd_drive, cmd_generate, cmd_new_room, cmd_reach};
+use mw_words::{CommandLine, WordsError, read_words};
 use std::alloc::Global;
 
 /// Does what a command line asks for.
@@ -76,7 +74,7 @@ fn run_line<F: Folder, S: Source, O: Sink, E: Sink>(
 /// life that goes on from the one for which it was settled before; each ReceivedItems that was put
 /// is the tail from its index of its slot's list in that life, and each check that was shown is in
 /// that life's journal.
-#[tactic(auto, using(crate::proofs::Asking::has_tries))]
+#[tactic(auto, using(mw_words::proofs::Asking::has_tries))]
 pub fn run<F: Folder, S: Source, O: Sink, E: Sink>(
     alloc: Global,
     words: &[Text],

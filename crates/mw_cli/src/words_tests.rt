@@ -1,10 +1,7 @@
 //! What words ask for.
-use crate::command_line::CommandLine;
-use crate::error::WordsError;
 use crate::harness::agree;
-use crate::words::read_words;
 use mw_base::Text;
-use mw_offline::DriveWords;
+use mw_words::{CommandLine, DriveWords, WordsError, read_words};
 use std::alloc::Global;
 use std::test::Fail;
 

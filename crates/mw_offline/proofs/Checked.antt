@@ -12,20 +12,22 @@ use Rattle.mw_seeds.specs.Played.{played_lines}
 use Rattle.mw_seeds.specs.Judging.{IsRight, IsNotRight}
 use Rattle.mw_seeds.specs.declared.refusal.SeedRefusal.{SeedRefusal}
 use Rattle.mw_seeds.specs.declared.refusal.SeedRefusal.TheVariants as found
-use Rattle.mw_offline.specs.Ends.{stop_with}
-use Rattle.mw_offline.specs.Tables.{Files, TablesOf, JointIn, AreUnjoined, HasTableCause}
-use Rattle.mw_offline.specs.SeedFiles.{SeedIn, IsSeedStopped}
-use Rattle.mw_offline.specs.Checking.{Asked, right_line, IsWrongFor, IsTextFor, CheckedText, IsUntextFor, HasCheckCause, wrong_stop}
-use Rattle.mw_offline.specs.declared.stop.Stop.{Stop}
-use Rattle.mw_offline.specs.declared.stop.Stop.TheVariants.{Fault, Memory, Refused}
-use Rattle.mw_offline.specs.declared.table_cause.TableCause.{TableCause}
-use Rattle.mw_offline.specs.declared.seed_cause.SeedCause.{SeedCause}
-use Rattle.mw_offline.specs.declared.check_cause.CheckCause.{CheckCause}
-use Rattle.mw_offline.specs.declared.check_cause.CheckCause.TheVariants.{Tables, SeedFile, OtherTables, GoalMissed, Wrong, Missing}
-use Rattle.mw_offline.proofs.Endings.{passed_exit}
-use Rattle.mw_offline.specs.declared.seed_cause.SeedCause.TheVariants.{File, TooLong}
-use Rattle.mw_offline.proofs.TableCauses.{unjoined_cause, joint_in}
-use Rattle.mw_offline.proofs.Unread.{unread_before}
+use Rattle.mw_causes.specs.Ends.{stop_with}
+use Rattle.mw_causes.specs.Tables.{Files, TablesOf, JointIn, AreUnjoined, HasTableCause}
+use Rattle.mw_causes.specs.SeedFiles.{SeedIn, IsSeedStopped}
+use Rattle.mw_words.specs.Commands.{Asked}
+use Rattle.mw_causes.specs.CheckCauses.{wrong_stop}
+use Rattle.mw_offline.specs.Checking.{right_line, IsWrongFor, IsTextFor, CheckedText, IsUntextFor, HasCheckCause}
+use Rattle.mw_causes.specs.declared.stop.Stop.{Stop}
+use Rattle.mw_causes.specs.declared.stop.Stop.TheVariants.{Fault, Memory, Refused}
+use Rattle.mw_causes.specs.declared.table_cause.TableCause.{TableCause}
+use Rattle.mw_causes.specs.declared.seed_cause.SeedCause.{SeedCause}
+use Rattle.mw_causes.specs.declared.check_cause.CheckCause.{CheckCause}
+use Rattle.mw_causes.specs.declared.check_cause.CheckCause.TheVariants.{Tables, SeedFile, OtherTables, GoalMissed, Wrong, Missing}
+use Rattle.mw_causes.proofs.Endings.{passed_exit}
+use Rattle.mw_causes.specs.declared.seed_cause.SeedCause.TheVariants.{File, TooLong}
+use Rattle.mw_causes.proofs.TableCauses.{unjoined_cause, joint_in}
+use Rattle.mw_causes.proofs.Unread.{unread_before}
 
 -- a seed file that isn't right is no fault
 pub wrong_late : (refusal : SeedRefusal) → wrong_stop refusal ≡ Fault → ⊥

@@ -26,17 +26,19 @@ use Rattle.mw_drive.specs.declared.error.DriveError.{DriveError}
 use Rattle.mw_drive.specs.declared.error.DriveError.TheVariants.{Fault, Memory, Full, Journal, Script}
 use Rattle.mw_drive.specs.declared.error.JournalRefusal.{JournalRefusal}
 use Rattle.mw_drive.proofs.Crashing.{left_by_shut, one_journal, one_place, settled_of}
-use Rattle.mw_offline.specs.Driving.{DriveFiles, DriveEnds, DriveKeeps, DriveStopped, drive_line, drive_status, drive_stop, IsNewJournal, JournalKeeps, JournalLeaves, JournalRead, NoImages, ScriptRun, run_of, RunsToEnd, RunsShort}
-use Rattle.mw_offline.specs.SeedFiles.{IsFile, IsSeedStopped}
-use Rattle.mw_offline.specs.Ends.{Ended, IsTold, Told, stop_with}
+use Rattle.mw_words.specs.Commands.{DriveFiles}
+use Rattle.mw_causes.specs.DriveCauses.{drive_line, drive_status, drive_stop}
+use Rattle.mw_offline.specs.Driving.{DriveEnds, DriveKeeps, DriveStopped, IsNewJournal, JournalKeeps, JournalLeaves, JournalRead, NoImages, ScriptRun, run_of, RunsToEnd, RunsShort}
+use Rattle.mw_causes.specs.SeedFiles.{IsFile, IsSeedStopped}
+use Rattle.mw_causes.specs.Ends.{Ended, IsTold, Told, stop_with}
 use Rattle.mw_offline.specs.FilesAround.{FilesAround, IsUntouched, files_around}
-use Rattle.mw_offline.specs.Tables.{Files}
-use Rattle.mw_offline.specs.declared.drive_cause.DriveCause.{DriveCause}
-use Rattle.mw_offline.specs.declared.drive_cause.DriveCause.TheVariants.{SeedFile}
-use Rattle.mw_offline.specs.declared.seed_cause.SeedCause.{SeedCause}
-use Rattle.mw_offline.specs.declared.stop.Stop.{Stop}
-use Rattle.mw_offline.specs.declared.stop.Stop.TheVariants as stop
-use Rattle.mw_offline.proofs.Endings.{fault_passed, passed_exit}
+use Rattle.mw_causes.specs.Tables.{Files}
+use Rattle.mw_causes.specs.declared.drive_cause.DriveCause.{DriveCause}
+use Rattle.mw_causes.specs.declared.drive_cause.DriveCause.TheVariants.{SeedFile}
+use Rattle.mw_causes.specs.declared.seed_cause.SeedCause.{SeedCause}
+use Rattle.mw_causes.specs.declared.stop.Stop.{Stop}
+use Rattle.mw_causes.specs.declared.stop.Stop.TheVariants as stop
+use Rattle.mw_causes.proofs.Endings.{fault_passed, passed_exit}
 
 -- ---- fewer images
 

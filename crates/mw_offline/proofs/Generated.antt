@@ -20,16 +20,18 @@ use Rattle.mw_fill.specs.declared.seed.GenerateError.TheVariants as refused
 use Rattle.mw_fill.specs.Generated.{CanBeTried, IsFirst, IsRefused}
 use Rattle.mw_spheres.specs.Spots.{placement_table}
 use Rattle.mw_spheres.proofs.Reaching.{with_events_kept}
-use Rattle.mw_offline.specs.Ends.{stop_with}
-use Rattle.mw_offline.specs.Tables.{Files, TablesOf, JointIn, AreUnjoined, HasTableCause}
-use Rattle.mw_offline.specs.Generating.{Wanted, IsMade, Generates, IsTextFor, GeneratedText, IsRefusedFor, IsUntextFor, HasGenerateCause, generate_stop}
-use Rattle.mw_offline.specs.declared.stop.Stop.{Stop}
-use Rattle.mw_offline.specs.declared.stop.Stop.TheVariants.{Fault, Memory, Refused}
-use Rattle.mw_offline.specs.declared.table_cause.TableCause.{TableCause}
-use Rattle.mw_offline.specs.declared.generate_cause.GenerateCause.{GenerateCause}
-use Rattle.mw_offline.specs.declared.generate_cause.GenerateCause.TheVariants.{Tables, NotBeatable, TooManyItems, Exhausted}
-use Rattle.mw_offline.proofs.Endings.{passed_exit}
-use Rattle.mw_offline.proofs.TableCauses.{unjoined_cause, joint_in}
+use Rattle.mw_causes.specs.Ends.{stop_with}
+use Rattle.mw_causes.specs.Tables.{Files, TablesOf, JointIn, AreUnjoined, HasTableCause}
+use Rattle.mw_words.specs.Commands.{Wanted}
+use Rattle.mw_causes.specs.GenerateCauses.{generate_stop}
+use Rattle.mw_offline.specs.Generating.{IsMade, Generates, IsTextFor, GeneratedText, IsRefusedFor, IsUntextFor, HasGenerateCause}
+use Rattle.mw_causes.specs.declared.stop.Stop.{Stop}
+use Rattle.mw_causes.specs.declared.stop.Stop.TheVariants.{Fault, Memory, Refused}
+use Rattle.mw_causes.specs.declared.table_cause.TableCause.{TableCause}
+use Rattle.mw_causes.specs.declared.generate_cause.GenerateCause.{GenerateCause}
+use Rattle.mw_causes.specs.declared.generate_cause.GenerateCause.TheVariants.{Tables, NotBeatable, TooManyItems, Exhausted}
+use Rattle.mw_causes.proofs.Endings.{passed_exit}
+use Rattle.mw_causes.proofs.TableCauses.{unjoined_cause, joint_in}
 
 -- ---- the table of a placement
 

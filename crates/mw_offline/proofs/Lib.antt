@@ -1,10 +1,5 @@
-pub mod Endings
-pub mod Unread
-pub mod Reading
-pub mod TableCauses
 pub mod Counted
 pub mod Generated
-pub mod SeedReading
 pub mod FirstGates
 pub mod Driving
 pub mod NewRooms

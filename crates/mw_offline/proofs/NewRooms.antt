@@ -8,16 +8,17 @@ use Rattle.mw_edges.specs.Causes.{PutsFront}
 use Rattle.mw_edges.specs.Folders.{SameImages}
 use Rattle.mw_model.specs.Seed.{Seed}
 use Rattle.mw_journal.specs.Settled.{AllShut}
-use Rattle.mw_offline.specs.Ends.{HasLeft}
+use Rattle.mw_causes.specs.Ends.{HasLeft}
 use Rattle.mw_offline.specs.FilesAround.{files_around, IsOnlyRead}
-use Rattle.mw_offline.specs.NewRooms.{RoomFiles, IsEmpty, HasByte, ShowsByte, HasJournalCause, HasRoomCause, HasSeed, IsRoom, NoRoom, MakesSome, MakesRoom, room_text}
-use Rattle.mw_offline.specs.SeedFiles.{DigestedIn}
-use Rattle.mw_offline.specs.Tables.{Files}
-use Rattle.mw_offline.specs.declared.stop.Stop.{Stop}
-use Rattle.mw_offline.specs.declared.stop.Stop.TheVariants.{Fault, Memory, Refused}
-use Rattle.mw_offline.specs.declared.room_cause.RoomCause.{RoomCause}
-use Rattle.mw_offline.specs.declared.room_cause.RoomCause.TheVariants.{SeedFile, NotEmpty}
-use Rattle.mw_offline.proofs.Endings.{passed_exit, left_late}
+use Rattle.mw_words.specs.Commands.{RoomFiles}
+use Rattle.mw_offline.specs.NewRooms.{IsEmpty, HasByte, ShowsByte, HasJournalCause, HasRoomCause, HasSeed, IsRoom, NoRoom, MakesSome, MakesRoom, room_text}
+use Rattle.mw_causes.specs.SeedFiles.{DigestedIn}
+use Rattle.mw_causes.specs.Tables.{Files}
+use Rattle.mw_causes.specs.declared.stop.Stop.{Stop}
+use Rattle.mw_causes.specs.declared.stop.Stop.TheVariants.{Fault, Memory, Refused}
+use Rattle.mw_causes.specs.declared.room_cause.RoomCause.{RoomCause}
+use Rattle.mw_causes.specs.declared.room_cause.RoomCause.TheVariants.{SeedFile, NotEmpty}
+use Rattle.mw_causes.proofs.Endings.{passed_exit, left_late}
 
 module _ {F : Type 0} (holds : F → Files) (images : F → List ℕ → List ℕ → Type 0) (opened : F → List ℕ → Bool) (may_fail : F → Bool) (faults : F → ℕ)
     (first second last : F) (same : (n : List ℕ) → holds second n ≡ holds first n) where

@@ -28,7 +28,7 @@ use Rattle.mw_seeds.proofs.JointFacts.{one_world_each}
 use Rattle.mw_seeds.proofs.OneFile.{one_file}
 use Rattle.mw_tables.specs.WorldOf.{world_at}
 use Rattle.mw_tables.specs.PlayersOf.{players_at}
-use Rattle.mw_offline.specs.Tables.{Files, world_limit, max_table_file, max_world_files, WorldsOf, JointIn}
+use Rattle.mw_causes.specs.Tables.{Files, world_limit, max_table_file, max_world_files, WorldsOf, JointIn}
 use Rattle.mw_offline.specs.Generating.{generated_line, IsMade, Generates}
 use Rattle.mw_offline.specs.Laws.{AreTold, GenerateIsOne}
 

@@ -12,24 +12,16 @@ use Rattle.mw_seeds.specs.Played.{played_lines}
 use Rattle.mw_seeds.specs.Judging.{IsRight, IsNotRight}
 use Rattle.mw_seeds.specs.declared.refusal.SeedRefusal.{SeedRefusal}
 use Rattle.mw_seeds.specs.declared.refusal.SeedRefusal.TheVariants as found
-use Rattle.mw_offline.specs.Ends.{Told, Ends}
-use Rattle.mw_offline.specs.Tables.{Files, JointIn, HasTableCause, table_status, table_line}
-use Rattle.mw_offline.specs.SeedFiles.{SeedIn, IsSeedStopped, seed_line}
-use Rattle.mw_offline.specs.declared.stop.Stop.{Stop}
-use Rattle.mw_offline.specs.declared.stop.Stop.TheVariants.{Fault, Memory, Refused}
-use Rattle.mw_offline.specs.declared.table_cause.TableCause.{TableCause}
-use Rattle.mw_offline.specs.declared.check_cause.CheckCause.{CheckCause}
-use Rattle.mw_offline.specs.declared.check_cause.CheckCause.TheVariants.{Tables, SeedFile, OtherTables, GoalMissed, Wrong, Missing}
-use Rattle.mw_offline.specs.declared.check_command.CheckWords.{CheckWords}
-
--- the players file, and the seed file
-pub record Asked : Type 0 where
-  pub players : List ℕ
-  pub multidata : List ℕ
-
--- the same of the words of `check`
-abbrev pub asked_in : CheckWords → Asked
-asked_in words = record { players = words.players; multidata = words.multidata }
+use Rattle.mw_causes.specs.CheckCauses.{check_status, check_line}
+use Rattle.mw_causes.specs.Ends.{Told, Ends}
+use Rattle.mw_causes.specs.Tables.{Files, JointIn, HasTableCause, table_status, table_line}
+use Rattle.mw_causes.specs.SeedFiles.{SeedIn, IsSeedStopped, seed_line}
+use Rattle.mw_causes.specs.declared.stop.Stop.{Stop}
+use Rattle.mw_causes.specs.declared.stop.Stop.TheVariants.{Fault, Memory, Refused}
+use Rattle.mw_causes.specs.declared.table_cause.TableCause.{TableCause}
+use Rattle.mw_causes.specs.declared.check_cause.CheckCause.{CheckCause}
+use Rattle.mw_causes.specs.declared.check_cause.CheckCause.TheVariants.{Tables, SeedFile, OtherTables, GoalMissed, Wrong, Missing}
+use Rattle.mw_words.specs.Commands.{Asked}
 
 -- ---- the text
 
@@ -98,42 +90,6 @@ abbrev pub HasCheckCause : Files → Bool → Asked → Stop CheckCause → Type
 HasCheckCause files may_fail asked stop =
     IsUntextFor (JointIn files asked.players) (HasTableCause files may_fail asked.players)
     (files asked.multidata) may_fail stop
-
--- what isn't right with a seed file, as a stop
-abbrev pub wrong_stop : SeedRefusal → Stop CheckCause
-wrong_stop (found.OtherTables slot location) = Refused (OtherTables slot location)
-wrong_stop (found.GoalMissed slot) = Refused (GoalMissed slot)
-wrong_stop (found.Wrong sphere place) = Refused (Wrong sphere place)
-wrong_stop (found.Missing sphere place) = Refused (Missing sphere place)
-wrong_stop found.Memory = Memory
-
--- ---- statuses and lines
-
-abbrev pub check_status : CheckCause → ℕ
-check_status (Tables cause) = table_status cause
-check_status (SeedFile cause) = 7
-check_status (OtherTables slot location) = 1
-check_status (GoalMissed slot) = 1
-check_status (Wrong sphere place) = 1
-check_status (Missing sphere place) = 1
-
--- a location in a sphere, which counts from 0
-abbrev pub place_text : ℕ → Spot → List ℕ
-place_text sphere place =
-    decimal (sphere + 1)
-    ++ (codes ": slot "
-    ++ (decimal place.slot ++ (codes " location " ++ (decimal place.index ++ codes "\n"))))
-
-abbrev pub check_line : CheckCause → List ℕ
-check_line (Tables cause) = table_line cause
-check_line (SeedFile cause) = seed_line cause
-check_line (OtherTables slot location) =
-    codes "check failed: other tables at slot "
-    ++ (decimal slot ++ (codes " location " ++ (signed_decimal location ++ codes "\n")))
-check_line (GoalMissed slot) = codes "check failed: goal of slot " ++ decimal slot ++ codes "\n"
-check_line (Wrong sphere place) = codes "check failed: wrong in sphere " ++ place_text sphere place
-check_line (Missing sphere place) =
-    codes "check failed: missing in sphere " ++ place_text sphere place
 
 -- ---- ends
 

@@ -3,7 +3,7 @@ use Rattle.std.specs.Prelude.{◌≡◌, ◌≢◌, ℕ, List, Bool}
 use Rattle.mw_disk.specs.Crash.{Stays}
 use Rattle.mw_edges.specs.Folders.{SameImages}
 use Rattle.mw_offline.specs.Generating.{SameBut}
-use Rattle.mw_offline.specs.Tables.{Files}
+use Rattle.mw_causes.specs.Tables.{Files}
 
 -- what a folder told of each file and tells now, what a crash might have left of each and may leave
 -- now, of which a disk was open and is, whether a read might fail where its file is there, and how

@@ -16,31 +16,15 @@ use Rattle.mw_spheres.specs.Spheres.{IsSpheres, Shows}
 use Rattle.mw_spheres.specs.Playthrough.{IsPlaythrough, NoneToSpare}
 use Rattle.mw_seeds.specs.SeedFile.{SeedFile}
 use Rattle.mw_seeds.specs.Played.{played_lines}
-use Rattle.mw_offline.specs.Ends.{Told, Ends}
-use Rattle.mw_offline.specs.Tables.{Files, JointIn, HasTableCause, table_status, table_line}
-use Rattle.mw_offline.specs.declared.stop.Stop.{Stop}
-use Rattle.mw_offline.specs.declared.stop.Stop.TheVariants.{Fault, Memory, Refused}
-use Rattle.mw_offline.specs.declared.table_cause.TableCause.{TableCause}
-use Rattle.mw_offline.specs.declared.generate_cause.GenerateCause.{GenerateCause}
-use Rattle.mw_offline.specs.declared.generate_cause.GenerateCause.TheVariants.{Tables, NotBeatable, TooManyItems, Exhausted}
-use Rattle.mw_offline.specs.declared.generate_command.GenerateWords.{GenerateWords}
-
--- the players file, the seed file that is to be written, the seed's number, and how many tries
--- there are
-pub record Wanted : Type 0 where
-  pub players : List ℕ
-  pub out_name : List ℕ
-  pub seed : ℕ
-  pub tries : ℕ
-
--- the same of the words of `generate`
-abbrev pub wanted_in : GenerateWords → Wanted
-wanted_in words = record {
-  players = words.players;
-  out_name = words.out_name;
-  seed = words.seed;
-  tries = words.tries;
-}
+use Rattle.mw_causes.specs.GenerateCauses.{generate_status, generate_line}
+use Rattle.mw_causes.specs.Ends.{Told, Ends}
+use Rattle.mw_causes.specs.Tables.{Files, JointIn, HasTableCause, table_status, table_line}
+use Rattle.mw_causes.specs.declared.stop.Stop.{Stop}
+use Rattle.mw_causes.specs.declared.stop.Stop.TheVariants.{Fault, Memory, Refused}
+use Rattle.mw_causes.specs.declared.table_cause.TableCause.{TableCause}
+use Rattle.mw_causes.specs.declared.generate_cause.GenerateCause.{GenerateCause}
+use Rattle.mw_causes.specs.declared.generate_cause.GenerateCause.TheVariants.{Tables, NotBeatable, TooManyItems, Exhausted}
+use Rattle.mw_words.specs.Commands.{Wanted}
 
 -- what a folder's files were before and after, whether its reads might fail, and how often it had
 -- refused a write
@@ -134,28 +118,6 @@ abbrev pub HasGenerateCause : Files → Bool → Wanted → Stop GenerateCause �
 HasGenerateCause files may_fail wanted stop =
     IsUntextFor (JointIn files wanted.players) (HasTableCause files may_fail wanted.players) wanted
     stop
-
--- a refusal of so many tries as a stop
-abbrev pub generate_stop : ℕ → GenerateError → Stop GenerateCause
-generate_stop tries (refused.NotBeatable slot) = Refused (NotBeatable slot)
-generate_stop tries (refused.TooManyItems have room) = Refused (TooManyItems have room)
-generate_stop tries refused.Exhausted = Refused (Exhausted tries)
-generate_stop tries refused.Memory = Memory
-
--- ---- statuses and lines
-
-abbrev pub generate_status : GenerateCause → ℕ
-generate_status (Tables cause) = table_status cause
-generate_status (NotBeatable slot) = 3
-generate_status (TooManyItems have room) = 3
-generate_status (Exhausted tries) = 4
-
-abbrev pub generate_line : GenerateCause → List ℕ
-generate_line (Tables cause) = table_line cause
-generate_line (NotBeatable slot) = codes "not beatable: slot " ++ decimal slot ++ codes "\n"
-generate_line (TooManyItems have room) =
-    codes "too many items: " ++ decimal have ++ codes " for " ++ decimal room ++ codes " places\n"
-generate_line (Exhausted tries) = codes "exhausted after " ++ decimal tries ++ codes " tries\n"
 
 -- ---- ends
 

@@ -1,7 +1,8 @@
 -- What is true of any two runs.
 use Rattle.std.specs.Prelude.{◌≡◌, ℕ, List, Option, Some}
-use Rattle.mw_offline.specs.Tables.{Files}
-use Rattle.mw_offline.specs.Generating.{Wanted, GeneratedText}
+use Rattle.mw_causes.specs.Tables.{Files}
+use Rattle.mw_words.specs.Commands.{Wanted}
+use Rattle.mw_offline.specs.Generating.{GeneratedText}
 
 -- a folder tells of each name what its file holds, or that there is none
 abbrev pub AreTold : Files → Type 0

@@ -1,7 +1,4 @@
-pub mod Ends
-pub mod SeedFiles
 pub mod Driving
-pub mod Tables
 pub mod Reaching
 pub mod Generating
 pub mod Checking

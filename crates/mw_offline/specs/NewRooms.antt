@@ -7,23 +7,15 @@ use Rattle.mw_model.specs.Seed.{Seed}
 use Rattle.mw_journal.specs.Settled.{AllShut}
 use Rattle.mw_journal.specs.declared.error.OpenError.{OpenError}
 use Rattle.mw_journal.specs.declared.error.OpenError.TheVariants as journal
-use Rattle.mw_offline.specs.Ends.{Told, Ends}
+use Rattle.mw_causes.specs.RoomCauses.{room_status, room_line}
+use Rattle.mw_causes.specs.Ends.{Told, Ends}
 use Rattle.mw_offline.specs.FilesAround.{FilesAround, OthersStay, IsUntouched, IsOnlyRead}
-use Rattle.mw_offline.specs.SeedFiles.{DigestedIn, SeedIn, IsSeedStopped, seed_line}
-use Rattle.mw_offline.specs.declared.stop.Stop.{Stop}
-use Rattle.mw_offline.specs.declared.stop.Stop.TheVariants.{Fault, Memory, Refused}
-use Rattle.mw_offline.specs.declared.new_room.NewRoomWords.{NewRoomWords}
-use Rattle.mw_offline.specs.declared.room_cause.RoomCause.{RoomCause}
-use Rattle.mw_offline.specs.declared.room_cause.RoomCause.TheVariants.{SeedFile, NotEmpty}
-
--- the seed file, and the file in which the journal is made
-pub record RoomFiles : Type 0 where
-  pub multidata : List ℕ
-  pub journal : List ℕ
-
--- the same of the words of `new-room`
-abbrev pub room_in : NewRoomWords → RoomFiles
-room_in words = record { multidata = words.multidata; journal = words.journal }
+use Rattle.mw_causes.specs.SeedFiles.{DigestedIn, SeedIn, IsSeedStopped, seed_line}
+use Rattle.mw_causes.specs.declared.stop.Stop.{Stop}
+use Rattle.mw_causes.specs.declared.stop.Stop.TheVariants.{Fault, Memory, Refused}
+use Rattle.mw_words.specs.Commands.{RoomFiles}
+use Rattle.mw_causes.specs.declared.room_cause.RoomCause.{RoomCause}
+use Rattle.mw_causes.specs.declared.room_cause.RoomCause.TheVariants.{SeedFile, NotEmpty}
 
 -- where the folder tells a file's bytes, there are none
 abbrev pub IsEmpty : Option (Option (List ℕ)) → Type 0
@@ -50,14 +42,6 @@ HasJournalCause file Memory = ⊤
 HasJournalCause file (Refused (SeedFile cause)) = ⊥
 HasJournalCause file (Refused NotEmpty) = HasByte file
 
--- the stop for an error of making a journal
-abbrev pub open_stop : OpenError → Stop RoomCause
-open_stop journal.DiskFault = Fault
-open_stop journal.NotEmpty = Refused NotEmpty
-open_stop (journal.NotJournal at) = Memory
-open_stop (journal.OtherSeed found) = Memory
-open_stop journal.Memory = Memory
-
 -- why no room is made: the seed file is judged first, and where it gives no seed the journal's file
 -- isn't touched
 abbrev pub HasRoomCause : FilesAround → RoomFiles → Stop RoomCause → Type 0
@@ -69,13 +53,6 @@ HasRoomCause files room (Refused (SeedFile cause)) =
     × IsUntouched files room.journal
 HasRoomCause files room (Refused NotEmpty) =
     HasSeed files room × HasByte (files.before room.journal)
-
-abbrev pub room_status : RoomCause → ℕ
-room_status cause = 7
-
-abbrev pub room_line : RoomCause → List ℕ
-room_line (SeedFile cause) = seed_line cause
-room_line NotEmpty = codes "journal refused: NotEmpty\n"
 
 -- ---- ends
 

@@ -10,8 +10,8 @@ use Rattle.mw_multi.specs.Placement.{IsPlaced}
 use Rattle.mw_multi.specs.Events.{events_of}
 use Rattle.mw_reach.specs.Reach.{one_if, IsLeast}
 use Rattle.mw_seeds.specs.Played.{first_name}
-use Rattle.mw_offline.specs.Ends.{Told, Ends}
-use Rattle.mw_offline.specs.Tables.{Files, JointIn, HasTableCause, table_status, table_line}
+use Rattle.mw_causes.specs.Ends.{Told, Ends}
+use Rattle.mw_causes.specs.Tables.{Files, JointIn, HasTableCause, table_status, table_line}
 
 -- the least list of places for these counts, with the events alone placed
 pub record Reaches (joint : Joint) (count : ℕ → ℕ) (w : Places) : Type 0 where

@@ -9,30 +9,19 @@ ghost use Rattle.mw_multi.specs.Placement.{IsPlacement, what_stands};
 ghost use Rattle.mw_spheres.specs.Spheres.{IsSpheres};
 ghost use Rattle.mw_spheres.specs.Playthrough.{IsPlaythrough};
 ghost use Rattle.mw_seeds.specs.Played.{played_lines};
-ghost use Rattle.mw_offline.specs.Ends.{HasLeft, told_by};
-ghost use Rattle.mw_offline.specs.Tables.{AreUnjoined};
-ghost use Rattle.mw_offline.specs.Checking.{asked_in, right_line, CheckedText, IsTextFor, IsUntextFor, HasCheckCause, PrintsChecked, PutsFrontOfChecked, CheckEnds};
+ghost use Rattle.mw_causes.specs.Ends.{HasLeft, told_by};
+ghost use Rattle.mw_causes.specs.Tables.{AreUnjoined};
+ghost use Rattle.mw_words.specs.Commands.{asked_in};
+ghost use Rattle.mw_offline.specs.Checking.{right_line, CheckedText, IsTextFor, IsUntextFor, HasCheckCause, PrintsChecked, PutsFrontOfChecked, CheckEnds};
 
-use crate::check_cause::CheckCause;
-use crate::seed::read_seed;
-use crate::stop::{Stop, end};
-use crate::tables::{Tables, join, read_tables};
-use crate::telling::put_text;
 use mw_base::{Memory, SphereList, Text};
+use mw_causes::{CheckCause, Stop, Tables, end, join, put_text, read_seed, read_tables};
 use mw_edges::{Folder, Sink};
 use mw_multi::{Joint, Placement};
 use mw_seeds::{add_played, check_seed};
 use mw_spheres::playthrough;
+use mw_words::CheckWords;
 use std::alloc::Global;
-
-/// The words of `check`.
-#[derive(Drop)]
-pub struct CheckWords {
-    /// The players file's name.
-    pub players: Text,
-    /// The seed file's name.
-    pub multidata: Text,
-}
 
 /// The line of a seed file that is right.
 fn first_line(alloc: Global, many: u64) -> Result<String, Memory>

@@ -5,31 +5,22 @@ ghost use Rattle.mw_multidata.specs.Digest.{digest_of};
 ghost use Rattle.mw_multidata.specs.SeedOf.{SeedOf};
 ghost use Rattle.mw_drive.specs.Ends.{Drives, IsOfJournal, StaysSettled, StopsWith};
 ghost use Rattle.mw_drive.specs.Left.{KeepsShown};
-ghost use Rattle.mw_offline.specs.Ends.{told_by};
+ghost use Rattle.mw_causes.specs.Ends.{told_by};
 ghost use Rattle.mw_offline.specs.FilesAround.{files_around};
 ghost use Rattle.mw_offline.specs.Driving.{NoImages, IsNewJournal, JournalLeaves, JournalKeeps};
-ghost use Rattle.mw_offline.specs.Driving.{drive_files, run_of, RunsToEnd, RunsShort};
+ghost use Rattle.mw_words.specs.Commands.{drive_files};
+ghost use Rattle.mw_offline.specs.Driving.{run_of, RunsToEnd, RunsShort};
 ghost use Rattle.mw_offline.specs.Driving.{DriveDone, DriveStopped, DriveEnds, DriveKeeps};
 
 use crate::creating::create_on;
-use crate::drive_cause::DriveCause;
-use crate::seed::{SeedBytes, read_seed_bytes};
-use crate::stop::{Stop, end};
 use mw_base::{Bytes, Text};
+use mw_causes::{DriveCause, SeedBytes, Stop, end, read_seed_bytes};
 use mw_disk::SteadyDisk;
 use mw_drive::{DriveError, drive_on};
 use mw_edges::{Folder, FolderError, Sink, Source};
 use mw_multidata::digest;
+use mw_words::DriveWords;
 use std::alloc::Global;
-
-/// The words of `drive`.
-#[derive(Drop)]
-pub struct DriveWords {
-    /// The seed file's name.
-    pub multidata: Text,
-    /// The journal's name; without one the room is kept in a new journal in memory.
-    pub journal: Option<Text>,
-}
 
 /// Runs the script on a room that is kept in memory.
 fn drive_in_memory<S: Source, O: Sink>(

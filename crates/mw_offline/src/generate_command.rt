@@ -4,31 +4,17 @@ ghost use Rattle.mw_edges.specs.Causes.{HasFault, Rose};
 ghost use Rattle.mw_edges.specs.Folders.{IsWritten};
 ghost use Rattle.mw_multi.specs.Files.{world_files};
 ghost use Rattle.mw_multi.specs.JointOf.{joint_of};
-ghost use Rattle.mw_offline.specs.Ends.{HasLeft, told_by};
-ghost use Rattle.mw_offline.specs.Tables.{AreUnjoined};
-ghost use Rattle.mw_offline.specs.Generating.{wanted_in, wrote_by, IsTextFor, IsUntextFor, GeneratedText, HasGenerateCause, IsGenerated, Untouched, WritesSome, HasFailed, GenerateEnds};
+ghost use Rattle.mw_causes.specs.Ends.{HasLeft, told_by};
+ghost use Rattle.mw_causes.specs.Tables.{AreUnjoined};
+ghost use Rattle.mw_words.specs.Commands.{wanted_in};
+ghost use Rattle.mw_offline.specs.Generating.{wrote_by, IsTextFor, IsUntextFor, GeneratedText, HasGenerateCause, IsGenerated, Untouched, WritesSome, HasFailed, GenerateEnds};
 
-use crate::generate_cause::{GenerateCause, refusal_stop};
 use crate::generating::{Made, make};
-use crate::stop::{Stop, end};
-use crate::tables::{Tables, join, read_tables};
-use crate::telling::put_text;
 use mw_base::Text;
+use mw_causes::{GenerateCause, Stop, Tables, end, join, put_text, read_tables, refusal_stop};
 use mw_edges::{Folder, FolderError, Sink};
+use mw_words::GenerateWords;
 use std::alloc::Global;
-
-/// The words of `generate`.
-#[derive(Drop)]
-pub struct GenerateWords {
-    /// The players file's name.
-    pub players: Text,
-    /// The name under which the seed file is written.
-    pub out_name: Text,
-    /// The seed's number.
-    pub seed: u64,
-    /// How many tries there are, 1 to 1,000.
-    pub tries: u32,
-}
 
 /// The seed file of tables that are read, and the text beside it.
 #[tactic(auto, using(crate::proofs::Generated::unjoined_for, crate::proofs::Generated::refused_for, crate::proofs::Generated::text_for))]

@@ -2,28 +2,18 @@
 ghost use Rattle.std.specs.Prelude.{◌≡◌, ◌≤◌, ◌⊎◌, ℕ, List, [], IfErr, OnOk};
 ghost use Rattle.mw_edges.specs.Causes.{Rose};
 ghost use Rattle.mw_journal.specs.Settled.{AllShut};
-ghost use Rattle.mw_offline.specs.Ends.{HasLeft, told_by};
+ghost use Rattle.mw_causes.specs.Ends.{HasLeft, told_by};
 ghost use Rattle.mw_offline.specs.FilesAround.{files_around, OthersStay, IsOnlyRead};
 ghost use Rattle.mw_offline.specs.NewRooms.{IsEmpty, ShowsByte, HasJournalCause, HasRoomCause};
-ghost use Rattle.mw_offline.specs.NewRooms.{room_in, NoRoom, MakesSome, MakesRoom, NewRoomEnds};
+ghost use Rattle.mw_words.specs.Commands.{room_in};
+ghost use Rattle.mw_offline.specs.NewRooms.{NoRoom, MakesSome, MakesRoom, NewRoomEnds};
 
 use crate::creating::create_on;
-use crate::room_cause::{RoomCause, room_stop};
-use crate::seed::read_digest;
-use crate::stop::{Stop, end};
-use crate::telling::put_text;
 use mw_base::Text;
+use mw_causes::{RoomCause, Stop, end, put_text, read_digest, room_stop};
 use mw_edges::{Folder, FolderError, Sink};
+use mw_words::NewRoomWords;
 use std::alloc::Global;
-
-/// The words of `new-room`.
-#[derive(Drop)]
-pub struct NewRoomWords {
-    /// The seed file's name.
-    pub multidata: Text,
-    /// The journal's name.
-    pub journal: Text,
-}
 
 /// Makes an empty journal in a file without bytes, or in one that isn't there. Its disk is closed
 /// again.

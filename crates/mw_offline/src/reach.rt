@@ -2,28 +2,19 @@
 ghost use Rattle.std.specs.Prelude.{◌≡◌, ◌≤◌, ◌⊎◌, ℕ, List, IfOk, IfErr, OnOk, length, string_bytes};
 ghost use Rattle.std.specs.Io.KnownBytes.{Keeps};
 ghost use Rattle.mw_edges.specs.Causes.{Rose};
-ghost use Rattle.mw_offline.specs.Ends.{HasLeft, told_by};
-ghost use Rattle.mw_offline.specs.Tables.{HasTableCause};
+ghost use Rattle.mw_causes.specs.Ends.{HasLeft, told_by};
+ghost use Rattle.mw_causes.specs.Tables.{HasTableCause};
 ghost use Rattle.mw_offline.specs.Reaching.{ReachText, Prints, PutsFrontOfReach, ReachEnds};
 
 use crate::reaching::reach_text;
-use crate::stop::{Stop, end};
-use crate::table_cause::TableCause;
-use crate::tables::{join, read_tables};
-use crate::telling::put_text;
 use mw_base::Text;
+use mw_causes::{Stop, TableCause, end, join, put_text, read_tables};
 use mw_edges::{Folder, Sink};
+use mw_words::ReachWords;
 use std::alloc::Global;
 
-/// The words of `reach`.
-#[derive(Drop)]
-pub struct ReachWords {
-    /// The players file's name.
-    pub players: Text,
-}
-
 /// Reads the tables, and gives the text.
-#[tactic(auto, using(crate::proofs::TableCauses::unjoined_cause, crate::proofs::TableCauses::reach_text))]
+#[tactic(auto, using(mw_causes::proofs::TableCauses::unjoined_cause, crate::proofs::Counted::reach_text))]
 fn text_of<F: Folder>(
     alloc: Global,
     words: &ReachWords,

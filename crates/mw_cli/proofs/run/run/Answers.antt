@@ -1,9 +1,9 @@
 use Rattle.std.proofs.Common.{Err, ap, refl, subst, inl, inr}
 use Rattle.std.proofs.KnownBytes.{Keeps-refl}
-use Rattle.mw_offline.specs.declared.stop.Stop.TheVariants.{Memory}
-use Rattle.mw_cli.specs.Lines.{AsksFor, generate_line, check_line, reach_line, new_room_line, drive_line}
+use Rattle.mw_causes.specs.declared.stop.Stop.TheVariants.{Memory}
+use Rattle.mw_words.specs.Lines.{AsksFor, generate_line, check_line, reach_line, new_room_line, drive_line}
 use Rattle.mw_offline.proofs.Driving.{unstarted}
-use Rattle.mw_cli.proofs.Asking.{asks_one}
+use Rattle.mw_words.proofs.Asking.{asks_one}
 use Rattle.mw_cli.proofs.run.run.Goals as goal
 
 pub returns-in-Ok-clause-generate : goal.returns-in-Ok-clause-generate

@@ -1,10 +1,11 @@
 use Rattle.std.proofs.Common.{◌≡◌, Ok, Err, ap}
 use Rattle.std.proofs.lemmas.Result.{IfErr-weaker}
 use Rattle.mw_multi.specs.JointOf.{joint_of}
-use Rattle.mw_offline.specs.Tables.{AreUnjoined}
-use Rattle.mw_offline.specs.Checking.{asked_in, IsUntextFor, HasCheckCause}
-use Rattle.mw_offline.specs.declared.check_cause.CheckCause.TheVariants.{Tables}
-use Rattle.mw_offline.proofs.Endings.{fault_exit}
+use Rattle.mw_causes.specs.Tables.{AreUnjoined}
+use Rattle.mw_words.specs.Commands.{asked_in}
+use Rattle.mw_offline.specs.Checking.{IsUntextFor, HasCheckCause}
+use Rattle.mw_causes.specs.declared.check_cause.CheckCause.TheVariants.{Tables}
+use Rattle.mw_causes.proofs.Endings.{fault_exit}
 use Rattle.mw_offline.proofs.Checked.{table_cause, check_cause}
 use Rattle.mw_offline.proofs.check_command.prepare.Goals as goal
 

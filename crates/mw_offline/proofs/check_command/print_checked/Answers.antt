@@ -3,8 +3,9 @@ use Rattle.std.proofs.KnownBytes.{Keeps-refl}
 use Rattle.std.proofs.lemmas.Result.{on_ok_weaker}
 use Rattle.std.specs.Io.KnownBytes.{Appends, Keeps}
 use Rattle.mw_edges.specs.Causes.{PutsFront, Rose}
-use Rattle.mw_offline.specs.Checking.{asked_in, HasCheckCause, PutsFrontOfChecked}
-use Rattle.mw_offline.proofs.Endings.{left_exit, left_late}
+use Rattle.mw_words.specs.Commands.{asked_in}
+use Rattle.mw_offline.specs.Checking.{HasCheckCause, PutsFrontOfChecked}
+use Rattle.mw_causes.proofs.Endings.{left_exit, left_late}
 use Rattle.mw_offline.proofs.check_command.print_checked.Goals as goal
 
 pub returns-in_err-text-clause-left : goal.returns-in_err-text-clause-left

@@ -2,9 +2,9 @@ use Rattle.std.proofs.Common.{◌≡◌, Ok, Err, ap, subst, sym}
 use Rattle.mw_model.specs.Seed.{Seed}
 use Rattle.mw_multi.specs.JointOf.{joint_of}
 use Rattle.mw_spheres.specs.Spheres.{IsSpheres}
-use Rattle.mw_offline.specs.Tables.{AreUnjoined}
-use Rattle.mw_offline.specs.declared.check_cause.CheckCause.TheVariants.{Tables, SeedFile}
-use Rattle.mw_offline.proofs.Endings.{fault_exit, fault_passed, memory_late}
+use Rattle.mw_causes.specs.Tables.{AreUnjoined}
+use Rattle.mw_causes.specs.declared.check_cause.CheckCause.TheVariants.{Tables, SeedFile}
+use Rattle.mw_causes.proofs.Endings.{fault_exit, fault_passed, memory_late}
 use Rattle.mw_offline.proofs.Checked.{unjoined_for, unread_for, wrong_for, wrong_late, text_for}
 use Rattle.mw_offline.proofs.check_command.text_for.Goals as goal
 

@@ -1,10 +1,11 @@
 use Rattle.std.proofs.Common.{Err, ap, inl}
 use Rattle.mw_multidata.specs.Digest.{digest_of}
-use Rattle.mw_offline.specs.Driving.{drive_files, run_of}
+use Rattle.mw_words.specs.Commands.{drive_files}
+use Rattle.mw_offline.specs.Driving.{run_of}
 use Rattle.mw_offline.specs.FilesAround.{files_around}
-use Rattle.mw_offline.specs.declared.drive_cause.DriveCause.TheVariants.{SeedFile}
+use Rattle.mw_causes.specs.declared.drive_cause.DriveCause.TheVariants.{SeedFile}
 use Rattle.mw_offline.proofs.Driving.{AreUnmoved, keeps_since, leaves_since, read_keeps, rose_since, run_exit, run_fault, runs_since, seed_exit, short_since, unmoved_all, unmoved_leaves}
-use Rattle.mw_offline.proofs.Endings.{fault_exit}
+use Rattle.mw_causes.proofs.Endings.{fault_exit}
 use Rattle.mw_offline.proofs.drive_command.drive.Goals as goal
 
 pub returns-in_err-seed-clause-stopped : goal.returns-in_err-seed-clause-stopped

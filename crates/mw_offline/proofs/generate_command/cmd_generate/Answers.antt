@@ -1,4 +1,4 @@
-use Rattle.mw_offline.proofs.Endings.{ends}
+use Rattle.mw_causes.proofs.Endings.{ends}
 use Rattle.mw_offline.proofs.generate_command.cmd_generate.Goals as goal
 
 pub returns-clause-ends : goal.returns-clause-ends

@@ -1,9 +1,9 @@
 use Rattle.std.proofs.Common.{◌≡◌, Ok, Err, ap}
 use Rattle.mw_multi.specs.JointOf.{joint_of}
-use Rattle.mw_offline.specs.Tables.{AreUnjoined}
-use Rattle.mw_offline.specs.Generating.{wanted_in}
-use Rattle.mw_offline.specs.declared.generate_cause.GenerateCause.TheVariants.{Tables}
-use Rattle.mw_offline.proofs.Endings.{fault_exit}
+use Rattle.mw_causes.specs.Tables.{AreUnjoined}
+use Rattle.mw_words.specs.Commands.{wanted_in}
+use Rattle.mw_causes.specs.declared.generate_cause.GenerateCause.TheVariants.{Tables}
+use Rattle.mw_causes.proofs.Endings.{fault_exit}
 use Rattle.mw_offline.proofs.Generated.{unjoined_for}
 use Rattle.mw_offline.proofs.generate_command.made_from.Goals as goal
 

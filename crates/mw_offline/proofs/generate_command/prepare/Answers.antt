@@ -1,7 +1,7 @@
 use Rattle.std.proofs.Common.{Err, ap}
-use Rattle.mw_offline.specs.Generating.{wanted_in}
-use Rattle.mw_offline.specs.declared.generate_cause.GenerateCause.TheVariants.{Tables}
-use Rattle.mw_offline.proofs.Endings.{fault_exit}
+use Rattle.mw_words.specs.Commands.{wanted_in}
+use Rattle.mw_causes.specs.declared.generate_cause.GenerateCause.TheVariants.{Tables}
+use Rattle.mw_causes.proofs.Endings.{fault_exit}
 use Rattle.mw_offline.proofs.Generated.{table_cause}
 use Rattle.mw_offline.proofs.generate_command.prepare.Goals as goal
 

@@ -4,9 +4,10 @@ use Rattle.std.proofs.lemmas.Result.{on_ok_weaker}
 use Rattle.std.specs.Io.KnownBytes.{Appends}
 use Rattle.mw_edges.specs.Causes.{PutsFront, Rose}
 use Rattle.mw_edges.specs.Folders.{IsWritten}
-use Rattle.mw_offline.specs.Ends.{HasLeft, told_by}
-use Rattle.mw_offline.specs.Generating.{wanted_in, wrote_by, HasGenerateCause, Untouched, WritesSome, HasFailed}
-use Rattle.mw_offline.proofs.Endings.{passed_exit, fault_passed, left_exit, left_late, left_some}
+use Rattle.mw_causes.specs.Ends.{HasLeft, told_by}
+use Rattle.mw_words.specs.Commands.{wanted_in}
+use Rattle.mw_offline.specs.Generating.{wrote_by, HasGenerateCause, Untouched, WritesSome, HasFailed}
+use Rattle.mw_causes.proofs.Endings.{passed_exit, fault_passed, left_exit, left_late, left_some}
 use Rattle.mw_offline.proofs.generate_command.write_and_print.Goals as goal
 
 pub returns-in_err-made-clause-left : goal.returns-in_err-made-clause-left

@@ -1,6 +1,6 @@
 use Rattle.std.proofs.Common.{◌⊎◌, Err, ap, inl, inr, arith}
 use Rattle.mw_edges.specs.Causes.{Rose}
-use Rattle.mw_offline.specs.NewRooms.{room_in}
+use Rattle.mw_words.specs.Commands.{room_in}
 use Rattle.mw_offline.proofs.NewRooms.{bytes_read, journal_exit, room_done, room_left}
 use Rattle.mw_offline.proofs.new_room.new_room.Goals as goal
 

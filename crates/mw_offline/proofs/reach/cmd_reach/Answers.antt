@@ -1,4 +1,4 @@
-use Rattle.mw_offline.proofs.Endings.{ends}
+use Rattle.mw_causes.proofs.Endings.{ends}
 use Rattle.mw_offline.proofs.reach.cmd_reach.Goals as goal
 
 pub returns-clause-ends : goal.returns-clause-ends

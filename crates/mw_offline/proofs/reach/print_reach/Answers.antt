@@ -3,9 +3,9 @@ use Rattle.std.proofs.KnownBytes.{Keeps-refl}
 use Rattle.std.proofs.lemmas.Result.{on_ok_weaker}
 use Rattle.std.specs.Io.KnownBytes.{Appends, Keeps}
 use Rattle.mw_edges.specs.Causes.{PutsFront, Rose}
-use Rattle.mw_offline.specs.Tables.{HasTableCause}
+use Rattle.mw_causes.specs.Tables.{HasTableCause}
 use Rattle.mw_offline.specs.Reaching.{PutsFrontOfReach}
-use Rattle.mw_offline.proofs.Endings.{left_exit, left_late}
+use Rattle.mw_causes.proofs.Endings.{left_exit, left_late}
 use Rattle.mw_offline.proofs.reach.print_reach.Goals as goal
 
 pub returns-in_err-text-clause-left : goal.returns-in_err-text-clause-left

@@ -1,8 +1,9 @@
 use Rattle.std.proofs.Common.{Err, ap}
-use Rattle.mw_offline.specs.Tables.{HasTableCause}
-use Rattle.mw_offline.specs.declared.stop.Stop.TheVariants.{Memory}
-use Rattle.mw_offline.proofs.Endings.{passed_exit, fault_passed, memory_late}
-use Rattle.mw_offline.proofs.TableCauses.{unjoined_cause, reach_text}
+use Rattle.mw_causes.specs.Tables.{HasTableCause}
+use Rattle.mw_causes.specs.declared.stop.Stop.TheVariants.{Memory}
+use Rattle.mw_causes.proofs.Endings.{passed_exit, fault_passed, memory_late}
+use Rattle.mw_causes.proofs.TableCauses.{unjoined_cause}
+use Rattle.mw_offline.proofs.Counted.{reach_text}
 use Rattle.mw_offline.proofs.reach.text_of.Goals as goal
 
 pub returns-in_err-joint-clause-err : goal.returns-in_err-joint-clause-err

@@ -1,0 +1,5 @@
+pub mod Endings
+pub mod Unread
+pub mod Reading
+pub mod TableCauses
+pub mod SeedReading

@@ -1,0 +1,7 @@
+pub mod Ends
+pub mod Tables
+pub mod SeedFiles
+pub mod GenerateCauses
+pub mod CheckCauses
+pub mod DriveCauses
+pub mod RoomCauses

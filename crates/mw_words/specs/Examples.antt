@@ -1,0 +1,45 @@
+-- Rows of words beside the definitions.
+use Rattle.std.specs.Prelude.{◌≡◌, List, ℕ, [], ◌∷◌, Some, None, codes, refl}
+use Rattle.clap.specs.declared.error.kind.ErrorKind.TheVariants.{UnknownArgument, ArgumentConflict}
+use Rattle.clap.proofs.OnLiterals.{clap_on_literals}
+use Rattle.mw_words.specs.Words.{IsDrive, drive_app, faults, generate_app, given}
+
+-- a file's name
+pub drive_one : IsDrive (codes "drive" ∷ codes "A" ∷ [])
+    (record { multidata = codes "A"; journal = None })
+unfolding faults given clap_on_literals
+drive_one =
+    record { taken = record { named = refl; faultless = refl }; multidata = refl; journal = refl }
+
+-- two files' names
+pub drive_two : IsDrive (codes "drive" ∷ codes "A" ∷ codes "J" ∷ [])
+    (record { multidata = codes "A"; journal = Some (codes "J") })
+unfolding faults given clap_on_literals
+drive_two =
+    record { taken = record { named = refl; faultless = refl }; multidata = refl; journal = refl }
+
+-- a word too many
+pub drive_three : faults drive_app (codes "drive" ∷ codes "A" ∷ codes "J" ∷ codes "K" ∷ [])
+    ≡ UnknownArgument ∷ []
+unfolding faults clap_on_literals
+drive_three = refl
+
+abbrev pub made : List (List ℕ)
+made = codes "generate" ∷ codes "--seed=5" ∷ codes "p.json" ∷ codes "o" ∷ []
+
+-- an option may stand anywhere, with its value after `=`
+pub seed_first : given generate_app made (codes "seed") ≡ Some (codes "5")
+unfolding given clap_on_literals
+seed_first = refl
+
+-- tries that aren't said
+pub tries_unsaid : given generate_app made (codes "tries") ≡ Some (codes "100")
+unfolding given clap_on_literals
+tries_unsaid = refl
+
+-- no option twice
+pub seed_twice : faults generate_app
+    (codes "generate" ∷ codes "p" ∷ codes "o" ∷ codes "--seed" ∷ codes "5" ∷ codes "--seed"
+    ∷ codes "6" ∷ []) ≡ ArgumentConflict ∷ []
+unfolding faults clap_on_literals
+seed_twice = refl

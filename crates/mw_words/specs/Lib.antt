@@ -1,0 +1,5 @@
+pub mod Commands
+pub mod Numbers
+pub mod Words
+pub mod Lines
+pub mod Examples

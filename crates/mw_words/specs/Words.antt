@@ -1,0 +1,109 @@
+-- The words of the command line after the program's name, and what they ask for.
+use Rattle.std.specs.Prelude.{◌≡◌, ◌<◌, ◌≤◌, ◌^◌, ℕ, true, List, [], ◌∷◌, Option, Some, codes, decimal, slice_get}
+use Rattle.clap.specs.Words.{App, Kinds, Rule, fault_of, first_of, matches_of, new_rule}
+use Rattle.clap.specs.Simple.{new_shape}
+use Rattle.mw_words.specs.Commands.{Asked, DriveFiles, Wanted, RoomFiles}
+
+-- ---- the commands, as clap reads their words
+
+-- a command of these arguments that offers no help and tells no version
+abbrev pub command_app : List ℕ → List Rule → App
+command_app name rules = record {
+  top = record (new_shape name)
+      { rules = rules; disable_help_flag = true; disable_version_flag = true };
+  subs = [];
+}
+
+-- a word that is required, and known by its place
+abbrev pub word_rule : List ℕ → Rule
+word_rule id = record (new_rule id) { required = true }
+
+-- a word that may be missing, and is known by its place
+abbrev pub last_rule : List ℕ → Rule
+last_rule id = new_rule id
+
+-- an option with one value, `--id VALUE` or `--id=VALUE`
+abbrev pub option_rule : List ℕ → Rule
+option_rule id = record (new_rule id) { long = Some id }
+
+-- `--seed N`, which is required
+abbrev pub seed_rule : Rule
+seed_rule = record (option_rule (codes "seed")) { required = true }
+
+-- `--tries N`, 100 where it isn't there
+abbrev pub tries_rule : Rule
+tries_rule = record (option_rule (codes "tries")) { defaults = codes "100" ∷ [] }
+
+-- `generate PLAYERS OUT --seed N [--tries N]`
+abbrev pub generate_app : App
+generate_app =
+    command_app (codes "generate")
+    (word_rule (codes "players") ∷ word_rule (codes "out") ∷ seed_rule ∷ tries_rule ∷ [])
+
+-- `check PLAYERS MULTIDATA`
+abbrev pub check_app : App
+check_app =
+    command_app (codes "check") (word_rule (codes "players") ∷ word_rule (codes "multidata") ∷ [])
+
+-- `reach PLAYERS`
+abbrev pub reach_app : App
+reach_app = command_app (codes "reach") (word_rule (codes "players") ∷ [])
+
+-- `new-room MULTIDATA JOURNAL`
+abbrev pub new_room_app : App
+new_room_app =
+    command_app (codes "new-room")
+    (word_rule (codes "multidata") ∷ word_rule (codes "journal") ∷ [])
+
+-- `drive MULTIDATA [JOURNAL]`
+abbrev pub drive_app : App
+drive_app =
+    command_app (codes "drive") (word_rule (codes "multidata") ∷ last_rule (codes "journal") ∷ [])
+
+-- ---- what words ask for
+
+-- what clap finds at fault in the words after the first
+unfoldable pub faults : App → List (List ℕ) → Kinds
+faults app words = fault_of app words
+
+-- what the words give for an argument, in clap's reading
+unfoldable pub given : App → List (List ℕ) → List ℕ → Option (List ℕ)
+given app words id = first_of id (matches_of app words)
+
+-- the first word is the command's name, and nothing is at fault in the others
+pub record IsTaken (app : App) (words : List (List ℕ)) : Type 0 where
+  pub named : slice_get words 0 ≡ Some app.top.name
+  pub faultless : faults app words ≡ []
+
+-- `generate` with two names and two numbers, which are digits with no 0 before others
+pub record IsGenerate (words : List (List ℕ)) (wanted : Wanted) : Type 0 where
+  pub taken : IsTaken generate_app words
+  pub players : given generate_app words (codes "players") ≡ Some wanted.players
+  pub out_name : given generate_app words (codes "out") ≡ Some wanted.out_name
+  pub seed : given generate_app words (codes "seed") ≡ Some (decimal wanted.seed)
+  pub seed_range : wanted.seed < 2 ^ 64
+  pub tries : given generate_app words (codes "tries") ≡ Some (decimal wanted.tries)
+  pub tries_range : (1 ≤ wanted.tries) × (wanted.tries ≤ 1000)
+
+-- `check` of a players file and a seed file
+pub record IsCheck (words : List (List ℕ)) (asked : Asked) : Type 0 where
+  pub taken : IsTaken check_app words
+  pub players : given check_app words (codes "players") ≡ Some asked.players
+  pub multidata : given check_app words (codes "multidata") ≡ Some asked.multidata
+
+-- `reach` of a players file
+pub record IsReach (words : List (List ℕ)) (players : List ℕ) : Type 0 where
+  pub taken : IsTaken reach_app words
+  pub players_given : given reach_app words (codes "players") ≡ Some players
+
+-- `new-room` of a seed file and a journal
+pub record IsNewRoom (words : List (List ℕ)) (room : RoomFiles) : Type 0 where
+  pub taken : IsTaken new_room_app words
+  pub multidata : given new_room_app words (codes "multidata") ≡ Some room.multidata
+  pub journal : given new_room_app words (codes "journal") ≡ Some room.journal
+
+-- `drive` of a seed file, and of a journal where one is named
+pub record IsDrive (words : List (List ℕ)) (files : DriveFiles) : Type 0 where
+  pub taken : IsTaken drive_app words
+  pub multidata : given drive_app words (codes "multidata") ≡ Some files.multidata
+  pub journal : given drive_app words (codes "journal") ≡ files.journal

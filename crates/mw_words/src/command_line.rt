@@ -1,0 +1,64 @@
+//! What a command line asks for.
+use mw_base::Text;
+
+/// The words of `generate`.
+#[derive(Drop)]
+pub struct GenerateWords {
+    /// The players file's name.
+    pub players: Text,
+    /// The name under which the seed file is written.
+    pub out_name: Text,
+    /// The seed's number.
+    pub seed: u64,
+    /// How many tries there are, 1 to 1,000.
+    pub tries: u32,
+}
+
+/// The words of `check`.
+#[derive(Drop)]
+pub struct CheckWords {
+    /// The players file's name.
+    pub players: Text,
+    /// The seed file's name.
+    pub multidata: Text,
+}
+
+/// The words of `reach`.
+#[derive(Drop)]
+pub struct ReachWords {
+    /// The players file's name.
+    pub players: Text,
+}
+
+/// The words of `new-room`.
+#[derive(Drop)]
+pub struct NewRoomWords {
+    /// The seed file's name.
+    pub multidata: Text,
+    /// The journal's name.
+    pub journal: Text,
+}
+
+/// The words of `drive`.
+#[derive(Drop)]
+pub struct DriveWords {
+    /// The seed file's name.
+    pub multidata: Text,
+    /// The journal's name; without one the room is kept in a new journal in memory.
+    pub journal: Option<Text>,
+}
+
+/// What a command line asks for.
+#[derive(Drop)]
+pub enum CommandLine {
+    /// A seed file is to be made.
+    Generate(GenerateWords),
+    /// A seed file is to be judged.
+    Check(CheckWords),
+    /// What is reached is to be told.
+    Reach(ReachWords),
+    /// A room's journal is to be made.
+    NewRoom(NewRoomWords),
+    /// A script is to be run on a room.
+    Drive(DriveWords),
+}

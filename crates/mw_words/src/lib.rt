@@ -1,0 +1,15 @@
+//! The words of the command line, as `clap` reads them, and the command that they ask for.
+#![tactic(auto)]
+
+mod arguments;
+mod command_line;
+mod commands;
+mod error;
+mod number;
+mod words;
+
+pub use command_line::{
+    CheckWords, CommandLine, DriveWords, GenerateWords, NewRoomWords, ReachWords,
+};
+pub use error::WordsError;
+pub use words::{has_one_meaning, read_words};

@@ -1,0 +1,139 @@
+ghost use Rattle.std.specs.Prelude.{◌≡◌, ℕ, List, Some, IfOk, codes, slice_get};
+ghost use Rattle.clap.specs.Walk.{texts};
+ghost use Rattle.mw_words.specs.Commands.{Asked, DriveFiles, Wanted, RoomFiles};
+ghost use Rattle.mw_words.specs.Words.{IsGenerate, IsCheck, IsReach, IsNewRoom, IsDrive};
+ghost use Rattle.mw_words.specs.Lines.{AsksFor, IsNoCommand, HasOneMeaning};
+
+use crate::arguments::{number, parse, text, text_or_none};
+use crate::command_line::{
+    CheckWords, CommandLine, DriveWords, GenerateWords, NewRoomWords, ReachWords,
+};
+use crate::commands::{
+    check_command, drive_command, generate_command, new_room_command, reach_command,
+};
+use crate::error::WordsError;
+use mw_base::Text;
+use std::alloc::{AllocError, Global};
+
+/// The words as they are borrowed.
+fn borrowed<'a>(alloc: Global, words: &'a [Text]) -> Result<Vec<&'a str>, AllocError>
+    ensures { IfOk result (λ v. texts v.items ≡ words.entry.now) }
+{
+    let mut borrowed = Vec::new(alloc);
+    for word in words {
+        borrowed.push(word.as_str())?;
+    }
+    Ok(borrowed)
+}
+
+/// The words of `generate`.
+fn read_generate(alloc: Global, words: &[&str]) -> Result<GenerateWords, WordsError>
+    requires { slice_get (texts words.now) 0 ≡ Some (codes "generate") }
+    ensures ok { IfOk result
+        (λ w. IsGenerate
+        (texts words.now)
+        record { players = w.players; out_name = w.out_name; seed = w.seed; tries = w.tries }) }
+    ensures bad { result ≡ Err WordsError.BadWords → (wanted : Wanted)
+        → IsGenerate (texts words.now) wanted → ⊥ }
+{
+    let matches = parse(generate_command(alloc)?, words)?;
+    Ok(GenerateWords {
+        players: text(alloc, &matches, "players")?,
+        out_name: text(alloc, &matches, "out")?,
+        seed: number(&matches, "seed", 0, u64::MAX)?,
+        tries: number(&matches, "tries", 1, 1000)? as u32,
+    })
+}
+
+/// The words of `check`.
+fn read_check(alloc: Global, words: &[&str]) -> Result<CheckWords, WordsError>
+    requires { slice_get (texts words.now) 0 ≡ Some (codes "check") }
+    ensures ok { IfOk result
+        (λ w. IsCheck (texts words.now) record { players = w.players; multidata = w.multidata }) }
+    ensures bad { result ≡ Err WordsError.BadWords → (asked : Asked)
+        → IsCheck (texts words.now) asked → ⊥ }
+{
+    let matches = parse(check_command(alloc)?, words)?;
+    Ok(CheckWords {
+        players: text(alloc, &matches, "players")?,
+        multidata: text(alloc, &matches, "multidata")?,
+    })
+}
+
+/// The words of `reach`.
+fn read_reach(alloc: Global, words: &[&str]) -> Result<ReachWords, WordsError>
+    requires { slice_get (texts words.now) 0 ≡ Some (codes "reach") }
+    ensures ok { IfOk result (λ w. IsReach (texts words.now) w.players) }
+    ensures bad { result ≡ Err WordsError.BadWords → (players : List ℕ)
+        → IsReach (texts words.now) players → ⊥ }
+{
+    let matches = parse(reach_command(alloc)?, words)?;
+    Ok(ReachWords {
+        players: text(alloc, &matches, "players")?,
+    })
+}
+
+/// The words of `new-room`.
+fn read_new_room(alloc: Global, words: &[&str]) -> Result<NewRoomWords, WordsError>
+    requires { slice_get (texts words.now) 0 ≡ Some (codes "new-room") }
+    ensures ok { IfOk result
+        (λ w. IsNewRoom (texts words.now)
+        record { multidata = w.multidata; journal = w.journal }) }
+    ensures bad { result ≡ Err WordsError.BadWords → (room : RoomFiles)
+        → IsNewRoom (texts words.now) room → ⊥ }
+{
+    let matches = parse(new_room_command(alloc)?, words)?;
+    Ok(NewRoomWords {
+        multidata: text(alloc, &matches, "multidata")?,
+        journal: text(alloc, &matches, "journal")?,
+    })
+}
+
+/// The words of `drive`.
+fn read_drive(alloc: Global, words: &[&str]) -> Result<DriveWords, WordsError>
+    requires { slice_get (texts words.now) 0 ≡ Some (codes "drive") }
+    ensures ok { IfOk result
+        (λ w. IsDrive (texts words.now)
+        record { multidata = w.multidata; journal = w.journal }) }
+    ensures bad { result ≡ Err WordsError.BadWords → (files : DriveFiles)
+        → IsDrive (texts words.now) files → ⊥ }
+{
+    let matches = parse(drive_command(alloc)?, words)?;
+    Ok(DriveWords {
+        multidata: text(alloc, &matches, "multidata")?,
+        journal: text_or_none(alloc, &matches, "journal")?,
+    })
+}
+
+/// What words ask for, by the first of them.
+fn read_command(alloc: Global, words: &[&str]) -> Result<CommandLine, WordsError>
+    ensures ok { IfOk result (AsksFor (texts words.now)) }
+    ensures bad { result ≡ Err WordsError.BadWords → IsNoCommand (texts words.now) }
+{
+    let Some(command) = words.first() else {
+        return Err(WordsError::BadWords);
+    };
+    match *command {
+        "generate" => Ok(CommandLine::Generate(read_generate(alloc, words)?)),
+        "check" => Ok(CommandLine::Check(read_check(alloc, words)?)),
+        "reach" => Ok(CommandLine::Reach(read_reach(alloc, words)?)),
+        "new-room" => Ok(CommandLine::NewRoom(read_new_room(alloc, words)?)),
+        "drive" => Ok(CommandLine::Drive(read_drive(alloc, words)?)),
+        _ => Err(WordsError::BadWords),
+    }
+}
+
+/// What the command line's words after the program's name ask for; `BadWords` where they are no command.
+pub fn read_words(alloc: Global, words: &[Text]) -> Result<CommandLine, WordsError>
+    ensures ok { IfOk result (AsksFor words.now) }
+    ensures bad { result ≡ Err WordsError.BadWords → IsNoCommand words.now }
+{
+    let words = borrowed(alloc, words)?;
+    read_command(alloc, words.as_slice())
+}
+
+/// No words ask for two things.
+#[tactic(auto, using(crate::proofs::Asking::asks_one))]
+pub fn has_one_meaning()
+    ensures { HasOneMeaning }
+{}
