@@ -1,6 +1,5 @@
 -- What `check` finds and prints, and how it ends.
 use Rattle.std.specs.Prelude.{◌≡◌, ◌⊎◌, ◌++◌, ◌+◌, ℕ, List, Option, Bool, codes, decimal, length, ⊤}
-use Rattle.std.specs.Fmt.{signed_decimal}
 use Rattle.std.specs.Io.KnownBytes.{Keeps, Appends}
 use Rattle.mw_edges.specs.Causes.{PutsFront, Rose}
 use Rattle.mw_edges.specs.Folders.{MayBeUnread}
@@ -14,8 +13,8 @@ use Rattle.mw_seeds.specs.declared.refusal.SeedRefusal.{SeedRefusal}
 use Rattle.mw_seeds.specs.declared.refusal.SeedRefusal.TheVariants as found
 use Rattle.mw_causes.specs.CheckCauses.{check_status, check_line}
 use Rattle.mw_causes.specs.Ends.{Told, Ends}
-use Rattle.mw_causes.specs.Tables.{Files, JointIn, HasTableCause, table_status, table_line}
-use Rattle.mw_causes.specs.SeedFiles.{SeedIn, IsSeedStopped, seed_line}
+use Rattle.mw_causes.specs.Tables.{Files, JointIn, HasTableCause}
+use Rattle.mw_causes.specs.SeedFiles.{SeedIn, IsSeedStopped}
 use Rattle.mw_causes.specs.declared.stop.Stop.{Stop}
 use Rattle.mw_causes.specs.declared.stop.Stop.TheVariants.{Fault, Memory, Refused}
 use Rattle.mw_causes.specs.declared.table_cause.TableCause.{TableCause}

@@ -1,5 +1,5 @@
 -- How `drive` ends.
-use Rattle.std.specs.Prelude.{◌≡◌, ◌⊎◌, ◌++◌, ℕ, List, [], Option, Some, None, Ok, IsTrue, is_some, codes, decimal, ⊤}
+use Rattle.std.specs.Prelude.{◌≡◌, ◌⊎◌, ℕ, List, [], Option, Some, None, Ok, IsTrue, is_some, ⊤}
 use Rattle.std.specs.Io.KnownBytes.{Keeps}
 use Rattle.mw_disk.specs.Crash.{Stays}
 use Rattle.mw_edges.specs.Folders.{StaysOrIsMade, opened_bytes}
@@ -11,19 +11,16 @@ use Rattle.mw_protocol.specs.Records.{Record}
 use Rattle.mw_drive.specs.Ends.{IsFound, Refuses, StaysSettled, Drives, StopsWith, IsOfJournal}
 use Rattle.mw_drive.specs.Left.{IsLeft, KeepsShown}
 use Rattle.mw_drive.specs.declared.error.DriveError.{DriveError}
-use Rattle.mw_drive.specs.declared.error.DriveError.TheVariants as error
 use Rattle.mw_drive.specs.declared.error.JournalRefusal.{JournalRefusal}
-use Rattle.mw_drive.specs.declared.error.JournalRefusal.TheVariants.{NotJournal, OtherSeed, BadRecord}
 use Rattle.mw_causes.specs.DriveCauses.{drive_stop, drive_status, drive_line}
 use Rattle.mw_causes.specs.Ends.{Told, Ended, stop_with}
 use Rattle.mw_offline.specs.FilesAround.{FilesAround, IsUntouched}
-use Rattle.mw_causes.specs.SeedFiles.{IsFile, IsSeedStopped, seed_line}
+use Rattle.mw_causes.specs.SeedFiles.{IsFile, IsSeedStopped}
 use Rattle.mw_causes.specs.declared.seed_cause.SeedCause.{SeedCause}
 use Rattle.mw_causes.specs.declared.stop.Stop.{Stop}
-use Rattle.mw_causes.specs.declared.stop.Stop.TheVariants.{Fault, Memory, Refused}
 use Rattle.mw_words.specs.Commands.{DriveFiles}
 use Rattle.mw_causes.specs.declared.drive_cause.DriveCause.{DriveCause}
-use Rattle.mw_causes.specs.declared.drive_cause.DriveCause.TheVariants.{SeedFile, Journal, Script, Full}
+use Rattle.mw_causes.specs.declared.drive_cause.DriveCause.TheVariants.{SeedFile}
 
 -- ---- the journal
 

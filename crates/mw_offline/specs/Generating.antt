@@ -18,7 +18,7 @@ use Rattle.mw_seeds.specs.SeedFile.{SeedFile}
 use Rattle.mw_seeds.specs.Played.{played_lines}
 use Rattle.mw_causes.specs.GenerateCauses.{generate_status, generate_line}
 use Rattle.mw_causes.specs.Ends.{Told, Ends}
-use Rattle.mw_causes.specs.Tables.{Files, JointIn, HasTableCause, table_status, table_line}
+use Rattle.mw_causes.specs.Tables.{Files, JointIn, HasTableCause}
 use Rattle.mw_causes.specs.declared.stop.Stop.{Stop}
 use Rattle.mw_causes.specs.declared.stop.Stop.TheVariants.{Fault, Memory, Refused}
 use Rattle.mw_causes.specs.declared.table_cause.TableCause.{TableCause}

@@ -5,12 +5,10 @@ use Rattle.mw_edges.specs.Causes.{PutsFront, Rose}
 use Rattle.mw_edges.specs.Folders.{MayBeUnread, opened_bytes}
 use Rattle.mw_model.specs.Seed.{Seed}
 use Rattle.mw_journal.specs.Settled.{AllShut}
-use Rattle.mw_journal.specs.declared.error.OpenError.{OpenError}
-use Rattle.mw_journal.specs.declared.error.OpenError.TheVariants as journal
 use Rattle.mw_causes.specs.RoomCauses.{room_status, room_line}
 use Rattle.mw_causes.specs.Ends.{Told, Ends}
 use Rattle.mw_offline.specs.FilesAround.{FilesAround, OthersStay, IsUntouched, IsOnlyRead}
-use Rattle.mw_causes.specs.SeedFiles.{DigestedIn, SeedIn, IsSeedStopped, seed_line}
+use Rattle.mw_causes.specs.SeedFiles.{DigestedIn, SeedIn, IsSeedStopped}
 use Rattle.mw_causes.specs.declared.stop.Stop.{Stop}
 use Rattle.mw_causes.specs.declared.stop.Stop.TheVariants.{Fault, Memory, Refused}
 use Rattle.mw_words.specs.Commands.{RoomFiles}
