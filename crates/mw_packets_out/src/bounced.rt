@@ -4,9 +4,9 @@ ghost use Rattle.mw_protocol.specs.Messages.{bounced_json, ids_json, put_if, tex
 ghost use Rattle.mw_json.specs.View.{view, members_view};
 
 use crate::lists::texts_tree;
-use crate::placing::{further_of, insert};
+use crate::placing::{further_of, insert_named, insert_words};
 use mw_base::{List, Memory, Text};
-use mw_json::{Member, Tree, push_tree, words_tree};
+use mw_json::{Member, Tree, push_tree};
 use std::alloc::Global;
 use std::marker::Model;
 
@@ -80,7 +80,7 @@ fn insert_texts(
     match texts {
         Some(texts) => {
             let value = texts_tree(alloc, texts.as_slice())?;
-            insert(members, Text::of(alloc, name)?, value)
+            insert_named(alloc, members, name, value)
         }
         None => Ok(()),
     }
@@ -101,7 +101,7 @@ fn insert_slots(
     match slots {
         Some(slots) => {
             let value = wholes_tree(alloc, slots.as_slice())?;
-            insert(members, Text::of(alloc, "slots")?, value)
+            insert_named(alloc, members, "slots", value)
         }
         None => Ok(()),
     }
@@ -116,10 +116,6 @@ pub(crate) fn bounced_tree(alloc: Global, it: &Bounced) -> Result<Tree, Memory>
     insert_texts(alloc, &mut parts, "tags", &it.tags)?;
     insert_slots(alloc, &mut parts, &it.slots)?;
     insert_texts(alloc, &mut parts, "games", &it.games)?;
-    insert(
-        &mut parts,
-        Text::of(alloc, "cmd")?,
-        words_tree(alloc, "Bounced")?,
-    )?;
+    insert_words(alloc, &mut parts, "cmd", "Bounced")?;
     Ok(Tree::Members(List::from_vec(parts)))
 }

@@ -1,11 +1,11 @@
 ghost use Rattle.std.specs.Prelude.{◌≡◌, ◌≤◌, ◌++◌, IfOk, OnOk, length, map};
-ghost use Rattle.mw_model.specs.Json.{IsWritable, MembersAreWritable, many};
+ghost use Rattle.mw_model.specs.Json.{IsWritable, MembersAreWritable, many, words};
 ghost use Rattle.mw_model.specs.Trees.{items_of, put_member};
 ghost use Rattle.mw_json.specs.View.{view, member_view, members_view};
 ghost use Rattle.mw_packets_out.specs.Places.{place_in};
 
 use mw_base::{List, Memory, Text};
-use mw_json::{Member, Tree, copy, copy_members, named, put};
+use mw_json::{Member, Tree, copy, copy_members, named, put, words_tree};
 use std::alloc::Global;
 
 /// Where a member of this name is put: before the first whose name is greater.
@@ -31,6 +31,51 @@ pub(crate) fn insert(members: &mut Vec<Member>, name: Text, value: Tree) -> Resu
     let at = place_of(members.as_slice(), name.as_str());
     members.insert(at, named(name, value))?;
     Ok(())
+}
+
+/// A member more of this name, at its place in byte order.
+pub(crate) fn insert_named(
+    alloc: Global,
+    members: &mut Vec<Member>,
+    name: &str,
+    value: Tree,
+) -> Result<(), Memory>
+    ensures value { OnOk result (members_view members.new.items
+        ≡ put_member name.now (view value) (members_view members.old.items)) }
+    ensures writable { OnOk result (MembersAreWritable (members_view members.old.items)
+        → IsWritable (view value) → MembersAreWritable (members_view members.new.items)) }
+{
+    insert(members, Text::of(alloc, name)?, value)
+}
+
+/// A text's member more, at its place in byte order.
+pub(crate) fn insert_words(
+    alloc: Global,
+    members: &mut Vec<Member>,
+    name: &str,
+    value: &str,
+) -> Result<(), Memory>
+    ensures value { OnOk result (members_view members.new.items
+        ≡ put_member name.now (words value.now) (members_view members.old.items)) }
+    ensures writable { OnOk result (MembersAreWritable (members_view members.old.items)
+        → MembersAreWritable (members_view members.new.items)) }
+{
+    insert_named(alloc, members, name, words_tree(alloc, value)?)
+}
+
+/// A member more that is a copy of a value, at its place in byte order.
+pub(crate) fn insert_copy(
+    alloc: Global,
+    members: &mut Vec<Member>,
+    name: &str,
+    value: &Tree,
+) -> Result<(), Memory>
+    ensures value { OnOk result (members_view members.new.items
+        ≡ put_member name.now (view value.now) (members_view members.old.items)) }
+    ensures writable { OnOk result (MembersAreWritable (members_view members.old.items)
+        → IsWritable (view value.now) → MembersAreWritable (members_view members.new.items)) }
+{
+    insert_named(alloc, members, name, copy(alloc, value)?)
 }
 
 /// Adds copies of members at the end.

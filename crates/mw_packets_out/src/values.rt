@@ -4,9 +4,9 @@ ghost use Rattle.mw_model.specs.Trees.{put_member};
 ghost use Rattle.mw_protocol.specs.Messages.{retrieved_json, set_reply_json};
 ghost use Rattle.mw_json.specs.View.{view, members_view};
 
-use crate::placing::{further_of, insert};
+use crate::placing::{further_of, insert_copy, insert_named, insert_words};
 use mw_base::{List, Memory, SlotId, Text};
-use mw_json::{Member, Tree, copy, copy_members, number_tree, words_tree};
+use mw_json::{Member, Tree, copy_members, number_tree};
 use std::alloc::Global;
 use std::marker::Model;
 
@@ -92,14 +92,10 @@ pub(crate) fn retrieved_tree(alloc: Global, it: &Retrieved) -> Result<Tree, Memo
     ensures value { IfOk result (λ t. view t ≡ retrieved_json it.now) }
     ensures writable { IfOk result (λ t. IsWritable (view t)) }
 {
-    let keys = Tree::Members(copy_members(alloc, it.keys.as_slice())?);
     let mut parts = further_of(alloc, it.further.as_slice())?;
-    insert(&mut parts, Text::of(alloc, "keys")?, keys)?;
-    insert(
-        &mut parts,
-        Text::of(alloc, "cmd")?,
-        words_tree(alloc, "Retrieved")?,
-    )?;
+    let keys = Tree::Members(copy_members(alloc, it.keys.as_slice())?);
+    insert_named(alloc, &mut parts, "keys", keys)?;
+    insert_words(alloc, &mut parts, "cmd", "Retrieved")?;
     Ok(Tree::Members(List::from_vec(parts)))
 }
 
@@ -112,12 +108,10 @@ fn insert_values(alloc: Global, parts: &mut Vec<Member>, it: &SetReply) -> Resul
     ensures writable { OnOk result (MembersAreWritable (members_view parts.old.items)
         → MembersAreWritable (members_view parts.new.items)) }
 {
-    let value = copy(alloc, &it.value)?;
-    let original_value = copy(alloc, &it.original_value)?;
     let slot = number_tree(u64::from(it.slot.get()));
-    insert(parts, Text::of(alloc, "value")?, value)?;
-    insert(parts, Text::of(alloc, "slot")?, slot)?;
-    insert(parts, Text::of(alloc, "original_value")?, original_value)
+    insert_copy(alloc, parts, "value", &it.value)?;
+    insert_named(alloc, parts, "slot", slot)?;
+    insert_copy(alloc, parts, "original_value", &it.original_value)
 }
 
 /// What a change made of a key's value, as an object.
@@ -125,14 +119,9 @@ pub(crate) fn set_reply_tree(alloc: Global, it: &SetReply) -> Result<Tree, Memor
     ensures value { IfOk result (λ t. view t ≡ set_reply_json it.now) }
     ensures writable { IfOk result (λ t. IsWritable (view t)) }
 {
-    let key = words_tree(alloc, it.key.as_str())?;
     let mut parts = further_of(alloc, it.further.as_slice())?;
     insert_values(alloc, &mut parts, it)?;
-    insert(&mut parts, Text::of(alloc, "key")?, key)?;
-    insert(
-        &mut parts,
-        Text::of(alloc, "cmd")?,
-        words_tree(alloc, "SetReply")?,
-    )?;
+    insert_words(alloc, &mut parts, "key", it.key.as_str())?;
+    insert_words(alloc, &mut parts, "cmd", "SetReply")?;
     Ok(Tree::Members(List::from_vec(parts)))
 }

@@ -22,7 +22,6 @@ pub struct Row {
 }
 
 /// The steps of a joint by number, and which of them a place or an item may open.
-#[derive(Drop)]
 pub struct Rows {
     /// The steps, slot by slot: the origin, the entrances, the locations.
     pub rows: List<Row>,
@@ -32,4 +31,16 @@ pub struct Rows {
     pub by_place: Table,
     /// For each item, the numbers of the steps whose rule names it, ascending.
     pub by_item: Table,
+}
+
+/// By hand, so that whoever lets them go calls this, and what they free is listed once.
+impl Drop for Rows {
+    fn drop(self) {
+        let Rows {
+            rows: _,
+            origins: _,
+            by_place: _,
+            by_item: _,
+        } = self;
+    }
 }

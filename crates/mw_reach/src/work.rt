@@ -2,7 +2,6 @@ use crate::row::Rows;
 use crate::split::Split;
 
 /// The rows of a joint, and room to work in.
-#[derive(Drop)]
 pub struct Work {
     pub rows: Rows,
     pub split: Split,
@@ -14,4 +13,18 @@ pub struct Work {
     pub queue: Vec<u32>,
     /// For each item, how many there are at the places that are done, and in the base.
     pub counts: Vec<u32>,
+}
+
+/// By hand, so that whoever lets it go calls this, and what it frees is listed once.
+impl Drop for Work {
+    fn drop(self) {
+        let Work {
+            rows: _,
+            split: _,
+            done: _,
+            listed: _,
+            queue: _,
+            counts: _,
+        } = self;
+    }
 }

@@ -9,4 +9,3 @@ pub mod Replayed
 pub mod Stands
 pub mod States
 pub mod Views
-pub mod Written

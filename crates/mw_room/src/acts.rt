@@ -1,4 +1,4 @@
-ghost use Rattle.std.specs.Prelude.{◌≡◌, ◌+◌, ◌++◌, ◌∷◌, [], IfOk, map, length};
+ghost use Rattle.std.specs.Prelude.{◌≡◌, ◌+◌, ◌++◌, ◌∷◌, ◌<◌, ◌^◌, ℕ, [], IfOk, map, length};
 ghost use Rattle.mw_protocol.specs.Rooms as plain;
 ghost use Rattle.mw_packets_in.specs.View.{packet_view, bad_view};
 ghost use Rattle.mw_room.specs.Fits.{Fits, ChangesFit};
@@ -20,8 +20,8 @@ use crate::room::Room;
 use crate::session::{Change, Session, more_bytes};
 use crate::sessions::{change_all, close_lost, member_of, state_in, take_texts};
 use crate::state::SessionState;
-use mw_base::{Growth, List, Memory, SessionId, Text};
-use mw_effects::{Effect, Standing, keys_in, nothing, put_stored, set_status};
+use mw_base::{List, Memory, SessionId, Text};
+use mw_effects::{Effect, Standing, nothing, put_stored, set_status};
 use mw_multidata::RoomTables;
 use mw_packets_in::{Bad, Packet};
 use mw_packets_out::{ServerPacket, write_message};
@@ -161,6 +161,19 @@ impl Room {
         Ok(plan)
     }
 
+    /// How many records there are after so many more, and how many sessions were ever opened.
+    fn counts_after(&self, records: usize, sessions: usize) -> Result<(u64, u64), Memory>
+        ensures { IfOk result (λ (counts : ℕ × ℕ). (counts.0 ≡ self.now.recorded + records)
+            × (counts.1 ≡ self.now.opened + sessions) × (counts.1 < 2 ^ 63)) }
+    {
+        let length = self.recorded.checked_add(records as u64).ok_or(Memory)?;
+        let opened = self.opened.checked_add(sessions as u64).ok_or(Memory)?;
+        if opened >= MOST_OPENED {
+            return Err(Memory);
+        }
+        Ok((length, opened))
+    }
+
     /// Takes the memory for these parts of a plan.
     fn finish(
         &self,
@@ -176,23 +189,8 @@ impl Room {
         ensures made { IfOk result (λ p. planned p (room_view self.now)
             ≡ made (room_view self.now) effect changes.items lost new_sessions.items) }
     {
-        let alloc = self.alloc;
-        let length = self
-            .recorded
-            .checked_add(effect.records.len() as u64)
-            .ok_or(Memory)?;
-        let opened = self
-            .opened
-            .checked_add(new_sessions.len() as u64)
-            .ok_or(Memory)?;
-        if opened >= MOST_OPENED {
-            return Err(Memory);
-        }
-        let log_growth = self.standing.log.room_for(effect.new.len() as u64)?;
-        let hint_growth = self.standing.hints.room_for(effect.hints.len() as u64)?;
-        let status_growth = Growth::of(alloc, &self.standing.statuses, 1)?;
-        let store_growth = self.standing.store.room_for(keys_in(&effect.stored))?;
-        let sessions_growth = Growth::of(alloc, &self.sessions, new_sessions.len())?;
+        let (length, opened) = self.counts_after(effect.records.len(), new_sessions.len())?;
+        let growths = self.growths_for(&effect, new_sessions.len())?;
         Ok(Plan {
             effect,
             length,
@@ -200,11 +198,7 @@ impl Room {
             changes,
             lost,
             new_sessions,
-            log_growth,
-            hint_growth,
-            status_growth,
-            store_growth,
-            sessions_growth,
+            growths,
         })
     }
 
@@ -228,24 +222,24 @@ impl Room {
             changes,
             lost,
             mut new_sessions,
-            log_growth,
-            hint_growth,
-            status_growth,
-            store_growth,
-            sessions_growth,
+            growths,
         } = plan;
         self.standing
             .log
-            .add_grown(effect.team, effect.new.as_slice(), log_growth);
+            .add_grown(effect.team, effect.new.as_slice(), growths.log);
         self.standing
             .hints
-            .add_grown(effect.hints.as_slice(), hint_growth);
-        set_status(&mut self.standing.statuses, effect.status, status_growth);
-        put_stored(&mut self.standing.store, effect.stored.take(), store_growth);
+            .add_grown(effect.hints.as_slice(), growths.hints);
+        set_status(&mut self.standing.statuses, effect.status, growths.statuses);
+        put_stored(
+            &mut self.standing.store,
+            effect.stored.take(),
+            growths.store,
+        );
         self.recorded = length;
         self.opened = opened;
         change_all(&mut self.sessions, changes, length);
-        sessions_growth.fill(&mut self.sessions, &mut new_sessions);
+        growths.sessions.fill(&mut self.sessions, &mut new_sessions);
         close_lost(&mut self.sessions, lost);
     }
 

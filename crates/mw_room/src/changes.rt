@@ -6,15 +6,14 @@ ghost use Rattle.mw_packets_out.specs.View.{packet_view};
 ghost use Rattle.mw_room.specs.Fits.{ChangesFit};
 ghost use Rattle.mw_room.specs.Known.{shown_after, message_of};
 ghost use Rattle.mw_effects.specs.Parts.{IsLogged};
-ghost use Rattle.mw_room.specs.Written.{AreWritten};
+ghost use Rattle.mw_owed.specs.Written.{AreWritten};
 ghost use Rattle.mw_effects.specs.Views.{effect_view};
 ghost use Rattle.mw_room.specs.Views.{session_view, changed, due_after, due_text, made_for, due_by, IsChange};
 
-use crate::hearing::{heard_texts, written};
-use crate::owed::growth_owed;
 use crate::session::{Change, Session};
 use mw_base::{Growth, Memory, Text};
 use mw_effects::{Effect, Member, Standing};
+use mw_owed::{growth_owed, heard_texts, written};
 use mw_packets_out::{ServerPacket, write_with};
 use std::alloc::Global;
 

@@ -5,11 +5,11 @@ ghost use Rattle.mw_protocol.specs.Standing.{is_checked};
 ghost use Rattle.mw_effects.specs.Parts.{standing_of};
 ghost use Rattle.mw_effects.specs.Playable.{IsPlayable};
 
-use crate::owed::points_of;
 use mw_base::{List, Memory, SlotId, TeamId, Text};
 use mw_datapack::{checksum_of_game, is_played};
 use mw_effects::{Member, Standing, playable};
 use mw_multidata::{Game, Held, Multidata, Slot};
+use mw_owed::points_of;
 use mw_packets_out::{Connected, GameSum, NetworkPlayer, NetworkSlot, RoomInfo};
 use std::alloc::Global;
 

@@ -1,10 +1,8 @@
+use crate::growths::Growths;
 use crate::session::{Change, Session};
-use mw_base::{Growth, List};
-use mw_checks::CheckGrowth;
-use mw_effects::{Effect, SlotStatus};
-use mw_hints::HintGrowth;
+use mw_base::List;
+use mw_effects::Effect;
 use mw_records::Record;
-use mw_storage::StoreGrowth;
 
 /// What an event does to a room, with the memory that it takes.
 #[derive(Drop)]
@@ -15,11 +13,7 @@ pub struct Plan {
     pub(crate) changes: Vec<Change>,
     pub(crate) lost: Option<u64>,
     pub(crate) new_sessions: Vec<Session>,
-    pub(crate) log_growth: CheckGrowth,
-    pub(crate) hint_growth: HintGrowth,
-    pub(crate) status_growth: Growth<SlotStatus>,
-    pub(crate) store_growth: StoreGrowth,
-    pub(crate) sessions_growth: Growth<Session>,
+    pub(crate) growths: Growths,
 }
 
 impl Plan {

@@ -19,7 +19,6 @@ ghost use Rattle.mw_effects.specs.Views.{announced_view, effect_view, IsEffect};
 ghost use Rattle.mw_room.specs.Views.{session_view};
 
 use crate::hinting::wanting;
-use crate::owed::points_of;
 use crate::session::Session;
 use mw_answers::{
     checked_text, help_text, missing_text, name_of, players_text, points_text, remaining_text,
@@ -32,6 +31,7 @@ use mw_effects::{
 };
 use mw_hints::{Wanted, cost};
 use mw_multidata::RoomTables;
+use mw_owed::points_of;
 use mw_records::Record;
 use std::alloc::Global;
 

@@ -2,7 +2,7 @@ use Rattle.std.proofs.Common.{◌≡◌, ◌++◌, drop, map}
 use Rattle.mw_protocol.specs.Heard.{heard}
 use Rattle.mw_protocol.specs.Messages.{packet_text}
 use Rattle.mw_effects.specs.Views.{announced_view}
-use Rattle.mw_room.proofs.hearing.texts_for.Given as goal
+use Rattle.mw_owed.proofs.hearing.texts_for.Given as goal
 
 abbrev pub invariant-loop-at : goal.invariant-loop-at
 invariant-loop-at l =

@@ -3,7 +3,7 @@ ghost use Rattle.mw_model.specs.Texts.{has_text as has_text_lem};
 ghost use Rattle.mw_protocol.specs.Heard.{hears as hears_lem, heard, heard_by, wants_no_text as wants_no_text_lem};
 ghost use Rattle.mw_protocol.specs.Messages.{packet_text as packet_text_lem};
 ghost use Rattle.mw_effects.specs.Views.{announced_view, audience_view};
-ghost use Rattle.mw_room.specs.Written.{AreWritten};
+ghost use Rattle.mw_owed.specs.Written.{AreWritten};
 
 use mw_base::{Memory, Text, has_text};
 use mw_effects::{Announced, Audience, Member, is_named};
