@@ -5,7 +5,7 @@ use mw_multi::Placement;
 use thiserror::Error;
 
 /// A placement, and the number of the try that gave it.
-#[derive(Debug, Drop)]
+#[derive(Drop)]
 pub struct Seed {
     /// An item at each location with an id.
     pub placement: Placement,

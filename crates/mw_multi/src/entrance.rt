@@ -3,7 +3,7 @@ use mw_rules::Rule;
 use std::marker::Model;
 
 /// A way from region to region.
-#[derive(Debug, Drop)]
+#[derive(Drop)]
 pub struct Entrance {
     /// 1 to 128 characters, none below U+0020.
     pub name: Text,

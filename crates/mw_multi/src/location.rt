@@ -3,7 +3,7 @@ use mw_rules::Rule;
 use std::marker::Model;
 
 /// How a location is filled.
-#[derive(Clone, Copy, Debug)]
+#[derive(Clone, Copy)]
 pub enum LocKind {
     /// After those with priority.
     Default,
@@ -14,7 +14,7 @@ pub enum LocKind {
 }
 
 /// A location of a world: one with an id holds an item of the placement, one without an id holds its event.
-#[derive(Debug, Drop)]
+#[derive(Drop)]
 pub struct Location {
     /// 1 to 128 characters, none below U+0020.
     pub name: Text,

@@ -2,7 +2,7 @@ use mw_base::List;
 use std::marker::Model;
 
 /// An item at a location.
-#[derive(Clone, Copy, Debug, PartialEq, Eq)]
+#[derive(Clone, Copy, PartialEq, Eq)]
 pub struct Put {
     /// The location's number over all slots.
     pub place: u32,

@@ -2,7 +2,7 @@ use mw_base::{List, Text};
 use std::marker::Model;
 
 /// So many of an item to begin with.
-#[derive(Debug, Drop)]
+#[derive(Drop)]
 pub struct StartEntry {
     /// The item's name.
     pub name: Text,
@@ -19,7 +19,7 @@ impl Model for StartEntry {
 }
 
 /// A player's wishes, each name as it was written: 1 to 128 characters, none below U+0020.
-#[derive(Debug, Drop)]
+#[derive(Drop)]
 pub struct Options {
     /// Items that stay in the player's own world.
     pub local_items: List<Text>,
@@ -48,7 +48,7 @@ impl Model for Options {
 }
 
 /// A player: one slot in each team.
-#[derive(Debug, Drop)]
+#[derive(Drop)]
 pub struct Player {
     /// The player's name in each team, of 1 to 16 characters, none below U+0020.
     pub names: List<Text>,

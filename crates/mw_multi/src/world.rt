@@ -6,7 +6,7 @@ use mw_rules::Rule;
 use std::marker::Model;
 
 /// So many copies of an item.
-#[derive(Clone, Copy, Debug)]
+#[derive(Clone, Copy)]
 pub struct PoolEntry {
     /// An item with an id, by its index from 0.
     pub item: u32,

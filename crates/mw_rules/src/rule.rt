@@ -2,7 +2,7 @@ use mw_base::List;
 
 /// When an entrance may be taken, a location be reached or a goal be met.
 /// Items and places are numbers of one slot, from 0; its places are its regions and then its locations.
-#[derive(Debug, Drop)]
+#[derive(Drop)]
 pub enum Rule {
     /// It always holds.
     Always,
