@@ -5,10 +5,12 @@ ghost use Rattle.mw_multi.specs.Events.{with_events};
 ghost use Rattle.mw_reach.specs.Goals.{IsBeatable};
 ghost use Rattle.mw_reach.specs.Reached.{IsMadeFor};
 ghost use Rattle.mw_multi.specs.WorldKept.{copies};
+ghost use Rattle.mw_fill.specs.ListsKept.{AreKept, AreShort};
+ghost use Rattle.mw_fill.specs.Try as plain;
 ghost use Rattle.mw_fill.specs.Generated.{IsUnmet, slot_pool_size, pool_size, CanBeTried, GeneratedSeed};
 
 use crate::error::FillError;
-use crate::lists::stock_of;
+use crate::lists::{Lists, stock_of};
 use crate::one_try::try_from_stock;
 use crate::seed::{GenerateError, Seed};
 use mw_base::Memory;
@@ -64,6 +66,41 @@ fn pool_copies(joint: &Joint) -> u64
     total
 }
 
+/// The placement of the first of so many tries that gives one, each from the joint's stock.
+fn first_filled<R: Ruling, L: Ledger>(
+    alloc: Global,
+    joint: &Joint,
+    rules: &R,
+    stock: &Lists,
+    reached: &mut Reached,
+    seed: u64,
+    tries: u32,
+    steps: &mut Steps<L>,
+) -> Result<Seed, GenerateError>
+    requires rules { R.stands_for rules.now (rule_list joint.now) }
+    requires stock { stock.now ≡ plain.stock_of joint.now }
+    requires kept { AreKept joint.now.slots stock.now }
+    requires short { AreShort stock.now }
+    requires reached { IsMadeFor joint.now reached.old }
+    requires tried { CanBeTried joint.now }
+    ensures seed { GeneratedSeed joint.now seed tries result }
+    ensures placement { IfOk result (λ found. IsPlacement joint.now found.placement) }
+    ensures beatable { IfOk result (λ found. (table : List (List ℕ))
+        → IsPlaced joint.now.slots (with_events joint.now found.placement) table
+        → IsBeatable joint.now table) }
+{
+    // Reading the joint makes known what its type keeps.
+    let _ = &joint.slots;
+    for stream in 0..u64::from(tries) {
+        match try_from_stock(alloc, joint, rules, stock, reached, seed, stream, steps) {
+            Ok(placement) => return Ok(Seed { placement, stream }),
+            Err(FillError::Memory) => return Err(GenerateError::Memory),
+            Err(FillError::Stuck { .. }) => {}
+        }
+    }
+    Err(GenerateError::Exhausted)
+}
+
 /// `generate_by`, with the asks counted in `steps`.
 fn generate_counted<R: Ruling, L: Ledger>(
     alloc: Global,
@@ -95,23 +132,16 @@ fn generate_counted<R: Ruling, L: Ledger>(
     if room < have {
         return Err(GenerateError::TooManyItems { have, room });
     }
-    for stream in 0..u64::from(tries) {
-        match try_from_stock(
-            alloc,
-            joint,
-            rules,
-            &stock,
-            &mut reached,
-            seed,
-            stream,
-            steps,
-        ) {
-            Ok(placement) => return Ok(Seed { placement, stream }),
-            Err(FillError::Memory) => return Err(GenerateError::Memory),
-            Err(FillError::Stuck { .. }) => {}
-        }
-    }
-    Err(GenerateError::Exhausted)
+    first_filled(
+        alloc,
+        joint,
+        rules,
+        &stock,
+        &mut reached,
+        seed,
+        tries,
+        steps,
+    )
 }
 
 /// `generate_by` with a counter of its own.

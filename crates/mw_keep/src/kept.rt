@@ -174,6 +174,20 @@ impl<D: Disk> KeptRoom<D> {
         reply
     }
 
+    /// Makes an event, and lets it go.
+    fn let_happen(&mut self, event: Event) -> Reply
+        ensures origin { origin_of self.new ≡ origin_of self.old }
+        ensures tells { is_some (D.told (kept_disk self.new))
+            ≡ is_some (D.told (kept_disk self.old)) }
+        ensures count { D.faults (kept_disk self.old) ≤ D.faults (kept_disk self.new) }
+        ensures goes { (digest : List ℕ) (life : plain.Life)
+            → Keeps D.may_leave digest (plain.counted life) self.old → life.stopped ≡ None
+            → Goes D.may_leave D.moment D.left_since D.faults digest life
+            (plain.happens (event_view event)) self.old (reply_view result) self.new }
+    {
+        self.happen(&event)
+    }
+
     /// Makes a call that isn't refused.
     fn go(&mut self, call: Call) -> Reply
         ensures origin { origin_of self.new ≡ origin_of self.old }
@@ -187,10 +201,10 @@ impl<D: Disk> KeptRoom<D> {
             (call_view call) self.old (reply_view result) self.new }
     {
         match call {
-            Call::Open { time } => self.happen(&Event::Open { time }),
-            Call::Packet { session, packet } => self.happen(&Event::Packet { session, packet }),
-            Call::Bad { session, bad } => self.happen(&Event::Bad { session, bad }),
-            Call::Lost { session } => self.happen(&Event::Lost { session }),
+            Call::Open { time } => self.let_happen(Event::Open { time }),
+            Call::Packet { session, packet } => self.let_happen(Event::Packet { session, packet }),
+            Call::Bad { session, bad } => self.let_happen(Event::Bad { session, bad }),
+            Call::Lost { session } => self.let_happen(Event::Lost { session }),
             Call::Commit => Reply::Done,
             Call::Take { session } => Reply::Messages(self.room.take(session)),
         }

@@ -4,13 +4,13 @@ use Rattle.mw_keep.proofs.Acting.{goes_quietly}
 use Rattle.mw_keep.proofs.kept.KeptRoom.go.Goals as goal
 
 pub returns-in-Packet-clause-goes : goal.returns-in-Packet-clause-goes
-returns-in-Packet-clause-goes g c digest life keeps running = rw c.in-Packet.is (c.happen-in-Packet.ensures.goes digest life keeps running)
+returns-in-Packet-clause-goes g c digest life keeps running = rw c.in-Packet.is (c.let_happen-in-Packet.ensures.goes digest life keeps running)
 
 pub returns-in-Bad-clause-goes : goal.returns-in-Bad-clause-goes
-returns-in-Bad-clause-goes g c digest life keeps running = rw c.in-Bad.is (c.happen-in-Bad.ensures.goes digest life keeps running)
+returns-in-Bad-clause-goes g c digest life keeps running = rw c.in-Bad.is (c.let_happen-in-Bad.ensures.goes digest life keeps running)
 
 pub returns-in-Lost-clause-goes : goal.returns-in-Lost-clause-goes
-returns-in-Lost-clause-goes g c digest life keeps running = rw c.in-Lost.is (c.happen-in-Lost.ensures.goes digest life keeps running)
+returns-in-Lost-clause-goes g c digest life keeps running = rw c.in-Lost.is (c.let_happen-in-Lost.ensures.goes digest life keeps running)
 
 pub returns-in-Commit-clause-goes : goal.returns-in-Commit-clause-goes
 returns-in-Commit-clause-goes g c digest life keeps running = rw c.in-Commit.is

@@ -1,9 +1,8 @@
-use Rattle.std.proofs.Common.{ℕ, None, subst, below_more}
+use Rattle.std.proofs.Common.{ℕ, subst, below_more}
 use Rattle.mw_multi.specs.Joint.{IsJoint}
 use Rattle.mw_fill.specs.Try.{IsStuck}
-use Rattle.mw_fill.specs.Generated.{IsUnmet}
 use Rattle.mw_fill.proofs.Beaten.{filled_beatable}
-use Rattle.mw_fill.proofs.generating.generate_counted.Goals as goal
+use Rattle.mw_fill.proofs.generating.first_filled.Goals as goal
 
 pub loop-stream-preserved : goal.loop-stream-preserved
 loop-stream-preserved g c =
@@ -17,5 +16,4 @@ loop-stream-preserved g c =
 pub returns-in-Ok-clause-beatable : goal.returns-in-Ok-clause-beatable
 returns-in-Ok-clause-beatable g c = λ table placed.
     let joint = c.args.joint.now in
-    let unmet : IsUnmet joint None = subst (IsUnmet joint) c.in-None.is c.in_ok-slot.ensures.slot in
-    filled_beatable joint (subst IsJoint c.joint.view_is c.joint.invariant) c.args.seed c.loop-stream.stream c.in-Ok.placement unmet c.in-Ok.ensures.answer table placed
+    filled_beatable joint (subst IsJoint c.joint.view_is c.joint.invariant) c.args.seed c.loop-stream.stream c.in-Ok.placement c.requires.tried.goals c.in-Ok.ensures.answer table placed
