@@ -334,8 +334,38 @@ fn answered(
     }
 }
 
-/// The effect of what a member says, among the open sessions.
+/// The effect of a chat or a command of a member's, among the open sessions.
 #[tactic(auto, using(mw_effects::proofs::Effects::quiet_effect))]
+fn meant(
+    alloc: Global,
+    standing: &Standing,
+    sessions: &[Session],
+    member: &Member,
+    said: &Said,
+) -> Result<Effect, Memory>
+    ensures { IfOk result (λ e. IsEffect e standing.now (saying_lem standing.now.log.seed
+        (standing_of standing.now) (members_of (map session_view sessions.now)) member.now
+        (said_view said.now))) }
+{
+    match said {
+        Said::Release => releasing(alloc, standing, member),
+        Said::Collect => collecting(alloc, standing, member),
+        Said::Hint(name) if !name.as_str().is_empty() => {
+            let wanted = Wanted::Item(Text::of(alloc, name.as_str())?);
+            wanting(alloc, standing, member, &wanted)
+        }
+        Said::HintLocation(name) => {
+            let wanted = Wanted::Location(Text::of(alloc, name.as_str())?);
+            wanting(alloc, standing, member, &wanted)
+        }
+        _ => {
+            let effect = answered(alloc, standing, sessions, member, said)?;
+            Ok(effect)
+        }
+    }
+}
+
+/// The effect of what a member says, among the open sessions.
 pub fn saying(
     alloc: Global,
     standing: &Standing,
@@ -348,20 +378,6 @@ pub fn saying(
         (said_of text.now))) }
 {
     let said = parse_say(alloc, text)?;
-    match &said {
-        Said::Release => releasing(alloc, standing, member),
-        Said::Collect => collecting(alloc, standing, member),
-        Said::Hint(name) if !name.as_str().is_empty() => {
-            let wanted = Wanted::Item(Text::of(alloc, name.as_str())?);
-            wanting(alloc, standing, member, &wanted)
-        }
-        Said::HintLocation(name) => {
-            let wanted = Wanted::Location(Text::of(alloc, name.as_str())?);
-            wanting(alloc, standing, member, &wanted)
-        }
-        _ => {
-            let effect = answered(alloc, standing, sessions, member, &said)?;
-            Ok(effect)
-        }
-    }
+    let effect = meant(alloc, standing, sessions, member, &said)?;
+    Ok(effect)
 }
