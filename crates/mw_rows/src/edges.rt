@@ -6,6 +6,7 @@ use mw_edges::{
 };
 use std::alloc::Global;
 use std::io::{ErrorKind, Read, Write};
+use std::rt::Files;
 use std::test::Fail;
 use std::{fs, io};
 
@@ -51,15 +52,13 @@ fn takes_fail_at(alloc: Global, planned: u64) -> Result<bool, Memory> {
             return Ok(false);
         }
     }
-    Ok(true)
+    Ok(is_send(&source))
 }
 
 #[test]
 fn planned_takes_fail(rt: HostRuntime) -> Result<(), Fail> {
-    for planned in 0..3u64 {
-        assert!(rt; takes_fail_at(rt.alloc(), planned)?, "call {planned}");
-    }
-    assert!(rt; is_send(&source_of(rt.alloc(), 0)?));
+    let alloc = rt.alloc();
+    assert!(rt; takes_fail_at(alloc, 0)? && takes_fail_at(alloc, 1)? && takes_fail_at(alloc, 2)?);
     Ok(())
 }
 
@@ -76,9 +75,8 @@ fn puts_fail_at(alloc: Global, planned: u64) -> Result<bool, Memory> {
 
 #[test]
 fn planned_puts_fail(rt: HostRuntime) -> Result<(), Fail> {
-    for planned in 0..3u64 {
-        assert!(rt; puts_fail_at(rt.alloc(), planned)?, "call {planned}");
-    }
+    let alloc = rt.alloc();
+    assert!(rt; puts_fail_at(alloc, 0)? && puts_fail_at(alloc, 1)? && puts_fail_at(alloc, 2)?);
     Ok(())
 }
 
@@ -102,7 +100,7 @@ fn folder_of(alloc: Global, planned: u64) -> Result<MemoryFolder, Memory> {
 }
 
 /// Whether of three reads of such a folder just that fails.
-fn fails_at(alloc: Global, planned: u64) -> Result<bool, Memory> {
+fn reads_fail_at(alloc: Global, planned: u64) -> Result<bool, Memory> {
     let mut folder = folder_of(alloc, planned)?;
     for call in 0..3u64 {
         let wanted = if call == planned {
@@ -114,15 +112,13 @@ fn fails_at(alloc: Global, planned: u64) -> Result<bool, Memory> {
             return Ok(false);
         }
     }
-    Ok(true)
+    Ok(is_send(&folder))
 }
 
 #[test]
 fn planned_reads_fail(rt: HostRuntime) -> Result<(), Fail> {
-    for planned in 0..3u64 {
-        assert!(rt; fails_at(rt.alloc(), planned)?, "call {planned}");
-    }
-    assert!(rt; is_send(&folder_of(rt.alloc(), 0)?));
+    let alloc = rt.alloc();
+    assert!(rt; reads_fail_at(alloc, 0)? && reads_fail_at(alloc, 1)? && reads_fail_at(alloc, 2)?);
     Ok(())
 }
 
@@ -140,62 +136,71 @@ fn writes<F: Folder>(
     }
 }
 
+/// Whether the second of three writes of a folder fails, and the file is the third then.
+fn second_write_fails(alloc: Global, folder: &mut MemoryFolder) -> bool {
+    let failed = Err(FolderError::Failed);
+    writes(alloc, folder, "new", b"first", Ok(()))
+        && writes(alloc, folder, "new", b"second", failed)
+        && writes(alloc, folder, "new", b"third one", Ok(()))
+        && reads(alloc, folder, "new", 9, Ok(Some(9)))
+}
+
 #[test]
 fn planned_writes_fail(rt: HostRuntime) -> Result<(), Fail> {
-    let mut folder = folder_of(rt.alloc(), 1)?;
-    for (bytes, wanted) in [
-        (b"first".as_slice(), Ok(())),
-        (b"second".as_slice(), Err(FolderError::Failed)),
-        (b"third one".as_slice(), Ok(())),
-    ] {
-        assert!(rt; writes(rt.alloc(), &mut folder, "new", bytes, wanted));
-    }
-    assert!(rt; reads(rt.alloc(), &mut folder, "new", 9, Ok(Some(9))));
+    assert!(rt; second_write_fails(rt.alloc(), &mut folder_of(rt.alloc(), 1)?));
     Ok(())
+}
+
+/// Whether a folder has the file that was written last.
+fn keeps_the_last(alloc: Global, folder: &mut SteadyFolder) -> bool {
+    writes(alloc, folder, "five", b"three", Ok(()))
+        && writes(alloc, folder, "five", b"to", Ok(()))
+        && reads(alloc, folder, "five", 9, Ok(Some(2)))
 }
 
 #[test]
 fn steady_folders_are_written(rt: HostRuntime) -> Result<(), Fail> {
     let mut folder = SteadyFolder::new(one_file(rt.alloc())?);
-    assert!(rt; writes(rt.alloc(), &mut folder, "five", b"three", Ok(())));
-    assert!(rt; writes(rt.alloc(), &mut folder, "five", b"to", Ok(())));
-    assert!(rt; reads(rt.alloc(), &mut folder, "five", 9, Ok(Some(2))));
+    assert!(rt; keeps_the_last(rt.alloc(), &mut folder));
     Ok(())
 }
 
 /// Whether a source of `abc` gives two bytes, then one, then none.
-fn source_works(alloc: Global) -> Result<bool, Memory> {
-    let mut source = SteadySource::new(bytes_of(alloc, b"abc")?);
+fn gives_three(source: &mut SteadySource) -> bool {
     let mut into = [0u8; 2];
-    if source.take(&mut into) != Ok(2) || into != *b"ab" {
-        return Ok(false);
-    }
-    Ok(source.take(&mut into) == Ok(1) && source.take(&mut into) == Ok(0))
+    source.take(&mut into) == Ok(2)
+        && into == *b"ab"
+        && source.take(&mut into) == Ok(1)
+        && source.take(&mut into) == Ok(0)
+}
+
+/// Whether a steady source does.
+fn source_works(alloc: Global) -> Result<bool, Memory> {
+    Ok(gives_three(&mut SteadySource::new(bytes_of(alloc, b"abc")?)))
 }
 
 /// Whether a sink has what is put.
-fn sink_works(alloc: Global) -> Result<bool, Fail> {
+fn sink_works(alloc: Global) -> bool {
     let mut sink = SteadySink::new(alloc);
-    sink.put(b"ab")?;
-    sink.put(b"c")?;
-    Ok(sink.bytes() == b"abc".as_slice())
+    sink.put(b"ab") == Ok(()) && sink.put(b"c") == Ok(()) && sink.bytes() == b"abc".as_slice()
 }
 
 /// Whether a folder of one file of five bytes is read within limits.
+fn five_are_read(alloc: Global, folder: &mut SteadyFolder) -> bool {
+    reads(alloc, folder, "five", 5, Ok(Some(5)))
+        && reads(alloc, folder, "five", 4, Ok(None))
+        && reads(alloc, folder, "none", 0, Ok(Some(0)))
+}
+
+/// Whether a steady folder is.
 fn folder_works(alloc: Global) -> Result<bool, Memory> {
-    let mut folder = SteadyFolder::new(one_file(alloc)?);
-    Ok(
-        reads(alloc, &mut folder, "five", 5, Ok(Some(5)))
-            && reads(alloc, &mut folder, "five", 4, Ok(None))
-            && reads(alloc, &mut folder, "none", 0, Ok(Some(0))),
-    )
+    Ok(five_are_read(alloc, &mut SteadyFolder::new(one_file(alloc)?)))
 }
 
 #[test]
 fn steady_objects_work(rt: HostRuntime) -> Result<(), Fail> {
-    assert!(rt; source_works(rt.alloc())?);
-    assert!(rt; sink_works(rt.alloc())?);
-    assert!(rt; folder_works(rt.alloc())?);
+    let alloc = rt.alloc();
+    assert!(rt; source_works(alloc)? && sink_works(alloc) && folder_works(alloc)?);
     Ok(())
 }
 
@@ -234,17 +239,26 @@ impl Write for Flaky {
     }
 }
 
-#[test]
-fn interrupted_streams_go_on(rt: HostRuntime) {
+/// Whether takes go on where a stream is interrupted, until it breaks.
+fn takes_go_on() -> bool {
     let mut source = ReaderSource::new(Flaky { calls: 0 });
     let mut into = [0u8; 4];
-    for want in [Ok(1), Ok(1), Err(Failed)] {
-        assert_eq!(rt; source.take(&mut into), want);
-    }
+    source.take(&mut into) == Ok(1)
+        && source.take(&mut into) == Ok(1)
+        && source.take(&mut into) == Err(Failed)
+}
+
+/// Whether a put into such a stream is answered so.
+fn puts_flaky(bytes: &[u8], wanted: Result<(), SinkError>) -> bool {
     let mut sink = WriterSink::new(Flaky { calls: 0 });
-    assert_eq!(rt; sink.put(b"ab"), Ok(()));
-    let mut sink = WriterSink::new(Flaky { calls: 0 });
-    assert_eq!(rt; sink.put(b"abc"), Err(SinkError::Failed));
+    sink.put(bytes) == wanted
+}
+
+#[test]
+fn interrupted_streams_go_on(rt: HostRuntime) {
+    assert!(rt;
+        takes_go_on() && puts_flaky(b"ab", Ok(())) && puts_flaky(b"abc", Err(SinkError::Failed))
+    );
 }
 
 /// Whether a source gives a stream's bytes.
@@ -267,45 +281,57 @@ fn streams_pass_bytes_on(rt: HostRuntime) {
     assert!(rt; sink_passes(rt.alloc()));
 }
 
+/// Whether files of the system, one of them of five bytes, are read within limits.
+fn system_is_read<F: Folder>(alloc: Global, folder: &mut F) -> bool {
+    let failed = Err(FolderError::Failed);
+    reads(alloc, folder, "five_bytes", 5, Ok(Some(5)))
+        && reads(alloc, folder, "five_bytes", 6, Ok(Some(5)))
+        && reads(alloc, folder, "five_bytes", 4, Ok(None))
+        && reads(alloc, folder, "five_bytes", 0, Ok(None))
+        && reads(alloc, folder, "no_such_file", 5, failed)
+        // It never ends, so a read stops past the limit.
+        && reads(alloc, folder, "/dev/zero", 5, Ok(None))
+}
+
 #[test]
 fn system_files_are_read(rt: HostRuntime) -> Result<(), Fail> {
     fs::write(&rt, "five_bytes", "bytes")?;
-    let mut folder = SystemFolder::new(&rt, rt.alloc());
-    for (name, limit, wanted) in [
-        ("five_bytes", 5, Ok(Some(5))),
-        ("five_bytes", 6, Ok(Some(5))),
-        ("five_bytes", 4, Ok(None)),
-        ("five_bytes", 0, Ok(None)),
-        ("no_such_file", 5, Err(FolderError::Failed)),
-        // It never ends, so a read stops past the limit.
-        ("/dev/zero", 5, Ok(None)),
-    ] {
-        assert!(rt;
-            reads(rt.alloc(), &mut folder, name, limit, wanted),
-            "{name} within {limit}"
-        );
-    }
+    assert!(rt; system_is_read(rt.alloc(), &mut SystemFolder::new(&rt, rt.alloc())));
     fs::remove_file(&rt, "five_bytes")?;
     Ok(())
+}
+
+/// Whether the file that is written has this text.
+fn holds<R: Files + AllocGlobal>(rt: &R, text: &str) -> io::Result<bool> {
+    let found = fs::read_to_string(rt, "written_bytes")?;
+    Ok(found.as_str() == text)
+}
+
+/// Whether a file is written.
+fn is_put<F: Folder>(alloc: Global, folder: &mut F, text: &str) -> bool {
+    writes(alloc, folder, "written_bytes", text.as_bytes(), Ok(()))
+}
+
+/// Whether a file is written, and written over, and none in a folder that isn't there.
+fn system_is_written<R: Files + AllocGlobal, F: Folder>(
+    rt: &R,
+    folder: &mut F,
+) -> io::Result<bool> {
+    let alloc = rt.alloc();
+    let failed = Err(FolderError::Failed);
+    Ok(
+        is_put(alloc, folder, "longer")
+            && holds(rt, "longer")?
+            && is_put(alloc, folder, "short")
+            && holds(rt, "short")?
+            && writes(alloc, folder, "no_such_folder/file", b"", failed),
+    )
 }
 
 #[test]
 fn system_files_are_written(rt: HostRuntime) -> Result<(), Fail> {
     let mut folder = SystemFolder::new(&rt, rt.alloc());
-    for text in ["longer", "short"] {
-        assert!(rt;
-            writes(
-                rt.alloc(),
-                &mut folder,
-                "written_bytes",
-                text.as_bytes(),
-                Ok(())
-            )
-        );
-        assert!(rt; fs::read_to_string(&rt, "written_bytes")?.as_str() == text);
-    }
+    assert!(rt; system_is_written(&rt, &mut folder)?);
     fs::remove_file(&rt, "written_bytes")?;
-    let failed = Err(FolderError::Failed);
-    assert!(rt; writes(rt.alloc(), &mut folder, "no_such_folder/file", b"", failed));
     Ok(())
 }

@@ -2,23 +2,34 @@ use mw_base::{ItemId, List, LocId, Memory, SlotId, TeamId, Text};
 use std::alloc::Global;
 use std::test::Fail;
 
+/// Whether there are slots from 1 to 1,024.
+fn slots_have_their_range() -> bool {
+    SlotId::new(0).is_none()
+        && SlotId::new(1).is_some()
+        && SlotId::new(1024).is_some()
+        && SlotId::new(1025).is_none()
+}
+
+/// Whether there are teams from 0 to 7.
+fn teams_have_their_range() -> bool {
+    TeamId::new(0).is_some() && TeamId::new(7).is_some() && TeamId::new(8).is_none()
+}
+
+/// Whether a number is an id of an item, and of a location.
+fn is_id(value: i64) -> bool {
+    ItemId::new(value).is_some() && LocId::new(value).is_some()
+}
+
+/// Whether it is an id of neither.
+fn is_no_id(value: i64) -> bool {
+    ItemId::new(value).is_none() && LocId::new(value).is_none()
+}
+
 #[test]
 fn ids_have_their_ranges(rt: HostRuntime) {
-    for (value, fits) in [(0, false), (1, true), (1024, true), (1025, false)] {
-        assert_eq!(rt; SlotId::new(value).is_some(), fits, "at {value}");
-    }
-    for (value, fits) in [(0, true), (7, true), (8, false)] {
-        assert_eq!(rt; TeamId::new(value).is_some(), fits, "at {value}");
-    }
-    for (value, fits) in [
-        (0, false),
-        (1, true),
-        (9_007_199_254_740_991, true),
-        (9_007_199_254_740_992, false),
-    ] {
-        assert_eq!(rt; ItemId::new(value).is_some(), fits, "at {value}");
-        assert_eq!(rt; LocId::new(value).is_some(), fits, "at {value}");
-    }
+    assert!(rt; slots_have_their_range() && teams_have_their_range());
+    assert!(rt; is_no_id(0) && is_id(1));
+    assert!(rt; is_id(9_007_199_254_740_991) && is_no_id(9_007_199_254_740_992));
 }
 
 /// Whether a list holds the numbers that are put.
@@ -36,7 +47,6 @@ fn text_holds(alloc: Global) -> Result<bool, Memory> {
 
 #[test]
 fn lists_and_texts_hold_what_is_put(rt: HostRuntime) -> Result<(), Fail> {
-    assert!(rt; list_holds(rt.alloc())?);
-    assert!(rt; text_holds(rt.alloc())?);
+    assert!(rt; list_holds(rt.alloc())? && text_holds(rt.alloc())?);
     Ok(())
 }

@@ -43,6 +43,24 @@ fn see_and_add<R: Wait + Clock>(
     (turns, add(rt, lock, pass, number, times))
 }
 
+// The total in the end. The lock isn't closed while one of its two passes is out, and is once that was met.
+fn total_of(lock: RoomLock<Sum>, first: Pass<Sum>, second: Pass<Sum>) -> Result<u64, Fail>
+    requires { (first.lock ≡ lock) × (second.lock ≡ lock) }
+{
+    let Err(left) = lock.close(first) else {
+        return Err(Fail::from("a pass was out"));
+    };
+    if left.out != 1 {
+        return Err(Fail::from("another number of passes was out"));
+    }
+    let mut first = left.pass;
+    left.lock.meet(&mut first, second);
+    match left.lock.close(first) {
+        Ok(sum) => Ok(sum.total),
+        Err(_) => Err(Fail::from("no pass was out")),
+    }
+}
+
 #[test]
 fn two_threads_see_each_other_and_add_to_one_sum(rt: HostRuntime) -> Result<(), Fail> {
     let Ok((lock, mut first)) = RoomLock::open(rt.alloc(), Sum::from(0)) else {
@@ -63,15 +81,7 @@ fn two_threads_see_each_other_and_add_to_one_sum(rt: HostRuntime) -> Result<(), 
     let (saw, first) = near;
     let (seen, second) = far;
     assert!(rt; saw > 0 && seen > 0);
-    let Err(left) = lock.close(first) else {
-        panic!(rt; "a pass was out")
-    };
-    assert!(rt; left.out == 1);
-    let mut first = left.pass;
-    left.lock.meet(&mut first, second);
-    let Ok(sum) = left.lock.close(first) else {
-        panic!(rt; "no pass was out")
-    };
-    assert!(rt; sum.total == saw.wrapping_add(seen).wrapping_add(550));
+    let total = total_of(lock, first, second)?;
+    assert!(rt; total == saw.wrapping_add(seen).wrapping_add(550));
     Ok(())
 }

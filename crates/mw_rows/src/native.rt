@@ -203,22 +203,26 @@ fn puts_sword_first(alloc: Global, joint: &Joint, seed: u64) -> Result<bool, Fai
     Ok(is_sword_first(found.placement.as_slice()))
 }
 
-/// The first of ten seeds of Ann's alone of which it isn't so.
-fn first_other(alloc: Global, joint: &Joint) -> Result<Option<u64>, Fail> {
+/// Whether that is so of each of ten seeds.
+fn put_sword_first(alloc: Global, joint: &Joint) -> Result<bool, Fail> {
     for seed in 0..10 {
         if !puts_sword_first(alloc, joint, seed)? {
-            return Ok(Some(seed));
+            return Ok(false);
         }
     }
-    Ok(None)
+    Ok(true)
+}
+
+/// Whether it is of the players of this file.
+fn are_sword_first(alloc: Global, players: &Players) -> Result<bool, Fail> {
+    let worlds = world_of(alloc, SWORDS)?;
+    put_sword_first(alloc, &joint_of(alloc, &worlds, players)?)
 }
 
 #[test]
 fn a_closure_answers_the_rules_of_one_sword(rt: HostRuntime) -> Result<(), Fail> {
     let players = read_players(rt.alloc(), ANN.as_bytes())?;
-    let worlds = world_of(rt.alloc(), SWORDS)?;
-    let joint = joint_of(rt.alloc(), &worlds, &players)?;
-    assert_eq!(rt; first_other(rt.alloc(), &joint)?, None);
+    assert!(rt; are_sword_first(rt.alloc(), &players)?);
     Ok(())
 }
 
@@ -233,23 +237,31 @@ fn is_by_trees(alloc: Global, joint: &Joint, keys: &Joint, seed: u64) -> Result<
 }
 
 /// Whether that is so of each of ten seeds.
-fn are_by_trees(alloc: Global, joint: &Joint) -> Result<bool, Fail> {
-    let bob = read_players(alloc, BOB.as_bytes())?;
-    let worlds = world_of(alloc, KEYS)?;
-    let keys = joint_of(alloc, &worlds, &bob)?;
+fn each_is_by_trees(alloc: Global, joint: &Joint, keys: &Joint) -> Result<bool, Fail> {
     for seed in 0..10 {
-        if !is_by_trees(alloc, joint, &keys, seed)? {
+        if !is_by_trees(alloc, joint, keys, seed)? {
             return Ok(false);
         }
     }
     Ok(true)
 }
 
+/// Whether it is, where the keys are Bob's alone.
+fn is_by_trees_of(alloc: Global, joint: &Joint, bob: &Players) -> Result<bool, Fail> {
+    let worlds = world_of(alloc, KEYS)?;
+    each_is_by_trees(alloc, joint, &joint_of(alloc, &worlds, bob)?)
+}
+
+/// Whether it is of the players of this file.
+fn are_by_trees(alloc: Global, players: &Players) -> Result<bool, Fail> {
+    let bob = read_players(alloc, BOB.as_bytes())?;
+    let worlds = both_worlds(alloc)?;
+    is_by_trees_of(alloc, &joint_of(alloc, &worlds, players)?, &bob)
+}
+
 #[test]
 fn a_closure_and_trees_answer_as_the_trees_of_both(rt: HostRuntime) -> Result<(), Fail> {
     let players = read_players(rt.alloc(), BOTH.as_bytes())?;
-    let worlds = both_worlds(rt.alloc())?;
-    let joint = joint_of(rt.alloc(), &worlds, &players)?;
-    assert!(rt; are_by_trees(rt.alloc(), &joint)?);
+    assert!(rt; are_by_trees(rt.alloc(), &players)?);
     Ok(())
 }

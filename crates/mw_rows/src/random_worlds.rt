@@ -3,8 +3,8 @@ use crate::joints::joint_of;
 use crate::plain_fill::{plain_seed, plain_try};
 use mw_base::List;
 use mw_cases::part;
-use mw_fill::{Words, fill_try, generate};
-use mw_multi::{Joint, Players, World};
+use mw_fill::{FillError, GenerateError, Seed, Words, fill_try, generate};
+use mw_multi::{Joint, Placement, Players, World};
 use mw_tables::{read_players, read_world};
 use std::alloc::Global;
 use std::test::Fail;
@@ -116,31 +116,45 @@ fn worlds_of(alloc: Global, words: &mut Words, players: &Players) -> Result<List
     Ok(worlds)
 }
 
-/// What the fill gives.
-fn filled(alloc: Global, joint: &Joint, seed: u64) -> Result<String, Fail> {
+/// Whether two placements are the same.
+fn is_same_placement(found: &Placement, plain: &Placement) -> bool {
+    found.as_slice() == plain.as_slice()
+}
+
+/// Whether two answers of the whole fill are the same.
+fn is_same_seed(found: &Result<Seed, GenerateError>, plain: &Result<Seed, GenerateError>) -> bool {
+    match (found, plain) {
+        (Ok(found), Ok(plain)) => {
+            found.stream == plain.stream && is_same_placement(&found.placement, &plain.placement)
+        }
+        (Err(found), Err(plain)) => found == plain,
+        _ => false,
+    }
+}
+
+/// Whether two answers of a try are the same.
+fn is_same_try(found: &Result<Placement, FillError>, plain: &Result<Placement, FillError>) -> bool {
+    match (found, plain) {
+        (Ok(found), Ok(plain)) => is_same_placement(found, plain),
+        (Err(found), Err(plain)) => found == plain,
+        _ => false,
+    }
+}
+
+/// Whether the fill's first try gives what the plain one gives.
+fn tries_agree(alloc: Global, joint: &Joint, seed: u64) -> bool {
+    let found = fill_try(alloc, joint, seed, 0);
+    is_same_try(&found, &plain_try(alloc, joint, seed, 0))
+}
+
+/// Whether both fills give the same, and give a seed: `seed`, `none`, or `other` where they don't.
+fn told(alloc: Global, joint: &Joint, seed: u64) -> &'static str {
     let found = generate(alloc, joint, seed, 5);
-    let first = fill_try(alloc, joint, seed, 0);
-    Ok(format!(in alloc; "{found:?} {first:?}")?)
-}
-
-/// What the plain fill gives.
-fn filled_plainly(alloc: Global, joint: &Joint, seed: u64) -> Result<String, Fail> {
-    let found = plain_seed(alloc, joint, seed, 5);
-    let first = plain_try(alloc, joint, seed, 0);
-    Ok(format!(in alloc; "{found:?} {first:?}")?)
-}
-
-/// Whether both give the same, and give a seed: `seed`, `none`, or `other` where they don't.
-fn told(alloc: Global, joint: &Joint, seed: u64) -> Result<&'static str, Fail> {
-    let found = filled(alloc, joint, seed)?;
-    let plain = filled_plainly(alloc, joint, seed)?;
-    Ok(if found.as_str() != plain.as_str() {
-        "other"
-    } else if found.as_str().starts_with("Ok") {
-        "seed"
-    } else {
-        "none"
-    })
+    let same = is_same_seed(&found, &plain_seed(alloc, joint, seed, 5));
+    if !same || !tries_agree(alloc, joint, seed) {
+        return "other";
+    }
+    if found.is_ok() { "seed" } else { "none" }
 }
 
 /// The same for the worlds of a number.
@@ -149,7 +163,7 @@ fn told_of(alloc: Global, number: u64) -> Result<&'static str, Fail> {
     let players = players_of(alloc, &mut words)?;
     let worlds = worlds_of(alloc, &mut words, &players)?;
     let joint = joint_of(alloc, &worlds, &players)?;
-    told(alloc, &joint, number)
+    Ok(told(alloc, &joint, number))
 }
 
 #[test]

@@ -4,7 +4,7 @@ ghost use Rattle.mw_reach.specs.Reached.{IsBagFor};
 
 use crate::joints::joint_of;
 use mw_base::{List, Memory};
-use mw_multi::{Bag, Joint, Placed, Players, TreeRules, World};
+use mw_multi::{Bag, Joint, Placed, Players, TreeRules};
 use mw_reach::{Reached, reach_by, unmet_goal_by};
 use mw_rules::{Named, Ruling, Steps};
 use mw_tables::{read_players, read_world};
@@ -47,14 +47,18 @@ impl Ruling for Asked {
     }
 }
 
-/// The place numbers up to 3 that are in the list, and the first slot whose goal isn't met, 0 where each is.
-fn told(alloc: Global, reached: &Reached, unmet: Option<u16>) -> Result<String, Memory> {
-    let mut text = String::new(alloc);
-    for place in 0..4 {
-        text.push_str(if reached.has(place) { "x" } else { "." })?;
-    }
-    let slot = u64::from(unmet.unwrap_or(0));
-    Ok(format!(in alloc; "{text} {slot}")?)
+/// Which of the place numbers up to 3 are in the list, and the first slot whose goal isn't met.
+type ToldReached = ([bool; 4], Option<u16>);
+
+/// Those of a list.
+fn told(reached: &Reached, unmet: Option<u16>) -> ToldReached {
+    let places = [
+        reached.has(0),
+        reached.has(1),
+        reached.has(2),
+        reached.has(3),
+    ];
+    (places, unmet)
 }
 
 /// What is reached with a bag and the events, by rules that are asked of `Asked`.
@@ -64,7 +68,7 @@ fn reached_by<L: Ledger>(
     joint: &Joint,
     base: &Bag,
     asked: &Asked,
-) -> Result<String, Memory>
+) -> Result<ToldReached, Memory>
     requires name { blank.name ≡ L.name }
     requires parts { (blank.parts ≡ L.parts) × (blank.parts ≡ 1) }
     requires rules { rule_list joint.now ≡ asked.now.trees }
@@ -77,11 +81,11 @@ fn reached_by<L: Ledger>(
     let mut steps = Steps::<L>::new(blank);
     reach_by(joint, asked, base, &placed, &mut reached, &mut steps);
     let unmet = unmet_goal_by(joint, asked, &reached, &mut steps);
-    told(alloc, &reached, unmet)
+    Ok(told(&reached, unmet))
 }
 
 /// The same with a counter of its own.
-fn reached_with(alloc: Global, joint: &Joint, base: &Bag) -> Result<String, Memory>
+fn reached_with(alloc: Global, joint: &Joint, base: &Bag) -> Result<ToldReached, Memory>
     requires { IsBagFor joint.now base.now }
 {
     let asked = Asked {
@@ -91,35 +95,36 @@ fn reached_with(alloc: Global, joint: &Joint, base: &Bag) -> Result<String, Memo
 }
 
 /// What is reached with what the slot starts with.
-fn reached_from_start(alloc: Global, joint: &Joint) -> Result<String, Memory> {
+fn reached_from_start(alloc: Global, joint: &Joint) -> Result<ToldReached, Memory> {
     reached_with(alloc, joint, &Bag::starting(alloc, joint)?)
 }
 
 /// What is reached with everything.
-fn reached_with_all(alloc: Global, joint: &Joint) -> Result<String, Memory> {
+fn reached_with_all(alloc: Global, joint: &Joint) -> Result<ToldReached, Memory> {
     reached_with(alloc, joint, &Bag::everything(alloc, joint)?)
 }
 
-/// Both, of the players' worlds.
-fn start_and_all(
-    alloc: Global,
-    worlds: &List<World>,
-    players: &Players,
-) -> Result<(String, String), Fail> {
-    let joint = joint_of(alloc, worlds, players)?;
-    let start = reached_from_start(alloc, &joint)?;
-    let all = reached_with_all(alloc, &joint)?;
-    Ok((start, all))
+/// Whether two places are reached from the start and the goal isn't met, and all with everything, and it is.
+fn is_reached(alloc: Global, joint: &Joint) -> Result<bool, Memory> {
+    let (places, unmet) = reached_from_start(alloc, joint)?;
+    let (all, unmet_with_all) = reached_with_all(alloc, joint)?;
+    Ok(
+        places == [true, false, true, false]
+            && unmet == Some(1)
+            && all == [true; 4]
+            && unmet_with_all.is_none(),
+    )
+}
+
+/// Whether that is so of the players of this file.
+fn is_reached_by(alloc: Global, players: &Players) -> Result<bool, Fail> {
+    let worlds = List::from_vec(vec![in alloc; read_world(alloc, WORLD.as_bytes())?]?);
+    Ok(is_reached(alloc, &joint_of(alloc, &worlds, players)?)?)
 }
 
 #[test]
 fn rules_are_asked_of_a_type_of_ones_own(rt: HostRuntime) -> Result<(), Fail> {
-    let alloc = rt.alloc();
-    let players = read_players(alloc, PLAYERS.as_bytes())?;
-    let mut worlds = List::new(alloc);
-    worlds.push(read_world(alloc, WORLD.as_bytes())?)?;
-    let (start, all) = start_and_all(alloc, &worlds, &players)?;
-    assert_eq!(rt; start.as_str(), "x.x. 1");
-    assert_eq!(rt; all.as_str(), "xxxx 0");
+    let players = read_players(rt.alloc(), PLAYERS.as_bytes())?;
+    assert!(rt; is_reached_by(rt.alloc(), &players)?);
     Ok(())
 }

@@ -20,13 +20,13 @@ fn answer(rule: &Rule) -> bool
 #[test]
 #[tactic(auto, using(mw_rules::proofs::Views::view_of_always, mw_rules::proofs::Views::view_of_never, mw_rules::proofs::Views::view_of_has, mw_rules::proofs::Views::view_of_can_reach))]
 fn forms_without_lists_answer_at_their_edges(rt: HostRuntime) {
-    assert!(rt; answer(&Rule::Always));
-    assert!(rt; !answer(&Rule::Never));
-    assert!(rt; answer(&Rule::Has { item: 1, count: 1 }));
-    assert!(rt; !answer(&Rule::Has { item: 1, count: 2 }));
-    assert!(rt; answer(&Rule::Has { item: 2, count: 2 }));
-    assert!(rt; answer(&Rule::CanReach { place: 0 }));
-    assert!(rt; !answer(&Rule::CanReach { place: 1 }));
+    assert!(rt; answer(&Rule::Always) && !answer(&Rule::Never));
+    assert!(rt;
+        answer(&Rule::Has { item: 1, count: 1 })
+            && !answer(&Rule::Has { item: 1, count: 2 })
+            && answer(&Rule::Has { item: 2, count: 2 })
+    );
+    assert!(rt; answer(&Rule::CanReach { place: 0 }) && !answer(&Rule::CanReach { place: 1 }));
 }
 
 /// A list of two of the items.
@@ -72,17 +72,27 @@ fn has_count(alloc: Global, at_least: u32) -> Result<bool, Memory> {
     Ok(answer(&Rule::Count { items, at_least }))
 }
 
-#[test]
+/// Whether the rules of no items answer so.
 #[tactic(auto, using(mw_rules::proofs::Views::view_of_has_all, mw_rules::proofs::Views::view_of_has_any))]
+fn no_items_answer(alloc: Global) -> bool {
+    answer(&Rule::HasAll(List::new(alloc))) && !answer(&Rule::HasAny(List::new(alloc)))
+}
+
+/// Whether the rules of two items do.
+fn two_items_answer(alloc: Global) -> Result<bool, Memory> {
+    Ok(
+        has_all(alloc, 1, 2)?
+            && !has_all(alloc, 1, 0)?
+            && has_any(alloc, 0, 1)?
+            && !has_any(alloc, 0, 0)?
+            && has_count(alloc, 3)?
+            && !has_count(alloc, 4)?,
+    )
+}
+
+#[test]
 fn forms_of_items_answer_at_their_edges(rt: HostRuntime) -> Result<(), Fail> {
-    assert!(rt; answer(&Rule::HasAll(List::new(rt.alloc()))));
-    assert!(rt; has_all(rt.alloc(), 1, 2)?);
-    assert!(rt; !has_all(rt.alloc(), 1, 0)?);
-    assert!(rt; !answer(&Rule::HasAny(List::new(rt.alloc()))));
-    assert!(rt; has_any(rt.alloc(), 0, 1)?);
-    assert!(rt; !has_any(rt.alloc(), 0, 0)?);
-    assert!(rt; has_count(rt.alloc(), 3)?);
-    assert!(rt; !has_count(rt.alloc(), 4)?);
+    assert!(rt; no_items_answer(rt.alloc()) && two_items_answer(rt.alloc())?);
     Ok(())
 }
 
@@ -104,15 +114,26 @@ fn one_holds(alloc: Global, first: Rule, second: Rule) -> Result<bool, Memory>
     Ok(answer(&rule))
 }
 
+/// Whether the rules of no rules answer so.
+#[tactic(auto, using(mw_rules::proofs::Views::view_of_and, mw_rules::proofs::Views::view_of_or))]
+fn no_rules_answer(alloc: Global) -> bool {
+    answer(&Rule::And(List::new(alloc))) && !answer(&Rule::Or(List::new(alloc)))
+}
+
+/// Whether the rules of two rules do.
+#[tactic(auto, using(mw_rules::proofs::Views::view_of_always, mw_rules::proofs::Views::view_of_never))]
+fn two_rules_answer(alloc: Global) -> Result<bool, Memory> {
+    Ok(
+        !both_hold(alloc, Rule::Always, Rule::Never)?
+            && both_hold(alloc, Rule::Always, Rule::Always)?
+            && one_holds(alloc, Rule::Never, Rule::Always)?
+            && !one_holds(alloc, Rule::Never, Rule::Never)?,
+    )
+}
+
 #[test]
-#[tactic(auto, using(mw_rules::proofs::Views::view_of_always, mw_rules::proofs::Views::view_of_never, mw_rules::proofs::Views::view_of_and, mw_rules::proofs::Views::view_of_or))]
 fn forms_of_rules_answer_at_their_edges(rt: HostRuntime) -> Result<(), Fail> {
-    assert!(rt; answer(&Rule::And(List::new(rt.alloc()))));
-    assert!(rt; !answer(&Rule::Or(List::new(rt.alloc()))));
-    assert!(rt; !both_hold(rt.alloc(), Rule::Always, Rule::Never)?);
-    assert!(rt; both_hold(rt.alloc(), Rule::Always, Rule::Always)?);
-    assert!(rt; one_holds(rt.alloc(), Rule::Never, Rule::Always)?);
-    assert!(rt; !one_holds(rt.alloc(), Rule::Never, Rule::Never)?);
+    assert!(rt; no_rules_answer(rt.alloc()) && two_rules_answer(rt.alloc())?);
     Ok(())
 }
 
@@ -136,8 +157,7 @@ fn answer_counted(rule: &Rule) -> bool
 #[test]
 #[tactic(auto, using(mw_rules::proofs::Views::view_of_always, mw_rules::proofs::Views::view_of_never))]
 fn a_counted_rule_answers_as_ever(rt: HostRuntime) {
-    assert!(rt; answer_counted(&Rule::Always));
-    assert!(rt; !answer_counted(&Rule::Never));
+    assert!(rt; answer_counted(&Rule::Always) && !answer_counted(&Rule::Never));
 }
 
 /// One rule, under the number 0.
@@ -170,22 +190,25 @@ impl Ruling for OneRule {
     }
 }
 
-#[test]
+/// A rule that names items 2 and 0, item 2 again, and place 1.
 #[tactic(auto, using(mw_rules::proofs::Views::view_of_has_all, mw_rules::proofs::Views::view_of_has, mw_rules::proofs::Views::view_of_can_reach, mw_rules::proofs::Views::view_of_and))]
+fn naming_rule(alloc: Global) -> Result<Rule, Memory> {
+    let all = Rule::HasAll(two(alloc, 2, 0)?);
+    let has = Rule::Has { item: 2, count: 3 };
+    let inner = Rule::And(both(alloc, has, Rule::CanReach { place: 1 })?);
+    Ok(Rule::Or(both(alloc, all, inner)?))
+}
+
+/// Whether what is named is each item once, and the place.
+fn are_named(named: &Named) -> bool {
+    named.items.as_slice() == [0, 2].as_slice() && named.places.as_slice() == [1].as_slice()
+}
+
+#[test]
 fn one_rule_tells_its_count_and_its_names(rt: HostRuntime) -> Result<(), Fail> {
-    let rule = Rule::Or(both(
-        rt.alloc(),
-        Rule::HasAll(two(rt.alloc(), 2, 0)?),
-        Rule::And(both(
-            rt.alloc(),
-            Rule::Has { item: 2, count: 3 },
-            Rule::CanReach { place: 1 },
-        )?),
-    )?);
+    let rule = naming_rule(rt.alloc())?;
     let named = Named::of(rt.alloc(), &rule)?;
-    assert_eq!(rt; named.items.as_slice(), [0, 2].as_slice());
-    assert_eq!(rt; named.places.as_slice(), [1].as_slice());
     let one = OneRule { rule, named };
-    assert_eq!(rt; one.count(), 1);
+    assert!(rt; are_named(&one.named) && one.count() == 1);
     Ok(())
 }

@@ -1,4 +1,5 @@
-use crate::cases::{case_of, named, repeated};
+use crate::cases::{case_of, each, is_named, repeated};
+use mw_base::Memory;
 use mw_multidata::{DataRefusal, RoomTables, read, write};
 use mw_room_a::ROOM_A;
 use std::alloc::Global;
@@ -21,20 +22,19 @@ const CASES: &str = r#""teams":1} => "teams":1 => NoJson /
 const LIMIT_CASES: &str = r#"[5,0] =>  | [5,0], | 255 |  | [5,0] => accepted
 [5,0] =>  | [5,0], | 256 |  | [5,0] => TooMany /slots/0/start"#;
 
-/// The kind and the path of a file's refusal, or `accepted`.
-fn answer(alloc: Global, text: &str) -> Result<String, Fail> {
+/// Whether a file is answered so: a refusal's kind and path, or `accepted`.
+fn is_answer(alloc: Global, text: &str, wanted: &str) -> Result<bool, Memory> {
     match read(alloc, text.as_bytes()) {
-        Ok(_) => Ok(String::from_str(alloc, "accepted")?),
-        Err(DataRefusal::Memory) => Ok(String::from_str(alloc, "memory")?),
-        Err(DataRefusal::Named { kind, path }) => named(alloc, kind, &path),
+        Ok(_) => Ok(wanted == "accepted"),
+        Err(DataRefusal::Memory) => Err(Memory),
+        Err(DataRefusal::Named { kind, path }) => is_named(alloc, kind, &path, wanted),
     }
 }
 
 /// Whether the room, changed so, is answered so.
 fn is_answered(alloc: Global, old: &str, new: &str, wanted: &str) -> Result<bool, Fail> {
     let text = ROOM_A.replace(alloc, old, new)?;
-    let found = answer(alloc, text.as_str())?;
-    Ok(found.as_str() == wanted)
+    Ok(is_answer(alloc, text.as_str(), wanted)?)
 }
 
 /// Whether a case is so.
@@ -50,29 +50,27 @@ fn is_limit_case(alloc: Global, line: &str) -> Result<bool, Fail> {
     is_answered(alloc, old, new.as_str(), wanted)
 }
 
+/// The tables of the room.
+fn tables(alloc: Global) -> Result<RoomTables, Fail> {
+    match read(alloc, ROOM_A.as_bytes()) {
+        Ok(seed) => Ok(RoomTables::of(alloc, seed)?),
+        Err(_) => Err(Fail::from("refused")),
+    }
+}
+
 #[test]
 fn a_room_is_read_and_written(rt: HostRuntime) -> Result<(), Fail> {
-    let Ok(seed) = read(rt.alloc(), ROOM_A.as_bytes()) else {
-        return Err(Fail::from("refused"));
-    };
-    let tables = RoomTables::of(rt.alloc(), seed)?;
-    let text = write(rt.alloc(), tables.multidata())?;
+    let text = write(rt.alloc(), tables(rt.alloc())?.multidata())?;
     assert!(rt; text.as_slice() == ROOM_A.as_bytes());
     Ok(())
 }
 
 #[test]
 fn each_refusal_has_its_place(rt: HostRuntime) -> Result<(), Fail> {
-    for line in CASES.split('\n') {
-        assert!(rt; is_case(rt.alloc(), line)?, "{line}");
-    }
-    Ok(())
+    each(rt.alloc(), CASES, is_case)
 }
 
 #[test]
 fn limits_hold_at_their_edge(rt: HostRuntime) -> Result<(), Fail> {
-    for line in LIMIT_CASES.split('\n') {
-        assert!(rt; is_limit_case(rt.alloc(), line)?, "{line}");
-    }
-    Ok(())
+    each(rt.alloc(), LIMIT_CASES, is_limit_case)
 }

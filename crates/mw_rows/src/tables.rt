@@ -1,5 +1,7 @@
-use crate::cases::{case_of, named, repeated};
-use mw_multi::{Players, World};
+use crate::cases::{case_of, each, is_named, repeated};
+use mw_base::{List, LocId, Memory, Permission, RoomOptions, Text};
+use mw_multi::{LocKind, Location, Options, Player, Players, StartEntry, World};
+use mw_rules::Rule;
 use mw_tables::{TableRefusal, read_players, read_world};
 use std::alloc::Global;
 use std::test::Fail;
@@ -9,17 +11,6 @@ const WORLD: &str =
 
 const PLAYERS: &str =
     r#"{"format":"mw-players-1","teams":2,"room":{"password":"pw","hint_cost":5,"location_check_points":2,"release":"goal","collect":"enabled","remaining":"disabled"},"players":[{"names":["Ann","Ada"],"world":"w.json","options":{"local_items":["Sword","Sword"],"start_inventory":{"Coin":2,"Sword":1}}},{"names":["Bob","Bea"],"world":"v.json"}]}"#;
-
-const TABLES_SHOWN: &str =
-    r#"List { items: [Entrance { name: Text { inner: "Down" }, from: 0, to: 1, rule: Has { item: 0, count: 2 } }] } List { items: [PoolEntry { item: 0, count: 3 }] }"#;
-
-const GOAL_SHOWN: &str = "HasAny(List { items: [2] }) 1";
-
-const LOCATIONS_SHOWN: &str =
-    r#"List { items: [Location { name: Text { inner: "First" }, id: Some(LocId { value: 1 }), region: 0, kind: Default, rule: Always, event: None }, Location { name: Text { inner: "Second" }, id: Some(LocId { value: 2 }), region: 1, kind: Priority, rule: Has { item: 0, count: 1 }, event: None }, Location { name: Text { inner: "End" }, id: None, region: 1, kind: Default, rule: And(List { items: [CanReach { place: 2 }, Count { items: List { items: [0, 2] }, at_least: 2 }] }), event: Some(2) }] }"#;
-
-const PLAYERS_SHOWN: &str =
-    r#"2 RoomOptions { password: Text { inner: "pw" }, hint_cost: 5, location_check_points: 2, release: Goal, collect: Enabled, remaining: Disabled } List { items: [Player { names: List { items: [Text { inner: "Ann" }, Text { inner: "Ada" }] }, world: Text { inner: "w.json" }, options: Options { local_items: List { items: [Text { inner: "Sword" }, Text { inner: "Sword" }] }, non_local_items: List { items: [] }, exclude_locations: List { items: [] }, priority_locations: List { items: [] }, start_inventory: List { items: [StartEntry { name: Text { inner: "Coin" }, count: 2 }, StartEntry { name: Text { inner: "Sword" }, count: 1 }] } } }, Player { names: List { items: [Text { inner: "Bob" }, Text { inner: "Bea" }] }, world: Text { inner: "v.json" }, options: Options { local_items: List { items: [] }, non_local_items: List { items: [] }, exclude_locations: List { items: [] }, priority_locations: List { items: [] }, start_inventory: List { items: [] } } }] }"#;
 
 /// Changes of the world, and what the file is answered then.
 const WORLD_CASES: &str = r#"["Win"]}} => ["Win"]} => NoJson /
@@ -103,85 +94,118 @@ mw-players-1 => mw-world-1 => OtherFormat /format
 "players":[ => "players":[],"no":[ => WrongKind /players
 "Bob" => "Ann" => DuplicateName /players/1/names/0"#;
 
-/// The kind and the path of a refusal.
-fn refusal(alloc: Global, error: &TableRefusal) -> Result<String, Fail> {
+/// Whether a table's refusal is that of an answer.
+fn is_refusal(alloc: Global, error: TableRefusal, wanted: &str) -> Result<bool, Memory> {
     match error {
-        TableRefusal::Memory => Ok(String::from_str(alloc, "memory")?),
-        TableRefusal::Named { kind, path } => named(alloc, *kind, path),
+        TableRefusal::Memory => Err(Memory),
+        TableRefusal::Named { kind, path } => is_named(alloc, kind, &path, wanted),
     }
 }
 
-/// Why a world file is refused, if it is.
-fn world_refusal(alloc: Global, text: &str) -> Option<TableRefusal> {
+/// Whether a world file is answered so, `accepted` for a world.
+fn is_world_answer(alloc: Global, text: &str, wanted: &str) -> Result<bool, Memory> {
     match read_world(alloc, text.as_bytes()) {
-        Ok(_) => None,
-        Err(error) => Some(error),
+        Ok(_) => Ok(wanted == "accepted"),
+        Err(error) => is_refusal(alloc, error, wanted),
     }
 }
 
-/// What a world file is answered, `accepted` for a world.
-fn world_answer(alloc: Global, text: &str) -> Result<String, Fail> {
-    match world_refusal(alloc, text) {
-        None => Ok(String::from_str(alloc, "accepted")?),
-        Some(error) => refusal(alloc, &error),
-    }
-}
-
-/// What a players file is answered, `accepted` for players.
-fn players_answer(alloc: Global, text: &str) -> Result<String, Fail> {
+/// Whether a players file is answered so, `accepted` for players.
+fn is_players_answer(alloc: Global, text: &str, wanted: &str) -> Result<bool, Memory> {
     match read_players(alloc, text.as_bytes()) {
-        Ok(_) => Ok(String::from_str(alloc, "accepted")?),
-        Err(error) => refusal(alloc, &error),
+        Ok(_) => Ok(wanted == "accepted"),
+        Err(error) => is_refusal(alloc, error, wanted),
     }
 }
 
-/// The entrances and the pool of a world, as they are debugged.
-fn tables_shown(alloc: Global, world: &World) -> Result<String, Fail> {
-    let (entrances, pool) = (&world.entrances, &world.pool);
-    Ok(format!(in alloc; "{entrances:?} {pool:?}")?)
+/// Whether a world has its entrance alone.
+fn has_entrance(world: &World) -> bool {
+    let [down] = world.entrances.as_slice() else {
+        return false;
+    };
+    down.name.as_str() == "Down"
+        && down.from == 0
+        && down.to == 1
+        && matches!(down.rule, Rule::Has { item: 0, count: 2 })
 }
 
-/// Its goal and its filler, as they are debugged.
-fn goal_shown(alloc: Global, world: &World) -> Result<String, Fail> {
-    let (goal, filler) = (&world.goal, world.filler);
-    Ok(format!(in alloc; "{goal:?} {filler}")?)
+/// Whether its pool has one entry.
+fn has_pool(world: &World) -> bool {
+    let [swords] = world.pool.as_slice() else {
+        return false;
+    };
+    swords.item == 0 && swords.count == 3
 }
 
-/// Its locations, as they are debugged.
-fn locations_shown(alloc: Global, world: &World) -> Result<String, Fail> {
-    let locations = &world.locations;
-    Ok(format!(in alloc; "{locations:?}")?)
-}
-
-/// The world of the file.
-fn world(alloc: Global) -> Result<World, Fail> {
-    match read_world(alloc, WORLD.as_bytes()) {
-        Ok(world) => Ok(world),
-        Err(_) => Err(Fail::from("refused")),
+/// Whether its goal takes its event, and its filler is its second item.
+fn has_goal(world: &World) -> bool {
+    match &world.goal {
+        Rule::HasAny(items) => items.as_slice() == [2].as_slice() && world.filler == 1,
+        _ => false,
     }
 }
 
-/// Whether the world is shown so.
-fn is_shown(alloc: Global, world: &World) -> Result<bool, Fail> {
-    Ok(
-        tables_shown(alloc, world)?.as_str() == TABLES_SHOWN
-            && goal_shown(alloc, world)?.as_str() == GOAL_SHOWN
-            && locations_shown(alloc, world)?.as_str() == LOCATIONS_SHOWN,
-    )
+/// Whether a location has these parts; its rule is left.
+fn is_location(
+    location: &Location,
+    name: &str,
+    id: Option<LocId>,
+    region: u32,
+    kind: LocKind,
+    event: Option<u32>,
+) -> bool {
+    location.name.as_str() == name
+        && location.id == id
+        && location.region == region
+        && location.kind == kind
+        && location.event == event
+}
+
+/// Whether a rule takes a place, and so many of two items.
+fn is_end_rule(rule: &Rule) -> bool {
+    let Rule::And(rules) = rule else {
+        return false;
+    };
+    match rules.as_slice() {
+        [
+            Rule::CanReach { place: 2 },
+            Rule::Count { items, at_least: 2 },
+        ] => { items.as_slice() == [0, 2].as_slice() }
+        _ => false,
+    }
+}
+
+/// Whether a world has its three locations.
+fn has_locations(world: &World) -> bool {
+    let [first, second, end] = world.locations.as_slice() else {
+        return false;
+    };
+    is_location(first, "First", LocId::new(1), 0, LocKind::Default, None)
+        && matches!(first.rule, Rule::Always)
+        && is_location(second, "Second", LocId::new(2), 1, LocKind::Priority, None)
+        && matches!(second.rule, Rule::Has { item: 0, count: 1 })
+        && is_location(end, "End", None, 1, LocKind::Default, Some(2))
+        && is_end_rule(&end.rule)
+}
+
+/// Whether a world is that of the file.
+fn is_world_read(world: &World) -> bool {
+    has_entrance(world) && has_pool(world) && has_goal(world) && has_locations(world)
 }
 
 #[test]
 fn a_world_is_read(rt: HostRuntime) -> Result<(), Fail> {
-    let world = world(rt.alloc())?;
-    assert!(rt; is_shown(rt.alloc(), &world)?);
+    match read_world(rt.alloc(), WORLD.as_bytes()) {
+        Ok(world) => assert!(rt; is_world_read(&world)),
+        Err(_) => return Err(Fail::from("refused")),
+    }
     Ok(())
 }
 
 /// Whether the world, changed so, is answered so.
 fn is_world(alloc: Global, old: &str, new: &str, wanted: &str) -> Result<bool, Fail> {
     let text = WORLD.replace(alloc, old, new)?;
-    let found = world_answer(alloc, text.as_str())?;
-    Ok(found.as_str() == wanted)
+    Ok(is_world_answer(alloc, text.as_str(), wanted)?)
 }
 
 /// Whether a case of the world is so.
@@ -192,18 +216,12 @@ fn is_world_case(alloc: Global, line: &str) -> Result<bool, Fail> {
 
 #[test]
 fn each_refusal_of_a_world_has_its_place(rt: HostRuntime) -> Result<(), Fail> {
-    for line in WORLD_CASES.split('\n') {
-        assert!(rt; is_world_case(rt.alloc(), line)?, "{line}");
-    }
-    Ok(())
+    each(rt.alloc(), WORLD_CASES, is_world_case)
 }
 
 #[test]
 fn each_refusal_of_locations_and_rules_has_its_place(rt: HostRuntime) -> Result<(), Fail> {
-    for line in RULE_CASES.split('\n') {
-        assert!(rt; is_world_case(rt.alloc(), line)?, "{line}");
-    }
-    Ok(())
+    each(rt.alloc(), RULE_CASES, is_world_case)
 }
 
 /// Whether a case of the world that repeats a unit is so.
@@ -215,30 +233,81 @@ fn is_limit_case(alloc: Global, line: &str) -> Result<bool, Fail> {
 
 #[test]
 fn limits_of_a_world_hold_at_their_edge(rt: HostRuntime) -> Result<(), Fail> {
-    for line in LIMIT_CASES.split('\n') {
-        assert!(rt; is_limit_case(rt.alloc(), line)?, "{line}");
+    each(rt.alloc(), LIMIT_CASES, is_limit_case)
+}
+
+/// Whether texts are these two.
+fn are_two(texts: &List<Text>, first: &str, second: &str) -> bool {
+    match texts.as_slice() {
+        [one, other] => one.as_str() == first && other.as_str() == second,
+        _ => false,
     }
-    Ok(())
 }
 
-/// The players of a file, as they are debugged.
-fn players_shown(alloc: Global, file: &Players) -> Result<String, Fail> {
-    let (teams, room, players) = (file.teams, &file.room, &file.players);
-    Ok(format!(in alloc; "{teams} {room:?} {players:?}")?)
+/// Whether a room has its settings.
+fn is_room(room: &RoomOptions) -> bool {
+    room.password.as_str() == "pw"
+        && room.hint_cost == 5
+        && room.location_check_points == 2
+        && room.release == Permission::Goal
+        && room.collect == Permission::Enabled
+        && room.remaining == Permission::Disabled
 }
 
-/// The players of the file.
-fn players(alloc: Global) -> Result<Players, Fail> {
-    match read_players(alloc, PLAYERS.as_bytes()) {
-        Ok(players) => Ok(players),
-        Err(_) => Err(Fail::from("refused")),
+/// Whether an entry of a start has this name and count.
+fn is_start(entry: &StartEntry, name: &str, count: u32) -> bool {
+    entry.name.as_str() == name && entry.count == count
+}
+
+/// Whether a player starts with two coins and a sword.
+fn has_start(options: &Options) -> bool {
+    match options.start_inventory.as_slice() {
+        [coins, sword] => is_start(coins, "Coin", 2) && is_start(sword, "Sword", 1),
+        _ => false,
+    }
+}
+
+/// Whether a player keeps no items out of its world, and no locations are excluded or come first.
+fn has_no_others(options: &Options) -> bool {
+    options.non_local_items.len() == 0
+        && options.exclude_locations.len() == 0
+        && options.priority_locations.len() == 0
+}
+
+/// Whether a player is the first of the file.
+fn is_ann(player: &Player) -> bool {
+    let options = &player.options;
+    are_two(&player.names, "Ann", "Ada")
+        && player.world.as_str() == "w.json"
+        && are_two(&options.local_items, "Sword", "Sword")
+        && has_no_others(options)
+        && has_start(options)
+}
+
+/// Whether a player is the second of the file, without options.
+fn is_bob(player: &Player) -> bool {
+    let options = &player.options;
+    are_two(&player.names, "Bob", "Bea")
+        && player.world.as_str() == "v.json"
+        && options.local_items.len() == 0
+        && has_no_others(options)
+        && options.start_inventory.len() == 0
+}
+
+/// Whether players are those of the file.
+fn are_players(file: &Players) -> bool {
+    match file.players.as_slice() {
+        [ann, bob] => file.teams == 2 && is_room(&file.room) && is_ann(ann) && is_bob(bob),
+        _ => false,
     }
 }
 
 #[test]
 fn players_are_read(rt: HostRuntime) -> Result<(), Fail> {
-    let players = players(rt.alloc())?;
-    assert!(rt; players_shown(rt.alloc(), &players)?.as_str() == PLAYERS_SHOWN);
+    match read_players(rt.alloc(), PLAYERS.as_bytes()) {
+        Ok(players) => assert!(rt; are_players(&players)),
+        Err(_) => return Err(Fail::from("refused")),
+    }
     Ok(())
 }
 
@@ -246,14 +315,10 @@ fn players_are_read(rt: HostRuntime) -> Result<(), Fail> {
 fn is_players_case(alloc: Global, line: &str) -> Result<bool, Fail> {
     let (old, new, wanted) = case_of(line).ok_or("no case")?;
     let text = PLAYERS.replace(alloc, old, new)?;
-    let found = players_answer(alloc, text.as_str())?;
-    Ok(found.as_str() == wanted)
+    Ok(is_players_answer(alloc, text.as_str(), wanted)?)
 }
 
 #[test]
 fn each_refusal_of_players_has_its_place(rt: HostRuntime) -> Result<(), Fail> {
-    for line in PLAYERS_CASES.split('\n') {
-        assert!(rt; is_players_case(rt.alloc(), line)?, "{line}");
-    }
-    Ok(())
+    each(rt.alloc(), PLAYERS_CASES, is_players_case)
 }
