@@ -1,7 +1,8 @@
-use mw_base::{SessionId, Text};
+use crate::messages::packets_in;
+use mw_base::SessionId;
 use mw_disk::MemDisk;
 use mw_keep::{Call, KeptRoom, Reply, StopCause};
-use mw_packets_in::{Inbound, packets_of};
+use mw_packets_in::Inbound;
 use std::alloc::Global;
 use std::test::Fail;
 
@@ -40,7 +41,7 @@ pub(crate) fn answer(room: &mut KeptRoom<MemDisk>, call: Call) -> &'static str {
 
 /// The last element of a message.
 fn last_of(alloc: Global, message: &str) -> Result<Option<Inbound>, Fail> {
-    let found = packets_of(alloc, &Text::of(alloc, message)?)?;
+    let found = packets_in(alloc, message)?;
     Ok(found.into_vec().pop())
 }
 

@@ -1,3 +1,4 @@
+use crate::cases::{each, fine};
 use crate::logs::{ann, bob, new_log, tables_of, team};
 use mw_answers::{
     checked_text, help_text, missing_text, name_of, no_such_name, nothing_to_hint, players_text,
@@ -42,12 +43,14 @@ fn says(alloc: Global, text: &str, kind: &str, rest: &str) -> Result<bool, Fail>
 /// Texts that are no commands.
 const CHATS: &str = "\nhi\n !help\na!\n\u{a0}!";
 
+/// Whether a text is chat as a whole.
+fn is_chat(alloc: Global, text: &str) -> Result<bool, Fail> {
+    says(alloc, text, "chat", text)
+}
+
 #[test]
 fn a_text_that_is_no_command_is_chat(rt: HostRuntime) -> Result<(), Fail> {
-    for text in CHATS.split('\n') {
-        assert!(rt; says(rt.alloc(), text, "chat", text)?, "at {text}");
-    }
-    Ok(())
+    each(rt.alloc(), CHATS, is_chat)
 }
 
 /// Whether a case's text says the case's kind with the rest.
@@ -71,11 +74,8 @@ const COMMANDS: &str = "!help | help
 
 #[test]
 fn commands_are_their_whole_first_word(rt: HostRuntime) -> Result<(), Fail> {
-    for case in COMMANDS.split('\n') {
-        assert!(rt; is_said(rt.alloc(), case)?, "at {case}");
-    }
-    assert!(rt; says(rt.alloc(), "!help\n", "unknown", "")?);
-    Ok(())
+    fine(says(rt.alloc(), "!help\n", "unknown", "")?)?;
+    each(rt.alloc(), COMMANDS, is_said)
 }
 
 /// Commands that ask for hints, and the name of what they ask for.
@@ -87,10 +87,7 @@ const HINTS: &str = "!hint | hint
 
 #[test]
 fn hints_have_the_rest_as_their_name(rt: HostRuntime) -> Result<(), Fail> {
-    for case in HINTS.split('\n') {
-        assert!(rt; is_said(rt.alloc(), case)?, "at {case}");
-    }
-    Ok(())
+    each(rt.alloc(), HINTS, is_said)
 }
 
 /// The bytes of a part, which has no number but in the ranges of their types.
@@ -112,23 +109,36 @@ fn is_text_part(alloc: Global, text: &str, wanted: &str) -> Result<bool, Fail> {
     is_part(alloc, part_text(alloc, &Text::of(alloc, text)?), wanted)
 }
 
+/// A part by its name.
+fn part_named(alloc: Global, name: &str) -> Result<Tree, Memory> {
+    match name {
+        "player" => part_player(alloc, 1024),
+        "item" => part_item(alloc, ItemId::new(7).unwrap(), 2, 1),
+        _ => part_location(alloc, LocId::new(101).unwrap(), ann()),
+    }
+}
+
+/// Whether a case's part has its text.
+fn is_named_part(alloc: Global, case: &str) -> Result<bool, Fail> {
+    is_part(alloc, part_named(alloc, part(case, 0)), part(case, 1))
+}
+
+/// The part of a player, and its text.
+const PLAYER: &str = r#"player | {"text":"1024","type":"player_id"}"#;
+
 #[test]
 fn parts_of_a_print(rt: HostRuntime) -> Result<(), Fail> {
-    assert!(rt; is_text_part(rt.alloc(), " \"sent\" ", r#"{"text":" \"sent\" "}"#)?);
-    let player = part_player(rt.alloc(), 1024);
-    assert!(rt; is_part(rt.alloc(), player, r#"{"text":"1024","type":"player_id"}"#)?);
-    Ok(())
+    fine(is_text_part(rt.alloc(), " \"sent\" ", r#"{"text":" \"sent\" "}"#)?)?;
+    each(rt.alloc(), PLAYER, is_named_part)
 }
+
+/// The parts of an item and of a location, and their texts.
+const ITEM_AND_LOCATION: &str = r#"item | {"flags":1,"player":2,"text":"7","type":"item_id"}
+location | {"player":1,"text":"101","type":"location_id"}"#;
 
 #[test]
 fn parts_that_name_an_item(rt: HostRuntime) -> Result<(), Fail> {
-    let item = part_item(rt.alloc(), ItemId::new(7).unwrap(), 2, 1);
-    let text = r#"{"flags":1,"player":2,"text":"7","type":"item_id"}"#;
-    assert!(rt; is_part(rt.alloc(), item, text)?);
-    let location = part_location(rt.alloc(), LocId::new(101).unwrap(), ann());
-    let text = r#"{"player":1,"text":"101","type":"location_id"}"#;
-    assert!(rt; is_part(rt.alloc(), location, text)?);
-    Ok(())
+    each(rt.alloc(), ITEM_AND_LOCATION, is_named_part)
 }
 
 /// The text of a print.
@@ -147,8 +157,7 @@ fn who_comes_is_printed(rt: HostRuntime) -> Result<(), Fail> {
     let print = joined(rt.alloc(), team(), ann(), &tags, "Ann");
     let text =
         r#"{"cmd":"PrintJSON","data":[{"text":"Ann joined"}],"slot":1,"tags":["AP"],"team":0,"type":"Join"}"#;
-    assert!(rt; prints(rt.alloc(), print, text)?);
-    Ok(())
+    fine(prints(rt.alloc(), print, text)?)
 }
 
 #[test]
@@ -156,60 +165,60 @@ fn new_tags_are_printed(rt: HostRuntime) -> Result<(), Fail> {
     let print = changed_tags(rt.alloc(), team(), ann(), &[], "Ann");
     let text =
         r#"{"cmd":"PrintJSON","data":[{"text":"Ann changed tags"}],"slot":1,"tags":[],"team":0,"type":"TagsChanged"}"#;
-    assert!(rt; prints(rt.alloc(), print, text)?);
-    Ok(())
+    fine(prints(rt.alloc(), print, text)?)
 }
+
+/// What Bob says, or what a command that fails is told.
+fn print_named(alloc: Global, name: &str) -> Result<ServerPacket, Memory> {
+    match name {
+        "chat" => chatted(alloc, team(), bob(), "Bob", "hi"),
+        _ => command_result(alloc, "no such name"),
+    }
+}
+
+/// Whether a case's print is its packet.
+fn is_printed(alloc: Global, case: &str) -> Result<bool, Fail> {
+    prints(alloc, print_named(alloc, part(case, 0)), part(case, 1))
+}
+
+/// Prints of what is said, and their packets.
+const SAID: &str =
+    r#"chat | {"cmd":"PrintJSON","data":[{"text":"Bob: hi"}],"message":"hi","slot":2,"team":0,"type":"Chat"}
+result | {"cmd":"PrintJSON","data":[{"text":"no such name"}],"type":"CommandResult"}"#;
 
 #[test]
 fn what_is_said_is_printed(rt: HostRuntime) -> Result<(), Fail> {
-    let print = chatted(rt.alloc(), team(), bob(), "Bob", "hi");
-    let text =
-        r#"{"cmd":"PrintJSON","data":[{"text":"Bob: hi"}],"message":"hi","slot":2,"team":0,"type":"Chat"}"#;
-    assert!(rt; prints(rt.alloc(), print, text)?);
-    let print = command_result(rt.alloc(), "no such name");
-    let text = r#"{"cmd":"PrintJSON","data":[{"text":"no such name"}],"type":"CommandResult"}"#;
-    assert!(rt; prints(rt.alloc(), print, text)?);
-    Ok(())
+    each(rt.alloc(), SAID, is_printed)
 }
 
-/// Whether a print tells of Ann with these words and this kind.
-fn tells(
-    alloc: Global,
-    print: Result<ServerPacket, Memory>,
-    words: &str,
-    kind: &str,
-) -> Result<bool, Fail> {
-    let found = text_of(alloc, print?)?;
+/// What is printed of Ann by the words for what she does.
+fn print_of_ann(alloc: Global, words: &str) -> Result<ServerPacket, Memory> {
+    match words {
+        "left" => left(alloc, team(), ann(), "Ann"),
+        "reached the goal" => reached_goal(alloc, team(), ann(), "Ann"),
+        "released" => released(alloc, team(), ann(), "Ann"),
+        _ => collected(alloc, team(), ann(), "Ann"),
+    }
+}
+
+/// Whether a case's words are printed of Ann with the case's kind.
+fn tells(alloc: Global, case: &str) -> Result<bool, Fail> {
+    let (words, kind) = (part(case, 0), part(case, 1));
     let text = format!(in alloc;
         r#"{{"cmd":"PrintJSON","data":[{{"text":"Ann {words}"}}],"slot":1,"team":0,"type":"{kind}"}}"#
     )?;
-    Ok(found.as_str() == text.as_str())
+    prints(alloc, print_of_ann(alloc, words), text.as_str())
 }
+
+/// What a player does, and the kind of its print.
+const DEEDS: &str = "left | Part
+reached the goal | Goal
+released | Release
+collected | Collect";
 
 #[test]
 fn what_a_player_does_is_printed(rt: HostRuntime) -> Result<(), Fail> {
-    let alloc = rt.alloc();
-    let (team, ann) = (team(), ann());
-    assert!(rt; tells(alloc, left(alloc, team, ann, "Ann"), "left", "Part")?);
-    let goal = "reached the goal";
-    assert!(rt; tells(alloc, reached_goal(alloc, team, ann, "Ann"), goal, "Goal")?);
-    assert!(rt;
-        tells(
-            alloc,
-            released(alloc, team, ann, "Ann"),
-            "released",
-            "Release"
-        )?
-    );
-    assert!(rt;
-        tells(
-            alloc,
-            collected(alloc, team, ann, "Ann"),
-            "collected",
-            "Collect"
-        )?
-    );
-    Ok(())
+    each(rt.alloc(), DEEDS, tells)
 }
 
 #[test]
@@ -222,8 +231,7 @@ fn items_that_are_sent_are_printed(rt: HostRuntime) -> Result<(), Fail> {
     };
     let text =
         r#"{"cmd":"PrintJSON","data":[{"text":"1","type":"player_id"},{"text":" sent "},{"flags":1,"player":2,"text":"7","type":"item_id"},{"text":" to "},{"text":"2","type":"player_id"},{"text":" ("},{"player":1,"text":"101","type":"location_id"},{"text":")"}],"item":{"class":"NetworkItem","flags":1,"item":7,"location":101,"player":1},"receiving":2,"type":"ItemSend"}"#;
-    assert!(rt; prints(rt.alloc(), item_send(rt.alloc(), &sword, 2), text)?);
-    Ok(())
+    fine(prints(rt.alloc(), item_send(rt.alloc(), &sword, 2), text)?)
 }
 
 #[test]
@@ -236,8 +244,7 @@ fn items_that_are_found_are_printed(rt: HostRuntime) -> Result<(), Fail> {
     };
     let text =
         r#"{"cmd":"PrintJSON","data":[{"text":"1","type":"player_id"},{"text":" found their "},{"flags":0,"player":1,"text":"8","type":"item_id"},{"text":" ("},{"player":1,"text":"102","type":"location_id"},{"text":")"}],"item":{"class":"NetworkItem","flags":0,"item":8,"location":102,"player":1},"receiving":1,"type":"ItemSend"}"#;
-    assert!(rt; prints(rt.alloc(), item_send(rt.alloc(), &coin, 1), text)?);
-    Ok(())
+    fine(prints(rt.alloc(), item_send(rt.alloc(), &coin, 1), text)?)
 }
 
 #[test]
@@ -250,8 +257,7 @@ fn hints_are_printed(rt: HostRuntime) -> Result<(), Fail> {
     };
     let text =
         r#"{"cmd":"PrintJSON","data":[{"text":"[Hint]: "},{"text":"1","type":"player_id"},{"text":"'s "},{"flags":2,"player":1,"text":"9","type":"item_id"},{"text":" is at "},{"player":2,"text":"201","type":"location_id"},{"text":" in "},{"text":"2","type":"player_id"},{"text":"'s world"}],"found":false,"item":{"class":"NetworkItem","flags":2,"item":9,"location":201,"player":2},"receiving":1,"type":"Hint"}"#;
-    assert!(rt; prints(rt.alloc(), hint_print(rt.alloc(), &map, 1, false), text)?);
-    Ok(())
+    fine(prints(rt.alloc(), hint_print(rt.alloc(), &map, 1, false), text)?)
 }
 
 /// Whether a text is this.
@@ -273,8 +279,7 @@ fn tells_of_ann(alloc: Global, log: &CheckLog, texts: [&str; 3]) -> bool {
 fn commands_tell_of_a_slot(rt: HostRuntime) -> Result<(), Fail> {
     let log = new_log(rt.alloc())?;
     let texts = ["2 missing: A1, A2", "0 checked: ", "2 remaining: Coin, Map"];
-    assert!(rt; tells_of_ann(rt.alloc(), &log, texts));
-    Ok(())
+    fine(tells_of_ann(rt.alloc(), &log, texts))
 }
 
 #[test]
@@ -282,19 +287,25 @@ fn commands_tell_of_players(rt: HostRuntime) -> Result<(), Fail> {
     let tables = tables_of(rt.alloc())?;
     let members = [(team(), bob()), (team(), ann())];
     let text = players_text(rt.alloc(), &tables, team(), &members);
-    assert!(rt; is_text(text, "Connected: Ann, Bob"));
-    assert_eq!(rt; name_of(&tables, team(), bob()), "Bob");
-    Ok(())
+    fine(is_text(text, "Connected: Ann, Bob") && name_of(&tables, team(), bob()) == "Bob")
+}
+
+/// Whether points are told so, of a hint that is bought and of one that is too dear.
+fn tells_points(alloc: Global) -> bool {
+    is_text(points_text(alloc, 2, 1), "2 points, a hint costs 1")
+        && is_text(too_dear_text(alloc, 3, 2), "3 points needed, 2 there")
+}
+
+/// All commands.
+const ALL: &str =
+    "!help !players !missing !checked !remaining !release !collect !hint !hint_location";
+
+/// Whether the texts that never change are these.
+fn tells_fixed_texts() -> bool {
+    no_such_name() == "no such name" && nothing_to_hint() == "nothing to hint" && help_text() == ALL
 }
 
 #[test]
 fn commands_tell_of_points(rt: HostRuntime) {
-    let text = points_text(rt.alloc(), 2, 1);
-    assert!(rt; is_text(text, "2 points, a hint costs 1"));
-    let text = too_dear_text(rt.alloc(), 3, 2);
-    assert!(rt; is_text(text, "3 points needed, 2 there"));
-    assert_eq!(rt; no_such_name(), "no such name");
-    assert_eq!(rt; nothing_to_hint(), "nothing to hint");
-    let all = "!help !players !missing !checked !remaining !release !collect !hint !hint_location";
-    assert_eq!(rt; help_text(), all);
+    assert!(rt; tells_points(rt.alloc()) && tells_fixed_texts());
 }

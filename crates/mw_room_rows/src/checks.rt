@@ -1,3 +1,4 @@
+use crate::cases::fine;
 use crate::logs::{NUMBERS, ann, b1, bob, log_of_two, new_log, team};
 use mw_base::{LocId, NetItem, SlotId, TeamId};
 use mw_checks::CheckLog;
@@ -91,57 +92,92 @@ fn adds(log: &mut CheckLog, pairs: &[(SlotId, LocId)], wanted: &[(SlotId, LocId)
     }
 }
 
+/// Whether a log is that of one team, in which Ann alone has the first location, and nothing is checked.
+fn is_new(log: &CheckLog) -> bool {
+    log.tables().multidata().teams == 1
+        && holds(log, ann(), a1(), 7)
+        && log.held(bob(), a1()).is_none()
+        && log.checks().len() == 0
+}
+
 #[test]
 fn a_new_log_has_its_places(rt: HostRuntime) -> Result<(), Fail> {
     let log = new_log(rt.alloc())?;
-    assert_eq!(rt; log.tables().multidata().teams, 1);
-    assert!(rt; holds(&log, ann(), a1(), 7));
-    assert!(rt; log.held(bob(), a1()).is_none());
-    assert_eq!(rt; log.checks().len(), 0);
-    Ok(())
+    fine(is_new(&log))
+}
+
+/// Whether both of Ann's locations are fresh, and give Bob his sword and Ann nothing.
+fn has_two_fresh(log: &CheckLog) -> bool {
+    are_fresh(log, &[(ann(), a2()), (ann(), a1())])
+        && gives(log, bob(), &[SWORD])
+        && gives(log, ann(), &[])
 }
 
 #[test]
 fn numbers_of_ones_own_are_fresh_once(rt: HostRuntime) -> Result<(), Fail> {
     let log = new_log(rt.alloc())?;
-    assert!(rt; are_fresh(&log, &[(ann(), a2()), (ann(), a1())]));
-    assert!(rt; gives(&log, bob(), &[SWORD]));
-    assert!(rt; gives(&log, ann(), &[]));
-    Ok(())
+    fine(has_two_fresh(&log))
+}
+
+/// Whether Ann's first location is checked in her team alone, and Bob's isn't.
+fn is_anns_checked(log: &CheckLog) -> bool {
+    log.is_checked(team(), ann(), a1())
+        && !log.is_checked(other(), ann(), a1())
+        && !log.is_checked(team(), bob(), b1())
+}
+
+/// Whether just Ann's two locations are checked, and none of them is fresh.
+fn has_two_checked(log: &CheckLog) -> bool {
+    log.checks().len() == 2
+        && log.checked_len(team(), ann()) == 2
+        && are_checked(log, &[a2(), a1()])
+        && are_fresh(log, &[])
 }
 
 #[test]
 fn a_rooms_checks_are_logged_once(rt: HostRuntime) -> Result<(), Fail> {
     let log = log_of_two(rt.alloc())?;
-    assert_eq!(rt; log.checks().len(), 2);
-    assert!(rt; log.is_checked(team(), ann(), a1()));
-    assert!(rt; !log.is_checked(other(), ann(), a1()));
-    assert!(rt; !log.is_checked(team(), bob(), b1()));
-    assert_eq!(rt; log.checked_len(team(), ann()), 2);
-    assert!(rt; are_checked(&log, &[a2(), a1()]));
-    assert!(rt; are_fresh(&log, &[]));
-    Ok(())
+    fine(is_anns_checked(&log) && has_two_checked(&log))
+}
+
+/// Whether Ann received boots and a coin.
+fn has_boots_and_coin(log: &CheckLog) -> bool {
+    views(log, ann(), 7, 0, &[BOOTS, COIN])
+        && views(log, ann(), 7, 1, &[COIN])
+        && views(log, ann(), 7, 9, &[])
+}
+
+/// Whether a mask keeps so many of the items that Ann received.
+fn keeps(log: &CheckLog, mask: u8, length: u64) -> bool {
+    log.view_len(team(), ann(), mask) == length
+}
+
+/// Whether each mask keeps as many as it has to.
+fn masks_keep(log: &CheckLog) -> bool {
+    keeps(log, 7, 2) && keeps(log, 1, 0) && keeps(log, 2, 1) && keeps(log, 4, 1)
 }
 
 #[test]
 fn masks_keep_what_a_slot_received(rt: HostRuntime) -> Result<(), Fail> {
     let log = log_of_two(rt.alloc())?;
-    assert!(rt; views(&log, ann(), 7, 0, &[BOOTS, COIN]));
-    assert!(rt; views(&log, ann(), 7, 1, &[COIN]));
-    assert!(rt; views(&log, ann(), 7, 9, &[]));
-    for (mask, length) in [(7, 2), (1, 0), (2, 1), (4, 1)] {
-        assert_eq!(rt; log.view_len(team(), ann(), mask), length, "by {mask}");
-    }
-    Ok(())
+    fine(has_boots_and_coin(&log) && masks_keep(&log))
+}
+
+/// Whether of these pairs just that of Bob's location is added.
+fn adds_bobs(log: &mut CheckLog) -> bool {
+    let pairs = [(ann(), a1()), (bob(), b1()), (bob(), b1()), (bob(), a1())];
+    adds(log, &pairs, &[(bob(), b1())])
+}
+
+/// Whether Ann received the map, Bob the sword, and Ann of another team one item.
+fn has_map_and_sword(log: &CheckLog) -> bool {
+    views(log, ann(), 1, 0, &[MAP])
+        && views(log, bob(), 7, 0, &[SWORD])
+        && log.view_len(other(), ann(), 7) == 1
 }
 
 #[test]
 fn pairs_are_added_once(rt: HostRuntime) -> Result<(), Fail> {
     let mut log = log_of_two(rt.alloc())?;
-    let pairs = [(ann(), a1()), (bob(), b1()), (bob(), b1()), (bob(), a1())];
-    assert!(rt; adds(&mut log, &pairs, &[(bob(), b1())]));
-    assert!(rt; views(&log, ann(), 1, 0, &[MAP]));
-    assert!(rt; views(&log, bob(), 7, 0, &[SWORD]));
-    assert_eq!(rt; log.view_len(other(), ann(), 7), 1);
-    Ok(())
+    fine(adds_bobs(&mut log) && has_map_and_sword(&log))
 }

@@ -1,6 +1,8 @@
+use crate::cases::{each, fine};
+use crate::messages::packets_in;
 use mw_base::{List, Text};
 use mw_cases::part;
-use mw_packets_in::{BadKind, Inbound, Packet, packets_of};
+use mw_packets_in::{BadKind, Inbound, Packet};
 use std::alloc::Global;
 use std::test::Fail;
 
@@ -23,11 +25,6 @@ fn checks(packet: &Packet, wanted: &[i128]) -> bool {
         Packet::LocationChecks { locations } => locations.as_slice() == wanted,
         _ => false,
     }
-}
-
-/// The packets of a message.
-pub(crate) fn packets_in(alloc: Global, message: &str) -> Result<List<Inbound>, Fail> {
-    Ok(packets_of(alloc, &Text::of(alloc, message)?)?)
 }
 
 /// The packet of a message that has just one element.
@@ -69,8 +66,7 @@ fn is_connect(alloc: Global, message: &str) -> Result<bool, Fail> {
 fn a_connect_is_read(rt: HostRuntime) -> Result<(), Fail> {
     let text =
         r#"[{"cmd":"Connect","name":"Ann","password":null,"game":"G","version":{"major":0,"minor":5,"build":1,"class":"Version"},"items_handling":7,"tags":["AP","NoText"],"uuid":0.5}]"#;
-    assert!(rt; is_connect(rt.alloc(), text)?);
-    Ok(())
+    fine(is_connect(rt.alloc(), text)?)
 }
 
 /// Whether a message is one packet that checks these numbers.
@@ -85,8 +81,7 @@ fn is_checks(alloc: Global, message: &str, wanted: &[i128]) -> Result<bool, Fail
 #[test]
 fn numbers_of_locations_are_read(rt: HostRuntime) -> Result<(), Fail> {
     let text = r#" [ {"locations": [101, -1, 101], "cmd": "LocationChecks"} ] "#;
-    assert!(rt; is_checks(rt.alloc(), text, &[101, -1, 101])?);
-    Ok(())
+    fine(is_checks(rt.alloc(), text, &[101, -1, 101])?)
 }
 
 /// Whether a message is one packet.
@@ -109,15 +104,13 @@ const COMMANDS: &str = r#"[{"cmd":"ConnectUpdate","items_handling":3}]
 
 #[test]
 fn each_command_is_read(rt: HostRuntime) -> Result<(), Fail> {
-    for message in COMMANDS.split('\n') {
-        assert!(rt; is_packet(rt.alloc(), message)?, "{message}");
-    }
-    Ok(())
+    each(rt.alloc(), COMMANDS, is_packet)
 }
 
-/// Whether a message is no packet, and names no command, for this reason.
-fn is_unnamed(alloc: Global, message: &str, why: &str) -> Result<bool, Fail> {
-    Ok(is_bad(&packets_in(alloc, message)?, BadKind::Cmd, None, why))
+/// Whether a case's message is no packet, and names no command, for its reason.
+fn is_unnamed(alloc: Global, case: &str) -> Result<bool, Fail> {
+    let found = packets_in(alloc, part(case, 0))?;
+    Ok(is_bad(&found, BadKind::Cmd, None, part(case, 1)))
 }
 
 /// Texts that are no packets, and why.
@@ -132,26 +125,20 @@ const OTHERS: &str = r#" | no JSON list
 
 #[test]
 fn other_texts_are_no_packets(rt: HostRuntime) -> Result<(), Fail> {
-    for case in OTHERS.split('\n') {
-        assert!(rt;
-            is_unnamed(rt.alloc(), part(case, 0), part(case, 1))?,
-            "{case}"
-        );
-    }
-    assert!(rt;
-        is_wrong(
-            rt.alloc(),
-            BadKind::Cmd,
-            r#"[{"cmd":"Fly"}] | Fly | unknown cmd"#
-        )?
-    );
-    Ok(())
+    let other = r#"[{"cmd":"Fly"}] | Fly | unknown cmd"#;
+    fine(is_wrong(rt.alloc(), BadKind::Cmd, other)?)?;
+    each(rt.alloc(), OTHERS, is_unnamed)
 }
 
 /// Whether a case's message is no packet of its command, for its reason.
 fn is_wrong(alloc: Global, kind: BadKind, case: &str) -> Result<bool, Fail> {
     let found = packets_in(alloc, part(case, 0))?;
     Ok(is_bad(&found, kind, Some(part(case, 1)), part(case, 2)))
+}
+
+/// Whether that is so, and the reason is one of its members.
+fn has_bad_member(alloc: Global, case: &str) -> Result<bool, Fail> {
+    is_wrong(alloc, BadKind::Arguments, case)
 }
 
 /// Packets with a bad member, and what is told of it.
@@ -167,25 +154,21 @@ const BAD_MEMBERS: &str = r#"[{"cmd":"LocationChecks"}] | LocationChecks | argum
 
 #[test]
 fn a_bad_member_is_named(rt: HostRuntime) -> Result<(), Fail> {
-    for case in BAD_MEMBERS.split('\n') {
-        assert!(rt; is_wrong(rt.alloc(), BadKind::Arguments, case)?, "{case}");
-    }
-    Ok(())
+    each(rt.alloc(), BAD_MEMBERS, has_bad_member)
 }
 
-/// Whether a message is a packet with bad locations, and a Sync.
-fn is_bad_then_sync(alloc: Global, message: &str) -> Result<bool, Fail> {
-    Ok(match packets_in(alloc, message)?.as_slice() {
+/// Whether these are a packet with bad locations, and a Sync.
+fn are_bad_and_sync(found: &List<Inbound>) -> bool {
+    match found.as_slice() {
         [Inbound::Wrong(bad), Inbound::Good(Packet::Sync)] => {
             bad.why.as_str() == "arguments: locations"
         }
         _ => false,
-    })
+    }
 }
 
 #[test]
 fn a_sync_after_a_bad_packet_is_read(rt: HostRuntime) -> Result<(), Fail> {
     let text = r#"[{"cmd":"LocationChecks","locations":["x"]},{"cmd":"Sync"}]"#;
-    assert!(rt; is_bad_then_sync(rt.alloc(), text)?);
-    Ok(())
+    fine(are_bad_and_sync(&packets_in(rt.alloc(), text)?))
 }

@@ -1,4 +1,5 @@
 use crate::calls::{ANN, BOB, FIRST, SECOND, answer, open, sends, takes};
+use crate::cases::fine;
 use crate::disks::{kept_room, new_room};
 use mw_base::SessionId;
 use mw_disk::{MemDisk, Tear};
@@ -60,15 +61,20 @@ fn played_disk(alloc: Global) -> Result<MemDisk, Fail> {
     Ok(room.into_disk())
 }
 
+/// What Bob is told of Ann's first location.
+const SWORD: &str =
+    r#"{"cmd":"ReceivedItems","index":0,"items":[{"class":"NetworkItem","flags":1,"item":7,"location":101,"player":1}]}"#;
+
+/// Whether the room that these bytes keep tells Bob of his item, and Ann of both of her checks.
+fn tells_both(alloc: Global, bytes: &[u8]) -> Result<bool, Fail> {
+    Ok(tells(alloc, bytes, BOB, SWORD)? && tells(alloc, bytes, ANN, BOTH_CHECKED)?)
+}
+
 /// An event commits before it is done, so a check comes back after a crash that no commit precedes.
 #[test]
 fn crash_before_commit(rt: HostRuntime) -> Result<(), Fail> {
     let disk = played_disk(rt.alloc())?;
-    let item =
-        r#"{"cmd":"ReceivedItems","index":0,"items":[{"class":"NetworkItem","flags":1,"item":7,"location":101,"player":1}]}"#;
-    assert!(rt; tells(rt.alloc(), disk.bytes(), BOB, item)?);
-    assert!(rt; tells(rt.alloc(), disk.bytes(), ANN, BOTH_CHECKED)?);
-    Ok(())
+    fine(tells_both(rt.alloc(), disk.bytes())?)
 }
 
 /// How a player's Connected begins once so many of the calls on the disk of two checks are made:
@@ -104,19 +110,36 @@ fn survives(
     keeps(alloc, image.as_slice(), moment)
 }
 
-#[test]
-fn a_crash_at_each_call_keeps_what_is_done(rt: HostRuntime) -> Result<(), Fail> {
-    let disk = played_disk(rt.alloc())?;
-    assert_eq!(rt; disk.calls().len(), 11);
-    for moment in 0..12 {
-        for tear in TEARS {
-            assert!(rt;
-                survives(rt.alloc(), &disk, moment, tear, moment)?,
-                "{tear:?} after {moment}"
-            );
+/// Whether it does whatever the crash leaves of the last writes.
+fn survives_tears(
+    alloc: Global,
+    disk: &MemDisk,
+    calls: usize,
+    moment: usize,
+) -> Result<bool, Fail> {
+    for tear in &TEARS {
+        if !survives(alloc, disk, calls, *tear, moment)? {
+            return Ok(false);
+        }
+    }
+    Ok(true)
+}
+
+/// Fails at the first of so many moments after which a crash doesn't.
+fn survives_each(alloc: Global, disk: &MemDisk, moments: usize) -> Result<(), Fail> {
+    for moment in 0..moments {
+        if !survives_tears(alloc, disk, moment, moment)? {
+            return Err(Fail::new(moment));
         }
     }
     Ok(())
+}
+
+#[test]
+fn a_crash_at_each_call_keeps_what_is_done(rt: HostRuntime) -> Result<(), Fail> {
+    let disk = played_disk(rt.alloc())?;
+    fine(disk.calls().len() == 11)?;
+    survives_each(rt.alloc(), &disk, 12)
 }
 
 /// Whether a take and an opening are answered that the room is stopped.
@@ -156,9 +179,5 @@ fn stopped_disk(alloc: Global) -> Result<(bool, MemDisk), Fail> {
 #[test]
 fn second_sync_fails(rt: HostRuntime) -> Result<(), Fail> {
     let (stopped, disk) = stopped_disk(rt.alloc())?;
-    assert!(rt; stopped);
-    for tear in TEARS {
-        assert!(rt; survives(rt.alloc(), &disk, 7, tear, 3)?, "{tear:?}");
-    }
-    Ok(())
+    fine(stopped && survives_tears(rt.alloc(), &disk, 7, 3)?)
 }

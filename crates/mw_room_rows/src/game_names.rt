@@ -2,6 +2,7 @@ ghost use Rattle.std.specs.Prelude.{IfSome};
 ghost use Rattle.mw_model.specs.Json.{IsWritable};
 ghost use Rattle.mw_json.specs.View.{view};
 
+use crate::cases::{agree, each};
 use mw_base::Text;
 use mw_datapack::{checksum, game_data};
 use mw_json::{Tree, compact_text};
@@ -12,9 +13,14 @@ use std::test::Fail;
 const SEED: &str =
     r#"{"format":"mw-multidata-1","games":{"F":{"item_name_to_id":{},"location_name_to_id":{}},"G":{"item_name_to_id":{"Boots":5,"Coin":8,"Map":9,"Sword":7},"location_name_to_id":{"A1":101,"A2":102,"B1":201}}},"locations":[[1,101,7,2,1],[1,102,8,1,0],[2,201,9,1,2]],"seed_name":"A","server":{"collect":"goal","hint_cost":10,"location_check_points":1,"password":"","release":"goal","remaining":"goal"},"slots":[{"game":"G","names":["Ann"],"start":[[5,0]]},{"game":"G","names":["Bob"],"start":[]}],"spheres":[],"teams":1}"#;
 
+/// The tables of the seed.
+fn tables(alloc: Global) -> Result<RoomTables, Fail> {
+    Ok(RoomTables::of(alloc, read(alloc, SEED.as_bytes())?)?)
+}
+
 /// The checksum of a game, nothing where it isn't played.
 fn checksum_of(alloc: Global, name: &str) -> Result<Text, Fail> {
-    let tables = RoomTables::of(alloc, read(alloc, SEED.as_bytes())?)?;
+    let tables = tables(alloc)?;
     match checksum(alloc, &tables, &Text::of(alloc, name)?)? {
         Some(checksum) => Ok(checksum),
         None => Ok(Text::of(alloc, "")?),
@@ -33,7 +39,7 @@ fn text_of(alloc: Global, tree: Option<Tree>) -> Result<Text, Fail>
 
 /// The text of what a game is told with, nothing where it isn't played.
 fn data_of(alloc: Global, name: &str) -> Result<Text, Fail> {
-    let tables = RoomTables::of(alloc, read(alloc, SEED.as_bytes())?)?;
+    let tables = tables(alloc)?;
     let game = Text::of(alloc, name)?;
     text_of(alloc, game_data(alloc, &tables, &game)?)
 }
@@ -41,18 +47,16 @@ fn data_of(alloc: Global, name: &str) -> Result<Text, Fail> {
 #[test]
 fn a_played_game_has_a_checksum(rt: HostRuntime) -> Result<(), Fail> {
     let found = checksum_of(rt.alloc(), "G")?;
-    assert_eq!(rt; found.as_str(), "3140df20051ca1c7a5dd4f886f8945c613c6fbba");
-    Ok(())
+    agree(found.as_str(), "3140df20051ca1c7a5dd4f886f8945c613c6fbba")
 }
 
 #[test]
 fn a_played_game_has_its_names(rt: HostRuntime) -> Result<(), Fail> {
     let found = data_of(rt.alloc(), "G")?;
-    assert_eq!(rt;
+    agree(
         found.as_str(),
-        r#"{"checksum":"3140df20051ca1c7a5dd4f886f8945c613c6fbba","item_name_to_id":{"Boots":5,"Coin":8,"Map":9,"Sword":7},"location_name_to_id":{"A1":101,"A2":102,"B1":201}}"#
-    );
-    Ok(())
+        r#"{"checksum":"3140df20051ca1c7a5dd4f886f8945c613c6fbba","item_name_to_id":{"Boots":5,"Coin":8,"Map":9,"Sword":7},"location_name_to_id":{"A1":101,"A2":102,"B1":201}}"#,
+    )
 }
 
 /// Whether a game has neither checksum nor data.
@@ -63,8 +67,5 @@ fn has_nothing(alloc: Global, name: &str) -> Result<bool, Fail> {
 
 #[test]
 fn other_games_have_nothing(rt: HostRuntime) -> Result<(), Fail> {
-    for name in ["F", "g", ""] {
-        assert!(rt; has_nothing(rt.alloc(), name)?, "{name}");
-    }
-    Ok(())
+    each(rt.alloc(), "F\ng\n", has_nothing)
 }

@@ -1,3 +1,4 @@
+use crate::cases::fine;
 use crate::logs::{ann, b1, bob, log_of_two, new_log, team};
 use mw_base::{HintRecord, HintStatus, ItemId, LocId, Memory, SlotId, Text};
 use mw_checks::CheckLog;
@@ -80,64 +81,79 @@ fn a_hint_is_bought(rt: HostRuntime) -> Result<(), Fail> {
     let log = log_of_two(rt.alloc())?;
     let book = HintBook::new(rt.alloc());
     let bought = HintAnswer::Bought(made(ann(), true, priority()));
-    assert!(rt; is_answered(&book, &log, item(rt.alloc(), "Map"), bought));
-    Ok(())
+    fine(is_answered(&book, &log, item(rt.alloc(), "Map"), bought))
+}
+
+/// Whether Ann gets nothing who wants an item of this name.
+fn is_nothing(alloc: Global, book: &HintBook, log: &CheckLog, name: &str) -> bool {
+    is_answered(book, log, item(alloc, name), HintAnswer::Nothing)
+}
+
+/// Whether Ann is told that there is no such name who wants an item of this one.
+fn is_no_item(alloc: Global, book: &HintBook, log: &CheckLog, name: &str) -> bool {
+    is_answered(book, log, item(alloc, name), HintAnswer::NoSuchName)
+}
+
+/// Whether Ann is told so who wants a location of this name.
+fn is_no_location(alloc: Global, book: &HintBook, log: &CheckLog, name: &str) -> bool {
+    is_answered(book, log, location(alloc, name), HintAnswer::NoSuchName)
+}
+
+/// Whether Ann gets neither a map nor a hat, which is no item.
+fn gives_no_map(alloc: Global, book: &HintBook, log: &CheckLog) -> bool {
+    is_nothing(alloc, book, log, "Map") && is_no_item(alloc, book, log, "Hat")
 }
 
 #[test]
 fn a_hint_is_bought_once(rt: HostRuntime) -> Result<(), Fail> {
     let book = book_of_one(rt.alloc())?;
     let log = log_of_two(rt.alloc())?;
-    assert!(rt; is_answered(&book, &log, item(rt.alloc(), "Map"), HintAnswer::Nothing));
-    assert!(rt; is_answered(&book, &log, item(rt.alloc(), "Hat"), HintAnswer::NoSuchName));
-    Ok(())
+    fine(gives_no_map(rt.alloc(), &book, &log))
+}
+
+/// Whether Ann gets no hint of no such item, an item of the start, another's item, and one that is
+/// found.
+fn gives_no_hint(alloc: Global, book: &HintBook, log: &CheckLog) -> bool {
+    is_no_item(alloc, book, log, "Hat")
+        && is_nothing(alloc, book, log, "Boots")
+        && is_nothing(alloc, book, log, "Sword")
+        && is_nothing(alloc, book, log, "Coin")
 }
 
 #[test]
 fn what_is_not_hinted(rt: HostRuntime) -> Result<(), Fail> {
     let log = log_of_two(rt.alloc())?;
     let book = HintBook::new(rt.alloc());
-    // no such item, an item of the start, another's item, and one that is found
-    assert!(rt; is_answered(&book, &log, item(rt.alloc(), "Hat"), HintAnswer::NoSuchName));
-    assert!(rt; is_answered(&book, &log, item(rt.alloc(), "Boots"), HintAnswer::Nothing));
-    assert!(rt; is_answered(&book, &log, item(rt.alloc(), "Sword"), HintAnswer::Nothing));
-    assert!(rt; is_answered(&book, &log, item(rt.alloc(), "Coin"), HintAnswer::Nothing));
-    Ok(())
+    fine(gives_no_hint(rt.alloc(), &book, &log))
+}
+
+/// Whether Ann may name just a location of her own, of which there is no hint.
+fn names_her_own(alloc: Global, book: &HintBook, log: &CheckLog) -> bool {
+    is_no_location(alloc, book, log, "B1")
+        && is_answered(book, log, location(alloc, "A1"), HintAnswer::Nothing)
+        && is_no_location(alloc, book, log, "Map")
 }
 
 #[test]
 fn locations_are_hinted_in_their_own_world(rt: HostRuntime) -> Result<(), Fail> {
     let log = log_of_two(rt.alloc())?;
     let book = HintBook::new(rt.alloc());
-    assert!(rt;
-        is_answered(
-            &book,
-            &log,
-            location(rt.alloc(), "B1"),
-            HintAnswer::NoSuchName
-        )
-    );
-    assert!(rt; is_answered(&book, &log, location(rt.alloc(), "A1"), HintAnswer::Nothing));
-    assert!(rt;
-        is_answered(
-            &book,
-            &log,
-            location(rt.alloc(), "Map"),
-            HintAnswer::NoSuchName
-        )
-    );
-    Ok(())
+    fine(names_her_own(rt.alloc(), &book, &log))
+}
+
+/// Whether a hint costs Ann a point, which she hasn't.
+fn is_too_dear(alloc: Global, book: &HintBook, log: &CheckLog) -> bool {
+    let too_dear = HintAnswer::TooDear { cost: 1, points: 0 };
+    is_answered(book, log, item(alloc, "Map"), too_dear)
+        && is_nothing(alloc, book, log, "Boots")
+        && cost(ann(), log) == 1
 }
 
 #[test]
 fn hints_cost_points(rt: HostRuntime) -> Result<(), Fail> {
     let log = new_log(rt.alloc())?;
     let book = HintBook::new(rt.alloc());
-    let too_dear = HintAnswer::TooDear { cost: 1, points: 0 };
-    assert!(rt; is_answered(&book, &log, item(rt.alloc(), "Map"), too_dear));
-    assert!(rt; is_answered(&book, &log, item(rt.alloc(), "Boots"), HintAnswer::Nothing));
-    assert_eq!(rt; cost(ann(), &log), 1);
-    Ok(())
+    fine(is_too_dear(rt.alloc(), &book, &log))
 }
 
 /// The points of a slot that has checked so many locations.
@@ -150,15 +166,19 @@ fn pays_once(book: &HintBook, log: &CheckLog, slot: SlotId) -> bool {
     book.points_once(team(), slot, 2, 1, log) == Ok(0)
 }
 
+/// Whether checks leave Bob, who has bought nothing, and Ann, who has, their points.
+fn leaves_points(book: &HintBook, log: &CheckLog) -> bool {
+    points_of(book, log, bob(), 2) == 2
+        && points_of(book, log, ann(), 2) == 1
+        && points_of(book, log, ann(), 0) == 0
+        && pays_once(book, log, ann())
+}
+
 #[test]
 fn points_are_what_checks_leave(rt: HostRuntime) -> Result<(), Fail> {
     let book = book_of_one(rt.alloc())?;
     let log = log_of_two(rt.alloc())?;
-    assert_eq!(rt; points_of(&book, &log, bob(), 2), 2);
-    assert_eq!(rt; points_of(&book, &log, ann(), 2), 1);
-    assert_eq!(rt; points_of(&book, &log, ann(), 0), 0);
-    assert!(rt; pays_once(&book, &log, ann()));
-    Ok(())
+    fine(leaves_points(&book, &log))
 }
 
 /// Whether a slot that scouts a location of its own makes these hints.
@@ -180,16 +200,14 @@ fn scouts_make_hints_of_what_is_not_checked(rt: HostRuntime) -> Result<(), Fail>
     let log = log_of_two(rt.alloc())?;
     let book = HintBook::new(rt.alloc());
     let wanted = made(bob(), false, HintStatus::new(0).unwrap());
-    assert!(rt; scouts(&book, &log, bob(), b1(), &[wanted]));
-    Ok(())
+    fine(scouts(&book, &log, bob(), b1(), &[wanted]))
 }
 
 #[test]
 fn scouts_make_no_hints_of_what_is_checked(rt: HostRuntime) -> Result<(), Fail> {
     let log = log_of_two(rt.alloc())?;
     let book = HintBook::new(rt.alloc());
-    assert!(rt; scouts(&book, &log, ann(), LocId::new(101).unwrap(), &[]));
-    Ok(())
+    fine(scouts(&book, &log, ann(), LocId::new(101).unwrap(), &[]))
 }
 
 /// The record by which a slot gives the hint of Bob's location a status.
@@ -197,14 +215,18 @@ fn marks(book: &HintBook, by: SlotId, status: HintStatus, log: &CheckLog) -> Opt
     book.set_status(team(), by, bob(), b1(), status, log)
 }
 
+/// Whether Ann alone gives the hint another status.
+fn is_marked_by_ann(book: &HintBook, log: &CheckLog) -> bool {
+    marks(book, ann(), no_priority(), log) == Some(marked())
+        && marks(book, ann(), priority(), log).is_none()
+        && marks(book, bob(), no_priority(), log).is_none()
+}
+
 #[test]
 fn receivers_set_the_status(rt: HostRuntime) -> Result<(), Fail> {
     let book = book_of_one(rt.alloc())?;
     let log = log_of_two(rt.alloc())?;
-    assert!(rt; marks(&book, ann(), no_priority(), &log) == Some(marked()));
-    assert!(rt; marks(&book, ann(), priority(), &log).is_none());
-    assert!(rt; marks(&book, bob(), no_priority(), &log).is_none());
-    Ok(())
+    fine(is_marked_by_ann(&book, &log))
 }
 
 /// A book with that hint and its mark, in room that is taken ahead.
@@ -215,13 +237,16 @@ fn grown_book(alloc: Global) -> Result<HintBook, Fail> {
     Ok(book)
 }
 
+/// Whether a book has the hint of Bob's location with its mark.
+fn has_marked(book: &HintBook) -> bool {
+    book.hint_at(team(), bob(), b1()) == Some(made(ann(), true, no_priority()))
+        && book.hint_at(team(), ann(), b1()).is_none()
+}
+
 #[test]
 fn hints_are_added_in_room_taken_ahead(rt: HostRuntime) -> Result<(), Fail> {
     let book = grown_book(rt.alloc())?;
-    let wanted = made(ann(), true, no_priority());
-    assert!(rt; book.hint_at(team(), bob(), b1()) == Some(wanted));
-    assert!(rt; book.hint_at(team(), ann(), b1()).is_none());
-    Ok(())
+    fine(has_marked(&book))
 }
 
 /// Bob's location as its hint is told.
@@ -245,13 +270,16 @@ fn is_told(book: &HintBook, slot: SlotId, log: &CheckLog, wanted: Hint) -> bool 
     }
 }
 
+/// Whether both are told the hint, which isn't found.
+fn tells_both(book: &HintBook, log: &CheckLog) -> bool {
+    is_told(book, ann(), log, hint(false, 30)) && is_told(book, bob(), log, hint(false, 30))
+}
+
 #[test]
 fn hints_are_told_to_both(rt: HostRuntime) -> Result<(), Fail> {
     let book = book_of_one(rt.alloc())?;
     let log = log_of_two(rt.alloc())?;
-    assert!(rt; is_told(&book, ann(), &log, hint(false, 30)));
-    assert!(rt; is_told(&book, bob(), &log, hint(false, 30)));
-    Ok(())
+    fine(tells_both(&book, &log))
 }
 
 /// The log of a room in which Bob has checked his location.
@@ -261,11 +289,14 @@ fn log_of_bobs(alloc: Global) -> Result<CheckLog, Fail> {
     Ok(log)
 }
 
+/// Whether the hint is found, and gets no status any more.
+fn is_found(book: &HintBook, log: &CheckLog) -> bool {
+    is_told(book, bob(), log, hint(true, 40)) && marks(book, ann(), no_priority(), log).is_none()
+}
+
 #[test]
 fn hints_are_found_once_checked(rt: HostRuntime) -> Result<(), Fail> {
     let book = book_of_one(rt.alloc())?;
     let log = log_of_bobs(rt.alloc())?;
-    assert!(rt; is_told(&book, bob(), &log, hint(true, 40)));
-    assert!(rt; marks(&book, ann(), no_priority(), &log).is_none());
-    Ok(())
+    fine(is_found(&book, &log))
 }

@@ -1,3 +1,4 @@
+use crate::cases::{each, fine};
 use mw_base::{Bytes, ClientStatus, HintRecord, HintStatus, List, LocId, SlotId, TeamId, Text};
 use mw_cases::part;
 use mw_json::Tree;
@@ -49,8 +50,7 @@ fn check(alloc: Global) -> Result<Record, Fail> {
 #[test]
 fn checks_are_spelled(rt: HostRuntime) -> Result<(), Fail> {
     let record = check(rt.alloc())?;
-    assert!(rt; is_spelled(rt.alloc(), &record, "01000001000000010000000000000065")?);
-    Ok(())
+    fine(is_spelled(rt.alloc(), &record, "01000001000000010000000000000065")?)
 }
 
 /// The hint that a slot buys of Bob's location.
@@ -103,10 +103,7 @@ fn is_case(alloc: Global, case: &str) -> Result<bool, Fail> {
 
 #[test]
 fn records_of_slots_and_hints_are_spelled(rt: HostRuntime) -> Result<(), Fail> {
-    for case in RECORDS.split('\n') {
-        assert!(rt; is_case(rt.alloc(), case)?, "{case}");
-    }
-    Ok(())
+    each(rt.alloc(), RECORDS, is_case)
 }
 
 /// The value [5] of a key k.
@@ -120,8 +117,7 @@ fn five(alloc: Global) -> Result<Record, Fail> {
 #[test]
 fn values_are_spelled(rt: HostRuntime) -> Result<(), Fail> {
     let record = five(rt.alloc())?;
-    assert!(rt; is_spelled(rt.alloc(), &record, "07000000016b000000035b355d")?);
-    Ok(())
+    fine(is_spelled(rt.alloc(), &record, "07000000016b000000035b355d")?)
 }
 
 /// The place of a bad record, if it is one.
@@ -161,16 +157,14 @@ fn is_bad(alloc: Global, case: &str) -> Result<bool, Fail> {
     Ok(bad_at(alloc, bytes.as_slice(), 0) == Some(0))
 }
 
+/// Whether no record begins behind a record's end.
+fn ends(alloc: Global) -> bool {
+    let after = b"\x02\x00\x00\x01".as_slice();
+    bad_at(alloc, after, 4) == Some(4) && bad_at(alloc, after, u64::MAX) == Some(u64::MAX)
+}
+
 #[test]
 fn what_is_no_record(rt: HostRuntime) -> Result<(), Fail> {
-    for case in NO_RECORDS.split('\n') {
-        assert!(rt; is_bad(rt.alloc(), case)?, "{case}");
-    }
-    let after = b"\x02\x00\x00\x01";
-    assert_eq!(rt; bad_at(rt.alloc(), after.as_slice(), 4), Some(4));
-    assert_eq!(rt;
-        bad_at(rt.alloc(), after.as_slice(), u64::MAX),
-        Some(u64::MAX)
-    );
-    Ok(())
+    fine(ends(rt.alloc()))?;
+    each(rt.alloc(), NO_RECORDS, is_bad)
 }

@@ -4,7 +4,9 @@ ghost use Rattle.mw_model.specs.Seed.{Seed};
 ghost use Rattle.mw_protocol.specs.Named.{are_named};
 ghost use Rattle.mw_records.specs.Records.{record_view};
 
-use crate::rooms::{ANN, next, opened, recorded, records_of, state, tables_of};
+use crate::cases::{agree, fine};
+use crate::logs::tables_of;
+use crate::rooms::{ANN, makes, next, opened, recorded, state};
 use mw_base::{List, SessionId, Text};
 use mw_json::Tree;
 use mw_records::{Record, Stored};
@@ -38,17 +40,16 @@ fn last_taken(room: &mut Room, session: SessionId) -> Option<Text> {
     room.take(session).into_vec().pop()
 }
 
-/// What a session sends that asks for the key.
-const GETS: [&str; 2] = [ANN, r#"[{"cmd":"Get","keys":["k"]}]"#];
+/// What a session sends that asks for the key, and how many records each makes.
+const GETS: [(&str, usize); 2] = [(ANN, 0), (r#"[{"cmd":"Get","keys":["k"]}]"#, 0)];
 
-/// The last message of a session that sends these; nothing where it takes none.
+/// The last message of a session that sends these.
 fn got(alloc: Global, room: &mut Room) -> Result<Text, Fail> {
     let session = opened(room)?;
-    let _counts = records_of(alloc, room, session, &GETS)?;
-    match last_taken(room, session) {
-        Some(message) => Ok(message),
-        None => Ok(Text::of(alloc, "")?),
+    if !makes(alloc, room, session, &GETS)? {
+        return Err(Fail::from("a record"));
     }
+    Ok(last_taken(room, session).ok_or("no message")?)
 }
 
 /// What a room of that journal tells a session that asks for the key.
@@ -60,14 +61,11 @@ fn got_of_journal(alloc: Global) -> Result<Text, Fail> {
 #[test]
 fn a_replayed_room_keeps_its_records(rt: HostRuntime) -> Result<(), Fail> {
     let room = replayed(rt.alloc())?;
-    assert_eq!(rt; recorded(&room), 1);
-    assert_eq!(rt; next(&room).get(), 1);
-    Ok(())
+    fine(recorded(&room) == 1 && next(&room).get() == 1)
 }
 
 #[test]
 fn a_replayed_room_tells_what_was_set(rt: HostRuntime) -> Result<(), Fail> {
     let message = got_of_journal(rt.alloc())?;
-    assert!(rt; message.as_str() == r#"[{"cmd":"Retrieved","keys":{"k":5}}]"#);
-    Ok(())
+    agree(message.as_str(), r#"[{"cmd":"Retrieved","keys":{"k":5}}]"#)
 }

@@ -1,4 +1,5 @@
 use crate::calls::{answer, call_of, open};
+use crate::cases::fine;
 use crate::disks::new_room;
 use mw_base::SessionId;
 use mw_disk::MemDisk;
@@ -56,6 +57,5 @@ fn new_room_answers(alloc: Global) -> Result<bool, Fail> {
 
 #[test]
 fn calls_on_a_kept_room_are_answered(rt: HostRuntime) -> Result<(), Fail> {
-    assert!(rt; new_room_answers(rt.alloc())?);
-    Ok(())
+    fine(new_room_answers(rt.alloc())?)
 }

@@ -1,18 +1,13 @@
+use crate::cases::fine;
+use crate::logs::tables_of;
 use crate::messages::packets_in;
 use mw_base::{Memory, SessionId, SlotId, TeamId};
-use mw_multidata::{RoomTables, read};
+use mw_multidata::RoomTables;
 use mw_packets_in::Inbound;
 use mw_records::Record;
 use mw_room::{Event, Room, SessionState};
-use mw_room_a::ROOM_A;
 use std::alloc::Global;
 use std::test::Fail;
-
-/// The tables of the seed file.
-pub(crate) fn tables_of(alloc: Global) -> Result<RoomTables, Fail> {
-    let seed = read(alloc, ROOM_A.as_bytes())?;
-    Ok(RoomTables::of(alloc, seed)?)
-}
 
 /// A room of tables.
 fn room_of(alloc: Global, tables: RoomTables) -> Result<Room, Memory> {
@@ -83,14 +78,16 @@ pub(crate) fn opened(room: &mut Room) -> Result<SessionId, Fail> {
     Ok(session)
 }
 
+/// Whether a room's first session is still to be opened, and nothing is recorded.
+fn is_new(room: &Room) -> bool {
+    let session = next(room);
+    session.get() == 1 && state(room, session) == SessionState::Shut && recorded(room) == 0
+}
+
 #[test]
 fn a_new_room_has_no_session(rt: HostRuntime) -> Result<(), Fail> {
     let room = new_room(rt.alloc())?;
-    let session = next(&room);
-    assert_eq!(rt; session.get(), 1);
-    assert_eq!(rt; state(&room, session), SessionState::Shut);
-    assert_eq!(rt; recorded(&room), 0);
-    Ok(())
+    fine(is_new(&room))
 }
 
 /// Whether a session is open, and its messages show so many records.
@@ -122,75 +119,81 @@ fn new_room_opens(alloc: Global) -> Result<bool, Fail> {
 
 #[test]
 fn an_opened_session_takes_its_message_once(rt: HostRuntime) -> Result<(), Fail> {
-    assert!(rt; new_room_opens(rt.alloc())?);
-    Ok(())
+    fine(new_room_opens(rt.alloc())?)
 }
 
 pub(crate) const ANN: &str =
     r#"[{"cmd":"Connect","game":"G","items_handling":7,"name":"Ann","tags":["NoText"],"version":{"build":0,"major":0,"minor":5}}]"#;
 
-/// How many records each of these makes, one after the other.
-pub(crate) fn records_of(
+/// Whether each of these messages makes so many records, one after the other.
+pub(crate) fn makes(
     alloc: Global,
     room: &mut Room,
     session: SessionId,
-    messages: &[&str],
-) -> Result<String, Fail> {
-    let mut counts = String::new(alloc);
-    for message in messages {
-        let count = send(alloc, room, session, message)? as u64;
-        counts.push_str(format!(in alloc; "{count} ")?.as_str())?;
+    messages: &[(&str, usize)],
+) -> Result<bool, Fail> {
+    for (message, records) in messages {
+        if send(alloc, room, session, message)? != *records {
+            return Ok(false);
+        }
     }
-    Ok(counts)
+    Ok(true)
 }
 
-/// What a session sends that checks locations twice, of which one is its own.
-const TWICE: [&str; 6] = [
-    r#"[{"cmd":"LocationChecks","locations":[101,101,999]}]"#,
-    ANN,
-    r#"[{"cmd":"LocationChecks","locations":[101,101,999]}]"#,
-    r#"[{"cmd":"LocationChecks","locations":[101,101,999]}]"#,
-    ANN,
-    "7",
+/// What a session sends that checks locations twice, of which one is its own, and how many records
+/// each makes.
+const TWICE: [(&str, usize); 6] = [
+    (r#"[{"cmd":"LocationChecks","locations":[101,101,999]}]"#, 0),
+    (ANN, 0),
+    (r#"[{"cmd":"LocationChecks","locations":[101,101,999]}]"#, 1),
+    (r#"[{"cmd":"LocationChecks","locations":[101,101,999]}]"#, 0),
+    (ANN, 0),
+    ("7", 0),
 ];
 
-/// How many records each of these makes in a new room, and how many there are then.
-fn twice_checked(alloc: Global) -> Result<(String, u64), Fail> {
+/// Whether these make one record in a room in which nobody is yet.
+fn records_once(alloc: Global, room: &mut Room) -> Result<bool, Fail> {
+    let session = opened(room)?;
+    Ok(makes(alloc, room, session, &TWICE)? && recorded(room) == 1)
+}
+
+/// Whether that is so in a new room.
+fn new_room_records_once(alloc: Global) -> Result<bool, Fail> {
     let mut room = new_room(alloc)?;
-    let session = opened(&mut room)?;
-    let counts = records_of(alloc, &mut room, session, &TWICE)?;
-    Ok((counts, recorded(&room)))
+    records_once(alloc, &mut room)
 }
 
 #[test]
 fn new_checks_make_one_record(rt: HostRuntime) -> Result<(), Fail> {
-    let (counts, records) = twice_checked(rt.alloc())?;
-    assert_eq!(rt; counts.as_str(), "0 0 1 0 0 0 ");
-    assert_eq!(rt; records, 1);
-    Ok(())
+    fine(new_room_records_once(rt.alloc())?)
 }
 
-/// What a session sends that checks one location.
-const ONCE: [&str; 2] = [ANN, r#"[{"cmd":"LocationChecks","locations":[101]}]"#];
+/// What a session sends that checks one location, and how many records each makes.
+const ONCE: [(&str, usize); 2] = [
+    (ANN, 0),
+    (r#"[{"cmd":"LocationChecks","locations":[101]}]"#, 1),
+];
 
 /// Whether the messages of a session that sends these show one record, and none once they are
 /// taken.
-fn shows(alloc: Global, room: &mut Room, session: SessionId) -> Result<bool, Fail> {
-    let counts = records_of(alloc, room, session, &ONCE)?;
-    Ok(counts.as_str() == "0 1 " && is_ready(room, session, 1) && takes_once(room, session, 3))
+fn shows(alloc: Global, room: &mut Room) -> Result<bool, Fail> {
+    let session = opened(room)?;
+    Ok(
+        makes(alloc, room, session, &ONCE)?
+            && is_ready(room, session, 1)
+            && takes_once(room, session, 3),
+    )
 }
 
 /// Whether that is so in a new room.
 fn new_room_shows(alloc: Global) -> Result<bool, Fail> {
     let mut room = new_room(alloc)?;
-    let session = opened(&mut room)?;
-    shows(alloc, &mut room, session)
+    shows(alloc, &mut room)
 }
 
 #[test]
 fn a_session_shows_the_records_of_its_messages(rt: HostRuntime) -> Result<(), Fail> {
-    assert!(rt; new_room_shows(rt.alloc())?);
-    Ok(())
+    fine(new_room_shows(rt.alloc())?)
 }
 
 /// Whether a session that ends is shut, and the next one gets another number.
@@ -211,8 +214,7 @@ fn new_room_loses(alloc: Global) -> Result<bool, Fail> {
 
 #[test]
 fn a_lost_session_is_shut(rt: HostRuntime) -> Result<(), Fail> {
-    assert!(rt; new_room_loses(rt.alloc())?);
-    Ok(())
+    fine(new_room_loses(rt.alloc())?)
 }
 
 /// A record that a slot released what its world holds.
@@ -223,40 +225,32 @@ fn release(team: u8, slot: u16) -> Option<Record> {
     })
 }
 
-/// Whether a room enters that record, as a word.
-fn entered(room: &mut Room, team: u8, slot: u16) -> Result<&'static str, Fail> {
+/// Whether a room enters that record.
+fn enters(room: &mut Room, team: u8, slot: u16) -> Result<bool, Fail> {
     let entry = release(team, slot).ok_or("no record")?;
-    Ok(if room.enter(&entry)? {
-        "entered "
-    } else {
-        "refused "
-    })
+    Ok(room.enter(&entry)?)
 }
 
-/// What a room answers to the records of a team's slots, one after another.
-fn answers(alloc: Global, room: &mut Room, slots: &[(u8, u16)]) -> Result<String, Fail> {
-    let mut words = String::new(alloc);
-    for (team, slot) in slots {
-        words.push_str(entered(room, *team, *slot)?)?;
+/// Slots, and whether the seed has each.
+const SLOTS: [(u8, u16, bool); 4] = [(0, 1, true), (0, 3, false), (1, 1, false), (0, 2, true)];
+
+/// Whether a room enters just the records of those that the seed has, one after another.
+fn enters_known(room: &mut Room) -> Result<bool, Fail> {
+    for (team, slot, is_known) in &SLOTS {
+        if enters(room, *team, *slot)? != *is_known {
+            return Ok(false);
+        }
     }
-    Ok(words)
+    Ok(true)
 }
 
-/// Slots, two of which the seed has.
-const SLOTS: [(u8, u16); 4] = [(0, 1), (0, 3), (1, 1), (0, 2)];
-
-/// What a new room answers to the records of these, how many it has then, and the number of its
-/// next session.
-fn new_room_enters(alloc: Global) -> Result<(String, u64, u64), Fail> {
+/// Whether a new room does, has two records then, and no session yet.
+fn new_room_enters(alloc: Global) -> Result<bool, Fail> {
     let mut room = new_room(alloc)?;
-    let words = answers(alloc, &mut room, &SLOTS)?;
-    Ok((words, recorded(&room), next(&room).get()))
+    Ok(enters_known(&mut room)? && recorded(&room) == 2 && next(&room).get() == 1)
 }
 
 #[test]
 fn records_that_the_seed_names_are_entered(rt: HostRuntime) -> Result<(), Fail> {
-    let (words, records, session) = new_room_enters(rt.alloc())?;
-    assert_eq!(rt; words.as_str(), "entered refused refused entered ");
-    assert_eq!(rt; (records, session), (2, 1));
-    Ok(())
+    fine(new_room_enters(rt.alloc())?)
 }

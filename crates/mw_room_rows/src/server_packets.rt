@@ -1,6 +1,7 @@
 ghost use Rattle.std.specs.Prelude.{◌≡◌, ◌∷◌, [], IfOk};
 
-use crate::client_packets::packets_in;
+use crate::cases::{agree, each, fine};
+use crate::messages::packets_in;
 use mw_base::{List, Memory, NetItem, Permission, SlotId, TeamId, Text};
 use mw_cases::part;
 use mw_json::{Member, Tree};
@@ -203,48 +204,48 @@ fn text_of(alloc: Global, message: Message) -> Result<Text, Fail> {
 
 #[test]
 fn a_room_presents_itself(rt: HostRuntime) -> Result<(), Fail> {
-    assert_eq!(rt;
+    agree(
         text_of(rt.alloc(), Message::Room)?.as_str(),
-        r#"[{"cmd":"RoomInfo","datapackage_checksums":{"G":"H"},"games":["G"],"generator_version":{"build":0,"class":"Version","major":0,"minor":5},"hint_cost":10,"location_check_points":1,"password":false,"permissions":{"collect":2,"release":2,"remaining":2},"seed_name":"A","tags":[],"time":0,"version":{"build":0,"class":"Version","major":0,"minor":5}}]"#
-    );
-    Ok(())
+        r#"[{"cmd":"RoomInfo","datapackage_checksums":{"G":"H"},"games":["G"],"generator_version":{"build":0,"class":"Version","major":0,"minor":5},"hint_cost":10,"location_check_points":1,"password":false,"permissions":{"collect":2,"release":2,"remaining":2},"seed_name":"A","tags":[],"time":0,"version":{"build":0,"class":"Version","major":0,"minor":5}}]"#,
+    )
 }
 
 #[test]
 fn a_session_is_connected(rt: HostRuntime) -> Result<(), Fail> {
-    assert_eq!(rt;
+    agree(
         text_of(rt.alloc(), Message::Welcome)?.as_str(),
-        r#"[{"checked_locations":[],"cmd":"Connected","hint_points":0,"missing_locations":[101,102],"players":[{"alias":"Ann","class":"NetworkPlayer","name":"Ann","slot":1,"team":0},{"alias":"Bob","class":"NetworkPlayer","name":"Bob","slot":2,"team":0}],"slot":1,"slot_data":{},"slot_info":{"1":{"class":"NetworkSlot","game":"G","group_members":[],"name":"Ann","type":1},"2":{"class":"NetworkSlot","game":"G","group_members":[],"name":"Bob","type":1}},"team":0},{"cmd":"ReceivedItems","index":0,"items":[{"class":"NetworkItem","flags":0,"item":5,"location":-2,"player":0}]}]"#
-    );
-    Ok(())
+        r#"[{"checked_locations":[],"cmd":"Connected","hint_points":0,"missing_locations":[101,102],"players":[{"alias":"Ann","class":"NetworkPlayer","name":"Ann","slot":1,"team":0},{"alias":"Bob","class":"NetworkPlayer","name":"Bob","slot":2,"team":0}],"slot":1,"slot_data":{},"slot_info":{"1":{"class":"NetworkSlot","game":"G","group_members":[],"name":"Ann","type":1},"2":{"class":"NetworkSlot","game":"G","group_members":[],"name":"Bob","type":1}},"team":0},{"cmd":"ReceivedItems","index":0,"items":[{"class":"NetworkItem","flags":0,"item":5,"location":-2,"player":0}]}]"#,
+    )
 }
 
 #[test]
 fn a_location_is_checked(rt: HostRuntime) -> Result<(), Fail> {
-    assert_eq!(rt;
+    agree(
         text_of(rt.alloc(), Message::Update)?.as_str(),
-        r#"[{"checked_locations":[101],"cmd":"RoomUpdate","hint_points":1}]"#
-    );
-    Ok(())
+        r#"[{"checked_locations":[101],"cmd":"RoomUpdate","hint_points":1}]"#,
+    )
+}
+
+/// Whether the tenth slot stands between the first and the second.
+fn is_in_byte_order(text: &str) -> bool {
+    let first = text.find(r#""1":{"#);
+    let tenth = text.find(r#""10":{"#);
+    let second = text.find(r#""2":{"#);
+    first < tenth && tenth < second
 }
 
 #[test]
 fn slots_stand_in_byte_order(rt: HostRuntime) -> Result<(), Fail> {
     let text = text_of(rt.alloc(), Message::WelcomeOfTen)?;
-    let first = text.as_str().find(r#""1":{"#);
-    let tenth = text.as_str().find(r#""10":{"#);
-    let second = text.as_str().find(r#""2":{"#);
-    assert!(rt; first < tenth && tenth < second);
-    Ok(())
+    fine(is_in_byte_order(text.as_str()))
 }
 
 #[test]
 fn refusals_are_told(rt: HostRuntime) -> Result<(), Fail> {
-    assert_eq!(rt;
+    agree(
         text_of(rt.alloc(), Message::Refusals)?.as_str(),
-        r#"[{"cmd":"ConnectionRefused","errors":["InvalidPassword","InvalidSlot"]},{"cmd":"InvalidPacket","original_cmd":"LocationChecks","text":"arguments: locations","type":"arguments"},{"cmd":"InvalidPacket","original_cmd":null,"text":"no JSON list","type":"cmd"}]"#
-    );
-    Ok(())
+        r#"[{"cmd":"ConnectionRefused","errors":["InvalidPassword","InvalidSlot"]},{"cmd":"InvalidPacket","original_cmd":"LocationChecks","text":"arguments: locations","type":"arguments"},{"cmd":"InvalidPacket","original_cmd":null,"text":"no JSON list","type":"cmd"}]"#,
+    )
 }
 
 /// The text of a message that tells what stands at a location.
@@ -263,11 +264,10 @@ fn scouted(alloc: Global) -> Result<Text, Fail> {
 
 #[test]
 fn what_stands_there_is_told(rt: HostRuntime) -> Result<(), Fail> {
-    assert_eq!(rt;
+    agree(
         scouted(rt.alloc())?.as_str(),
-        r#"[{"cmd":"LocationInfo","locations":[{"class":"NetworkItem","flags":1,"item":7,"location":101,"player":2}]}]"#
-    );
-    Ok(())
+        r#"[{"cmd":"LocationInfo","locations":[{"class":"NetworkItem","flags":1,"item":7,"location":101,"player":2}]}]"#,
+    )
 }
 
 /// The text of a packet.
@@ -310,15 +310,13 @@ fn change(alloc: Global) -> Result<ServerPacket, Fail> {
 #[test]
 fn values_are_told(rt: HostRuntime) -> Result<(), Fail> {
     let wanted = r#"{"cmd":"Retrieved","keys":{"k":5}}"#;
-    assert!(rt; is_packet(rt.alloc(), value(rt.alloc()), wanted)?);
-    Ok(())
+    fine(is_packet(rt.alloc(), value(rt.alloc()), wanted)?)
 }
 
 #[test]
 fn changes_are_told(rt: HostRuntime) -> Result<(), Fail> {
     let wanted = r#"{"cmd":"SetReply","key":"k","original_value":null,"slot":2,"value":5}"#;
-    assert!(rt; is_packet(rt.alloc(), change(rt.alloc()), wanted)?);
-    Ok(())
+    fine(is_packet(rt.alloc(), change(rt.alloc()), wanted)?)
 }
 
 /// The Bounce that a packet is.
@@ -348,12 +346,12 @@ fn bounced(bounce: Bounce) -> ServerPacket {
     })
 }
 
-/// Whether a message of a Bounce is told so.
-fn passes(alloc: Global, message: &str, wanted: &str) -> Result<bool, Fail> {
-    let Some(bounce) = bounce_in(alloc, message)? else {
+/// Whether a case's message of a Bounce is told so.
+fn passes(alloc: Global, case: &str) -> Result<bool, Fail> {
+    let Some(bounce) = bounce_in(alloc, part(case, 0))? else {
         return Ok(false);
     };
-    Ok(text_alone(alloc, bounced(bounce))?.as_str() == wanted)
+    Ok(text_alone(alloc, bounced(bounce))?.as_str() == part(case, 1))
 }
 
 /// Messages of a Bounce, and what is told of each.
@@ -363,10 +361,7 @@ const BOUNCES: &str =
 
 #[test]
 fn a_message_passes_through(rt: HostRuntime) -> Result<(), Fail> {
-    for case in BOUNCES.split('\n') {
-        assert!(rt; passes(rt.alloc(), part(case, 0), part(case, 1))?, "{case}");
-    }
-    Ok(())
+    each(rt.alloc(), BOUNCES, passes)
 }
 
 /// A message of a packet and two texts.
@@ -381,9 +376,8 @@ fn with_texts(alloc: Global) -> Result<Text, Fail> {
 #[test]
 fn written_texts_stand_behind(rt: HostRuntime) -> Result<(), Fail> {
     let text = with_texts(rt.alloc())?;
-    assert_eq!(rt;
+    agree(
         text.as_str(),
-        r#"[{"checked_locations":[],"cmd":"RoomUpdate","hint_points":2},{},{"a":1}]"#
-    );
-    Ok(())
+        r#"[{"checked_locations":[],"cmd":"RoomUpdate","hint_points":2},{},{"a":1}]"#,
+    )
 }

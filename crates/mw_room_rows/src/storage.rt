@@ -1,42 +1,36 @@
 ghost use Rattle.mw_model.specs.Json.{IsWritable};
 ghost use Rattle.mw_json.specs.View.{view};
 
-use mw_base::{Memory, Text};
+use crate::cases::{each, fine};
+use crate::client_packets::sole;
+use crate::messages::packets_in;
+use mw_base::{List, Memory, Text};
 use mw_cases::part;
 use mw_json::{SetPacket, Tree, compact_text};
-use mw_packets_in::{Inbound, Packet, packets_of};
+use mw_packets_in::{Inbound, Packet};
 use mw_storage::{Store, StoreRefusal};
 use std::alloc::Global;
 use std::test::Fail;
 
-/// The change that a Set asks for.
-fn change_of(inbound: Inbound) -> Option<SetPacket> {
-    match inbound {
-        Inbound::Good(Packet::Change(set)) => Some(set),
+/// The change that a message of one Set asks for.
+fn change_in(found: &List<Inbound>) -> Option<&SetPacket> {
+    match sole(found) {
+        Some(Packet::Change(set)) => Some(set),
         _ => None,
     }
 }
 
-/// The change that a message of one Set asks for.
-fn change_in(alloc: Global, message: &str) -> Result<Option<SetPacket>, Fail> {
-    let found = packets_of(alloc, &Text::of(alloc, message)?)?;
-    match found.into_vec().pop() {
-        Some(inbound) => Ok(change_of(inbound)),
-        None => Ok(None),
-    }
-}
-
-/// The Set of a key with a default and operations.
+/// The message of one Set, of a key with a default and operations.
 fn set_of(
     alloc: Global,
     key: &str,
     default: &str,
     operations: &str,
-) -> Result<Option<SetPacket>, Fail> {
+) -> Result<List<Inbound>, Fail> {
     let message = format!(in alloc;
         r#"[{{"cmd":"Set","key":"{key}","default":{default},"operations":{operations}}}]"#
     )?;
-    change_in(alloc, message.as_str())
+    packets_in(alloc, message.as_str())
 }
 
 fn is_text(alloc: Global, tree: &Tree, wanted: &str) -> Result<bool, Fail>
@@ -66,9 +60,9 @@ fn refusal(store: &Store, set: &SetPacket) -> Option<StoreRefusal> {
     store.apply(set).err()
 }
 
-/// Whether a change that is there is refused so, or isn't refused.
-fn is_refused(store: &Store, set: &Option<SetPacket>, wanted: Option<StoreRefusal>) -> bool {
-    match set {
+/// Whether the change of a message of one Set is refused so, or isn't refused.
+fn is_refused(store: &Store, found: &List<Inbound>, wanted: Option<StoreRefusal>) -> bool {
+    match change_in(found) {
         Some(set) => refusal(store, set) == wanted,
         None => false,
     }
@@ -84,12 +78,18 @@ const OPERATIONS: &str =
 5 | [{"operation":"max","value":9},{"operation":"min","value":7},{"operation":"mul","value":-3},{"operation":"mod","value":-4},{"operation":"right_shift","value":63}] | -1
 1 | [{"operation":"default","value":9},{"operation":"floor","value":0},{"operation":"ceil","value":0},{"operation":"replace","value":"é\n"}] | "é\n""#;
 
-/// Whether operations make this of a default, in a store of their own.
+/// Whether a store makes this of a change, and one of its own keeps it.
+fn is_made_and_kept(alloc: Global, set: &SetPacket, wanted: &str) -> Result<bool, Fail> {
+    Ok(is_made(alloc, set, wanted)? && keeps(alloc, &mut Store::new(alloc), set, wanted)?)
+}
+
+/// Whether operations make this of a default.
 fn makes(alloc: Global, default: &str, operations: &str, wanted: &str) -> Result<bool, Fail> {
-    let Some(set) = set_of(alloc, "q", default, operations)? else {
-        return Ok(false);
-    };
-    Ok(is_made(alloc, &set, wanted)? && keeps(alloc, &mut Store::new(alloc), &set, wanted)?)
+    let found = set_of(alloc, "q", default, operations)?;
+    match change_in(&found) {
+        Some(set) => is_made_and_kept(alloc, set, wanted),
+        None => Ok(false),
+    }
 }
 
 /// Whether a case `DEFAULT | OPERATIONS | VALUE` is so.
@@ -99,51 +99,53 @@ fn is_case(alloc: Global, case: &str) -> Result<bool, Fail> {
 
 #[test]
 fn operations_make_their_values(rt: HostRuntime) -> Result<(), Fail> {
-    for case in OPERATIONS.split('\n') {
-        assert!(rt; is_case(rt.alloc(), case)?, "{case}");
-    }
-    Ok(())
+    each(rt.alloc(), OPERATIONS, is_case)
 }
 
-/// Whether the Set of a key is refused so by a new store, which then doesn't keep it.
-fn refuses(
-    alloc: Global,
-    key: &str,
-    default: &str,
-    operations: &str,
-    wanted: StoreRefusal,
-) -> Result<bool, Fail> {
+/// Whether a change is refused so by a new store, which then doesn't keep its key.
+fn refuses(alloc: Global, set: &SetPacket, wanted: StoreRefusal) -> bool {
     let store = Store::new(alloc);
-    let Some(set) = set_of(alloc, key, default, operations)? else {
-        return Ok(false);
-    };
-    Ok(refusal(&store, &set) == Some(wanted) && store.get(&set.key).is_none())
+    refusal(&store, set) == Some(wanted) && store.get(&set.key).is_none()
 }
+
+/// A refusal by its name.
+fn refusal_of(name: &str) -> StoreRefusal {
+    match name {
+        "out of range" => StoreRefusal::OutOfRange { place: 0 },
+        "first" => StoreRefusal::BadOperation { place: 0 },
+        "second" => StoreRefusal::BadOperation { place: 1 },
+        _ => StoreRefusal::PrivateKey,
+    }
+}
+
+/// Whether a case `KEY | DEFAULT | OPERATIONS | REFUSAL` is so.
+fn is_refusal(alloc: Global, case: &str) -> Result<bool, Fail> {
+    let found = set_of(alloc, part(case, 0), part(case, 1), part(case, 2))?;
+    Ok(match change_in(&found) {
+        Some(set) => refuses(alloc, set, refusal_of(part(case, 3))),
+        None => false,
+    })
+}
+
+/// Operations on numbers that are refused.
+const OUT_OF_RANGE: &str =
+    r#"k | 9223372036854775807 | [{"operation":"add","value":1}] | out of range
+k | -7 | [{"operation":"mod","value":0}] | first"#;
 
 #[test]
 fn storage_out_of_range(rt: HostRuntime) -> Result<(), Fail> {
-    let most = "9223372036854775807";
-    let add_one = r#"[{"operation":"add","value":1}]"#;
-    let out = StoreRefusal::OutOfRange { place: 0 };
-    assert!(rt; refuses(rt.alloc(), "k", most, add_one, out)?);
-    let mod_zero = r#"[{"operation":"mod","value":0}]"#;
-    let bad = StoreRefusal::BadOperation { place: 0 };
-    assert!(rt; refuses(rt.alloc(), "k", "-7", mod_zero, bad)?);
-    Ok(())
+    each(rt.alloc(), OUT_OF_RANGE, is_refusal)
 }
+
+/// Other Sets that are refused.
+const REFUSED: &str =
+    r#"k | 1 | [{"operation":"add","value":1},{"operation":"fly","value":1},{"operation":"mod","value":0}] | second
+k | 18446744073709551615 | [{"operation":"add","value":0}] | first
+_read_x | 0 | [] | private key"#;
 
 #[test]
 fn other_sets_are_refused(rt: HostRuntime) -> Result<(), Fail> {
-    let fly =
-        r#"[{"operation":"add","value":1},{"operation":"fly","value":1},{"operation":"mod","value":0}]"#;
-    let second = StoreRefusal::BadOperation { place: 1 };
-    assert!(rt; refuses(rt.alloc(), "k", "1", fly, second)?);
-    let large = "18446744073709551615";
-    let add_zero = r#"[{"operation":"add","value":0}]"#;
-    let first = StoreRefusal::BadOperation { place: 0 };
-    assert!(rt; refuses(rt.alloc(), "k", large, add_zero, first)?);
-    assert!(rt; refuses(rt.alloc(), "_read_x", "0", "[]", StoreRefusal::PrivateKey)?);
-    Ok(())
+    each(rt.alloc(), REFUSED, is_refusal)
 }
 
 /// The text of a numbered key.
@@ -187,15 +189,25 @@ fn has_none(alloc: Global, store: &Store, number: u64) -> Result<bool, Fail> {
     Ok(store.get(&key).is_none())
 }
 
+/// Whether a store keeps the first and the last number, and those beside the text.
+fn has_numbers(alloc: Global, store: &Store) -> Result<bool, Fail> {
+    Ok(
+        has_number(alloc, store, 0)?
+            && has_number(alloc, store, 6)?
+            && has_number(alloc, store, 8)?
+            && has_number(alloc, store, 19)?,
+    )
+}
+
+/// Whether a store keeps those, the text, and nothing behind them.
+fn has_twenty(alloc: Global, store: &Store) -> Result<bool, Fail> {
+    Ok(has_text(alloc, store, 7)? && has_numbers(alloc, store)? && has_none(alloc, store, 20)?)
+}
+
 #[test]
 fn keys_keep_their_values(rt: HostRuntime) -> Result<(), Fail> {
     let store = store_of_twenty(rt.alloc())?;
-    assert!(rt; has_text(rt.alloc(), &store, 7)?);
-    for number in [0u64, 6, 8, 19] {
-        assert!(rt; has_number(rt.alloc(), &store, number)?);
-    }
-    assert!(rt; has_none(rt.alloc(), &store, 20)?);
-    Ok(())
+    fine(has_twenty(rt.alloc(), &store)?)
 }
 
 /// Keeps a text of 1,000,000 characters under a key.
@@ -215,13 +227,13 @@ fn store_of_four(alloc: Global) -> Result<Store, Fail> {
     Ok(store)
 }
 
-/// The Set of a fifth key with a text of so many characters.
-fn fifth(alloc: Global, count: usize) -> Result<Option<SetPacket>, Fail> {
+/// The message of one Set, of a fifth key with a text of so many characters.
+fn fifth(alloc: Global, count: usize) -> Result<List<Inbound>, Fail> {
     let long = "a".repeat(alloc, count)?;
     let message = format!(in alloc;
         r#"[{{"cmd":"Set","key":"e","default":"{long}","operations":[]}}]"#
     )?;
-    change_in(alloc, message.as_str())
+    packets_in(alloc, message.as_str())
 }
 
 /// Whether that Set is refused so, or isn't refused.
@@ -242,24 +254,34 @@ fn five_full(bytes: u64) -> StoreRefusal {
 #[test]
 fn a_full_store_says_what_would_stand(rt: HostRuntime) -> Result<(), Fail> {
     let store = store_of_four(rt.alloc())?;
-    assert!(rt; is_fifth(rt.alloc(), &store, 1_000_000, Some(five_full(5_000_015)))?);
-    Ok(())
+    fine(is_fifth(rt.alloc(), &store, 1_000_000, Some(five_full(5_000_015)))?)
+}
+
+/// Whether a fifth key fills a store to its last byte, and one of a character more is refused.
+fn takes_fifth(alloc: Global, store: &Store) -> Result<bool, Fail> {
+    Ok(
+        is_fifth(alloc, store, 194_289, None)?
+            && is_fifth(alloc, store, 194_290, Some(five_full(4_194_305)))?,
+    )
 }
 
 #[test]
 fn a_store_is_filled_to_its_last_byte(rt: HostRuntime) -> Result<(), Fail> {
     let store = store_of_four(rt.alloc())?;
-    assert!(rt; is_fifth(rt.alloc(), &store, 194_289, None)?);
-    assert!(rt; is_fifth(rt.alloc(), &store, 194_290, Some(five_full(4_194_305)))?);
-    Ok(())
+    fine(takes_fifth(rt.alloc(), &store)?)
+}
+
+/// Keeps 0 under a key that is a number.
+fn put_zero(alloc: Global, store: &mut Store, number: u64) -> Result<(), Fail> {
+    let key = Text::from_string(format!(in alloc; "{number}")?);
+    Ok(store.put(&key, mw_json::number_tree(0))?)
 }
 
 /// A store of so many keys, which are the numbers from 0 on.
 fn numbered_store(alloc: Global, keys: u64) -> Result<Store, Fail> {
     let mut store = Store::new(alloc);
-    for n in 0..keys {
-        let key = Text::from_string(format!(in alloc; "{n}")?);
-        store.put(&key, mw_json::number_tree(0))?;
+    for number in 0..keys {
+        put_zero(alloc, &mut store, number)?;
     }
     Ok(store)
 }
@@ -274,23 +296,27 @@ fn is_key(
     Ok(is_refused(store, &set_of(alloc, key, "0", "[]")?, wanted))
 }
 
+/// What a store says of which one key more would be too many.
+const FULL: StoreRefusal = StoreRefusal::StoreFull {
+    bytes: 382_112,
+    keys: 65_537,
+};
+
+/// Whether a store takes its last key again, and no further one.
+fn is_full(alloc: Global, store: &Store) -> Result<bool, Fail> {
+    Ok(is_key(alloc, store, "65535", None)? && is_key(alloc, store, "65536", Some(FULL))?)
+}
+
 #[test]
 fn a_store_is_filled_to_its_last_key(rt: HostRuntime) -> Result<(), Fail> {
     let store = numbered_store(rt.alloc(), 65_536)?;
-    assert!(rt; is_key(rt.alloc(), &store, "65535", None)?);
-    let wanted = StoreRefusal::StoreFull {
-        bytes: 382_112,
-        keys: 65_537,
-    };
-    assert!(rt; is_key(rt.alloc(), &store, "65536", Some(wanted))?);
-    Ok(())
+    fine(is_full(rt.alloc(), &store)?)
 }
 
 #[test]
 fn a_store_takes_its_last_key(rt: HostRuntime) -> Result<(), Fail> {
     let store = numbered_store(rt.alloc(), 65_535)?;
-    assert!(rt; is_key(rt.alloc(), &store, "65535", None)?);
-    Ok(())
+    fine(is_key(rt.alloc(), &store, "65535", None)?)
 }
 
 /// A value of each kind.
@@ -330,6 +356,11 @@ fn taken(operation: &str) -> &'static str {
     ""
 }
 
+/// Whether an operation leaves a value as it is, whatever its operand.
+fn leaves(name: &str, value: &str) -> bool {
+    name == "default" || (value == "6" && (name == "floor" || name == "ceil"))
+}
+
 /// What an operation makes of a value with an operand; nothing where it is refused.
 fn made(
     alloc: Global,
@@ -340,7 +371,7 @@ fn made(
     if name == "replace" {
         return Ok(operand);
     }
-    if name == "default" || (value == "6" && (name == "floor" || name == "ceil")) {
+    if leaves(name, value) {
         return Ok(value);
     }
     Ok(taken(format!(in alloc; "{name} {value} {operand}")?.as_str()))
@@ -364,8 +395,9 @@ fn gives(
     operand: &'static str,
 ) -> Result<bool, Fail> {
     let operations = format!(in alloc; r#"[{{"operation":"{name}","value":{operand}}}]"#)?;
-    match set_of(alloc, "q", value, operations.as_str())? {
-        Some(set) => is_made(alloc, &set, made(alloc, name, value, operand)?),
+    let found = set_of(alloc, "q", value, operations.as_str())?;
+    match change_in(&found) {
+        Some(set) => is_made(alloc, set, made(alloc, name, value, operand)?),
         None => Ok(false),
     }
 }
@@ -383,15 +415,30 @@ fn gives_all(alloc: Global, name: &str) -> Result<bool, Fail> {
 }
 
 /// All operations, and three names of none, the last of which is empty.
-const NAMES: &str =
-    "replace default floor ceil add mul max min mod and or xor left_shift right_shift remove pop update pow Add ";
+const NAMES: &str = "replace
+default
+floor
+ceil
+add
+mul
+max
+min
+mod
+and
+or
+xor
+left_shift
+right_shift
+remove
+pop
+update
+pow
+Add
+";
 
 #[test]
 fn each_operation_takes_its_kinds(rt: HostRuntime) -> Result<(), Fail> {
-    for name in NAMES.split(' ') {
-        assert!(rt; gives_all(rt.alloc(), name)?, "at {name}");
-    }
-    Ok(())
+    each(rt.alloc(), NAMES, gives_all)
 }
 
 /// The same, of numbers at the ends of their ranges.
@@ -403,8 +450,5 @@ const ENDS: &str =
 
 #[test]
 fn numbers_at_their_ends(rt: HostRuntime) -> Result<(), Fail> {
-    for case in ENDS.split('\n') {
-        assert!(rt; is_case(rt.alloc(), case)?, "{case}");
-    }
-    Ok(())
+    each(rt.alloc(), ENDS, is_case)
 }
