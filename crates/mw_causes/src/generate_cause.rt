@@ -113,7 +113,8 @@ impl From<Stop<TableCause>> for Stop<GenerateCause> {
     }
 }
 
-/// A refusal of so many tries as a stop.
+/// A refusal of so many tries as a stop: want of memory is that, and each other one a cause of
+/// `generate`'s own.
 pub fn refusal_stop(error: GenerateError, tries: u32) -> Stop<GenerateCause>
     ensures { result ≡ generate_stop tries error }
 {

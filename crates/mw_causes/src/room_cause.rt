@@ -56,7 +56,9 @@ impl From<Stop<SeedCause>> for Stop<RoomCause> {
     }
 }
 
-/// The stop for an error of making a journal, which judges no journal that is there.
+/// The stop for an error of making a journal: a fault of the disk is a fault, and `NotEmpty` a cause
+/// of `new-room`'s own. Making judges no journal that is there, so the others stand for want of
+/// memory.
 pub fn room_stop(error: OpenError) -> Stop<RoomCause>
     ensures { result ≡ open_stop error }
 {

@@ -65,7 +65,10 @@ pub struct SeedBytes {
     pub multidata: Multidata,
 }
 
-/// Reads and judges a seed file.
+/// Reads and judges a seed file, and gives its bytes and what they hold.
+///
+/// `Fault` where the folder failed, `Memory` where memory ran out, and else a refusal: of the length
+/// or of what stands in the file.
 #[tactic(auto, using(crate::proofs::SeedReading::unread_seed))]
 pub fn read_seed_bytes<F: Folder>(
     alloc: Global,
@@ -87,7 +90,8 @@ pub fn read_seed_bytes<F: Folder>(
     Ok(SeedBytes { bytes, multidata })
 }
 
-/// Reads and judges a seed file, and gives what it holds alone.
+/// Reads and judges a seed file, and gives what it holds alone. The errors are those of
+/// `read_seed_bytes`.
 pub fn read_seed<F: Folder>(
     alloc: Global,
     folder: &mut F,
@@ -107,7 +111,8 @@ pub fn read_seed<F: Folder>(
     Ok(multidata)
 }
 
-/// Reads and judges a seed file, and gives the SHA-256 of its bytes alone.
+/// Reads and judges a seed file, and gives the SHA-256 of its bytes alone. The errors are those of
+/// `read_seed_bytes`.
 pub fn read_digest<F: Folder>(
     alloc: Global,
     folder: &mut F,

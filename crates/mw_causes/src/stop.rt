@@ -74,7 +74,9 @@ fn end_stopped<C: Cause, E: Sink>(alloc: Global, err: &mut E, stop: &Stop<C>) ->
     }
 }
 
-/// The status of a command: 0 where all is done, and else that of the cause, which is told.
+/// The status of a command: 0 where all is done, and else that of the cause, which is told: 5 for a
+/// fault, 6 for want of memory, and the cause's own for a refusal. Where memory for a refusal's line
+/// is wanting, that is told.
 pub fn end<C: Cause, E: Sink>(alloc: Global, err: &mut E, outcome: Result<(), Stop<C>>) -> u8
     ensures done { OnOk outcome (result ≡ 0) }
     ensures kept { OnOk outcome (Keeps (E.held err.old) (E.held err.new)) }

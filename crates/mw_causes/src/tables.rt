@@ -26,7 +26,9 @@ const MAX_WORLD_FILES: u64 = 268_435_456;
 /// The tables of a players file and of the world files that it names, in first-named order.
 #[derive(Drop)]
 pub struct Tables {
+    /// What the players file says.
     pub players: Players,
+    /// The worlds that it names, each once.
     pub worlds: List<World>,
 }
 
@@ -192,7 +194,10 @@ fn worlds_in<F: Folder>(
     Ok(worlds)
 }
 
-/// Reads a players file and the world files that it names.
+/// Reads a players file and the world files that it names, in first-named order.
+///
+/// `Fault` where the folder failed, `Memory` where memory ran out, and else a refusal: of the first
+/// file that is too long, or of what stands in it.
 pub fn read_tables<F: Folder>(
     alloc: Global,
     folder: &mut F,
@@ -214,7 +219,7 @@ pub fn read_tables<F: Folder>(
     Ok(Tables { players, worlds })
 }
 
-/// The tables joined.
+/// The tables joined. `Memory` where memory ran out, and else a refusal of the joint; it is no fault.
 #[tactic(auto, using(crate::proofs::TableCauses::unjoined_exit))]
 pub fn join<'a>(alloc: Global, tables: &'a Tables) -> Result<Joint<'a>, Stop<TableCause>>
     requires { length tables.now.worlds ≡ length (world_files tables.now.players) }

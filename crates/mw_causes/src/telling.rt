@@ -6,7 +6,7 @@ ghost use Rattle.mw_edges.specs.Causes.{PutsFront, Rose, Tells};
 use crate::stop::Stop;
 use mw_edges::{Sink, SinkError};
 
-/// Puts a command's text.
+/// Puts a command's text: `Fault` where the sink failed, `Memory` where it had no memory.
 pub fn put_text<C: Drop, O: Sink>(out: &mut O, text: &str) -> Result<(), Stop<C>>
     ensures done { OnOk result (Appends (O.held out.old) (O.held out.new) text.now) }
     ensures front { OnErr result (PutsFront (O.held out.old) (O.held out.new) text.now) }
