@@ -1,7 +1,9 @@
-//! Cases of a file that is changed: lines `OLD => NEW => ANSWER`, in which OLD stands in the file.
+//! Cases of a file that is changed: lines `OLD => NEW => ANSWER`, in which OLD stands in the file. NEW is a text, or is
+//! spelled `FRONT | UNIT | COUNT | CLOSING | BACK`: the front, the unit so many times, the closing as often, the back.
+//! ANSWER is a refusal, `KIND PATH`, or `accepted`.
 use mw_base::Memory;
 use mw_cases::part;
-use mw_json::{Kind, Path, kind_word, path_words};
+use mw_json::{Refusal, kind_word, path_words};
 use std::alloc::Global;
 use std::test::Fail;
 
@@ -21,33 +23,41 @@ pub(crate) fn each<F: Fn(Global, &str) -> Result<bool, Fail>>(
     Ok(())
 }
 
-/// What is replaced in a case, by what, and the answer.
-pub(crate) fn case_of(line: &str) -> Option<(&str, &str, &str)> {
-    let (old, rest) = line.split_once(" => ")?;
-    let (new, answer) = rest.split_once(" => ")?;
-    Some((old, new, answer))
+/// The part of a line that stands behind so many marks ` => `, nothing where there are fewer.
+fn piece(line: &str, place: usize) -> &str {
+    line.split(" => ").nth(place).unwrap_or("")
 }
 
-/// The text that `FRONT | UNIT | COUNT | CLOSING | BACK` spells: the front, the unit so many times,
-/// the closing as often, the back.
-pub(crate) fn repeated(alloc: Global, spelled: &str) -> Result<String, Fail> {
-    let count = part(spelled, 2).parse::<usize>()?;
-    let opened = part(spelled, 1).repeat(alloc, count)?;
-    let closed = part(spelled, 3).repeat(alloc, count)?;
-    let (front, back) = (part(spelled, 0), part(spelled, 4));
-    Ok(format!(in alloc; "{front}{opened}{closed}{back}")?)
+/// A file that is changed as a line says.
+pub(crate) fn changed(alloc: Global, file: &str, line: &str) -> Result<String, Fail> {
+    let new = piece(line, 1);
+    let count = part(new, 2).parse::<usize>().unwrap_or(0);
+    let opened = part(new, 1).repeat(alloc, count)?;
+    let closed = part(new, 3).repeat(alloc, count)?;
+    let (front, back) = (part(new, 0), part(new, 4));
+    let new = format!(in alloc; "{front}{opened}{closed}{back}")?;
+    Ok(file.replace(alloc, piece(line, 0), new.as_str())?)
 }
 
-/// Whether a refusal's kind and its path are those of an answer, `KIND PATH`.
-pub(crate) fn is_named(
-    alloc: Global,
-    kind: Kind,
-    path: &Path,
-    answer: &str,
-) -> Result<bool, Memory> {
+/// Whether a refusal is the wanted one.
+fn is_refused(alloc: Global, refusal: &Refusal, wanted: &str) -> Result<bool, Memory> {
+    let Refusal::Named { kind, path } = refusal else {
+        return Err(Memory);
+    };
     let path = path_words(alloc, path)?;
-    match answer.split_once(' ') {
-        Some((word, place)) => Ok(word == kind_word(kind) && place == path.as_str()),
-        None => Ok(false),
+    let (word, place) = wanted.split_once(' ').unwrap_or(("", ""));
+    Ok(word == kind_word(*kind) && place == path.as_str())
+}
+
+/// Whether a file is answered as a line says: refused so, or accepted where there is no refusal.
+pub(crate) fn is_answer(
+    alloc: Global,
+    refusal: Option<Refusal>,
+    line: &str,
+) -> Result<bool, Memory> {
+    let wanted = piece(line, 2);
+    match &refusal {
+        Some(refusal) => is_refused(alloc, refusal, wanted),
+        None => Ok(wanted == "accepted"),
     }
 }

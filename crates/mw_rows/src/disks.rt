@@ -1,137 +1,176 @@
-use mw_base::{Bytes, List};
+use mw_base::{Bytes, List, Memory};
+use mw_cases::part;
 use mw_disk::{Disk, DiskError, MemDisk, Tear, open_file_disk};
 use std::alloc::Global;
 use std::fs;
-use std::rt::Files;
 use std::test::Fail;
 
-/// A disk of these bytes whose calls don't fail.
-fn disk_of(alloc: Global, bytes: &[u8]) -> Result<MemDisk, Fail> {
+/// A disk of `abde` is read within its bytes, past their end and behind it. A case of a call on a disk is `CALL | AT |
+/// GIVEN | ANSWER`; a read is given the number of bytes that it gives, and its answer is the buffer then.
+const READS: &str = "read | 1 | 2 | bd
+read | 3 | 1 | e\0
+read | 4 | 0 | \0\0";
+
+/// A disk of `abc` is written past its end, and behind it.
+const WRITES: &str = "write | 2 | de | done
+write | 6 | f | done";
+
+/// A disk isn't cut to more bytes than it has.
+const CUT_TO_MORE: &str = "cut | 9 |  | done";
+
+/// It is cut to fewer.
+const CUT_TO_FEWER: &str = "cut | 9 |  | done
+cut | 2 |  | done
+sync | 0 |  | done";
+
+/// A disk of `abc` is written, synced, written and cut.
+const WORN: &str = "write | 2 | de | done
+sync | 0 |  | done
+write | 0 | x | done
+cut | 2 |  | done";
+
+/// What a crash of such a disk leaves: after how many calls, how it tears, and the bytes.
+const CRASHES: &str = "0 | done | abc
+1 | lost | abc
+1 | done | abde
+1 | filled | ab!!
+2 | lost | abde
+3 | lost | abde
+4 | filled | !bde
+9 | done | xb";
+
+/// An empty disk whose first and third calls fail.
+const PLANNED: &str = "write | 0 | a | failed
+write | 0 | b | done
+sync | 0 |  | memory
+sync | 0 |  | done";
+
+/// An empty disk that is written, synced and cut has what is left.
+const KEPT: &str = "write | 1 | bc | done
+sync | 0 |  | done
+cut | 2 |  | done
+read | 0 | 2 | \0b\0\0";
+
+/// A disk of these bytes whose calls fail as planned.
+fn disk_of(alloc: Global, bytes: &[u8], failing: &[(u64, DiskError)]) -> Result<MemDisk, Memory> {
     let start = Bytes::from_vec(Vec::from_slice(alloc, bytes)?);
-    Ok(MemDisk::new(alloc, start, List::new(alloc))?)
+    let failing = List::from_vec(Vec::from_slice(alloc, failing)?);
+    MemDisk::new(alloc, start, failing)
 }
 
-/// Whether a read of two bytes gives so many of these.
-fn gives(disk: &mut MemDisk, at: u64, count: usize, wanted: [u8; 2]) -> bool {
-    let mut into = [0u8; 2];
-    disk.read(at, &mut into) == Ok(count) && into == wanted
+/// Whether a read gives so many bytes, and leaves the buffer so, which has room for at most four.
+fn is_read<D: Disk>(disk: &mut D, at: u64, count: &str, wanted: &[u8]) -> bool {
+    let mut into = [0u8; 4];
+    let room = wanted.len().min(4);
+    let count = count.parse::<usize>().unwrap_or(room + 1);
+    disk.read(at, &mut into[..room]) == Ok(count) && &into[..room] == wanted
 }
 
-/// Whether a disk of four bytes is read within its bytes, past their end and behind it.
-fn is_read(disk: &mut MemDisk) -> bool {
-    gives(disk, 1, 2, *b"bd") && gives(disk, 3, 1, *b"e\0") && gives(disk, 4, 0, *b"\0\0")
+/// What a call is answered.
+fn told(answer: Result<(), DiskError>) -> &'static str {
+    match answer {
+        Ok(()) => "done",
+        Err(DiskError::Failed) => "failed",
+        Err(DiskError::Memory) => "memory",
+    }
+}
+
+/// Whether the call of a case is answered so.
+fn is_answered<D: Disk>(disk: &mut D, case: &str) -> bool {
+    let at = part(case, 1).parse::<u64>().unwrap_or(u64::MAX);
+    let (given, wanted) = (part(case, 2), part(case, 3));
+    let answer = match part(case, 0) {
+        "read" => return is_read(disk, at, given, wanted.as_bytes()),
+        "write" => disk.write_at(at, given.as_bytes()),
+        "cut" => disk.cut(at),
+        _ => disk.sync(),
+    };
+    told(answer) == wanted
+}
+
+/// Fails at the first of the calls that a disk doesn't answer so.
+fn answers<D: Disk>(disk: &mut D, cases: &str) -> Result<(), Fail> {
+    for case in cases.split('\n') {
+        if !is_answered(disk, case) {
+            return Err(Fail::new(case));
+        }
+    }
+    Ok(())
+}
+
+/// Fails where a disk of these bytes, whose calls fail as planned, doesn't answer so, has other bytes then, or keeps a
+/// record of another number of calls.
+fn leaves(
+    alloc: Global,
+    start: &[u8],
+    failing: &[(u64, DiskError)],
+    cases: &str,
+    left: &[u8],
+    calls: usize,
+) -> Result<(), Fail> {
+    let mut disk = disk_of(alloc, start, failing)?;
+    answers(&mut disk, cases)?;
+    if disk.bytes() == left && disk.calls().len() == calls {
+        return Ok(());
+    }
+    Err(Fail::new(cases))
 }
 
 #[test]
 fn disks_are_read(rt: HostRuntime) -> Result<(), Fail> {
-    assert!(rt; is_read(&mut disk_of(rt.alloc(), b"abde")?));
-    Ok(())
-}
-
-/// Whether a disk of three bytes has what is written.
-fn is_written(disk: &mut MemDisk) -> bool {
-    disk.write_at(2, b"de") == Ok(())
-        && disk.write_at(6, b"f") == Ok(())
-        && disk.bytes() == b"abde\0\0f".as_slice()
+    leaves(rt.alloc(), b"abde", &[], READS, b"abde", 3)
 }
 
 #[test]
 fn disks_are_written(rt: HostRuntime) -> Result<(), Fail> {
-    assert!(rt; is_written(&mut disk_of(rt.alloc(), b"abc")?));
-    Ok(())
-}
-
-/// Whether a disk of three bytes is cut to fewer alone, and keeps a record of three calls.
-fn is_cut(disk: &mut MemDisk) -> bool {
-    disk.cut(9) == Ok(())
-        && disk.bytes() == b"abc".as_slice()
-        && disk.cut(2) == Ok(())
-        && disk.sync() == Ok(())
-        && disk.bytes() == b"ab".as_slice()
-        && disk.calls().len() == 3
+    leaves(rt.alloc(), b"abc", &[], WRITES, b"abde\0\0f", 2)
 }
 
 #[test]
 fn disks_are_cut(rt: HostRuntime) -> Result<(), Fail> {
-    assert!(rt; is_cut(&mut disk_of(rt.alloc(), b"abc")?));
-    Ok(())
+    leaves(rt.alloc(), b"abc", &[], CUT_TO_MORE, b"abc", 1)?;
+    leaves(rt.alloc(), b"abc", &[], CUT_TO_FEWER, b"ab", 3)
 }
 
-/// Whether a crash of a disk after so many calls leaves these bytes.
-fn leaves(disk: &MemDisk, moment: usize, tear: Tear, wanted: &[u8]) -> bool {
+/// Whether a crash leaves what a case says.
+fn is_left(disk: &MemDisk, case: &str) -> bool {
+    let tear = match part(case, 1) {
+        "done" => Tear::Done,
+        "lost" => Tear::Lost,
+        _ => Tear::Filled(b'!'),
+    };
+    let moment = part(case, 0).parse::<usize>().unwrap_or(usize::MAX);
     match disk.image_at(moment, tear) {
-        Ok(image) => image.as_slice() == wanted,
+        Ok(image) => image.as_slice() == part(case, 2).as_bytes(),
         Err(_) => false,
     }
 }
 
-/// Whether a disk of three bytes is written, synced, written and cut.
-fn is_worn(disk: &mut MemDisk) -> bool {
-    disk.write_at(2, b"de") == Ok(())
-        && disk.sync() == Ok(())
-        && disk.write_at(0, b"x") == Ok(())
-        && disk.cut(2) == Ok(())
-}
-
-/// Whether crashes of a disk that is worn so leave what was synced, and more as they tear.
-fn leaves_what_is_safe(disk: &mut MemDisk) -> bool {
-    is_worn(disk)
-        && leaves(disk, 0, Tear::Done, b"abc")
-        && leaves(disk, 1, Tear::Lost, b"abc")
-        && leaves(disk, 1, Tear::Done, b"abde")
-        && leaves(disk, 1, Tear::Filled(b'!'), b"ab!!")
-        && leaves(disk, 2, Tear::Lost, b"abde")
-        && leaves(disk, 3, Tear::Lost, b"abde")
-        && leaves(disk, 4, Tear::Filled(b'!'), b"!bde")
-        && leaves(disk, 9, Tear::Done, b"xb")
+/// Fails at the first of the crashes that doesn't leave what it should.
+fn are_left(mut disk: MemDisk) -> Result<(), Fail> {
+    answers(&mut disk, WORN)?;
+    for case in CRASHES.split('\n') {
+        if !is_left(&disk, case) {
+            return Err(Fail::new(case));
+        }
+    }
+    Ok(())
 }
 
 #[test]
 fn crashes_leave_what_is_safe(rt: HostRuntime) -> Result<(), Fail> {
-    assert!(rt; leaves_what_is_safe(&mut disk_of(rt.alloc(), b"abc")?));
-    Ok(())
-}
-
-/// An empty disk whose first call and third call fail.
-fn failing_disk(alloc: Global) -> Result<MemDisk, Fail> {
-    let failing = vec![in alloc; (0, DiskError::Failed), (2, DiskError::Memory)]?;
-    let start = Bytes::from_vec(Vec::new(alloc));
-    Ok(MemDisk::new(alloc, start, List::from_vec(failing))?)
-}
-
-/// Whether just those calls fail, and the disk has what the others wrote.
-fn fails_as_planned(disk: &mut MemDisk) -> bool {
-    disk.write_at(0, b"a") == Err(DiskError::Failed)
-        && disk.write_at(0, b"b") == Ok(())
-        && disk.sync() == Err(DiskError::Memory)
-        && disk.sync() == Ok(())
-        && disk.bytes() == b"b".as_slice()
+    are_left(disk_of(rt.alloc(), b"abc", &[])?)
 }
 
 #[test]
 fn planned_calls_of_a_disk_fail(rt: HostRuntime) -> Result<(), Fail> {
-    assert!(rt; fails_as_planned(&mut failing_disk(rt.alloc())?));
-    Ok(())
-}
-
-/// Whether an empty disk that is written, synced and cut has what is left.
-fn keeps_what_is_left<D: Disk>(disk: &mut D) -> bool {
-    let mut into = [0u8; 4];
-    disk.write_at(1, b"bc") == Ok(())
-        && disk.sync() == Ok(())
-        && disk.cut(2) == Ok(())
-        && disk.read(0, &mut into) == Ok(2)
-        && into == *b"\0b\0\0"
-}
-
-/// Whether that is so of a new file.
-fn file_keeps_what_is_left<R: Files>(rt: &R) -> Result<bool, DiskError> {
-    Ok(keeps_what_is_left(&mut open_file_disk(rt, "disk_bytes")?))
+    let failing = [(0, DiskError::Failed), (2, DiskError::Memory)];
+    leaves(rt.alloc(), b"", &failing, PLANNED, b"b", 4)
 }
 
 #[test]
 fn files_are_disks(rt: HostRuntime) -> Result<(), Fail> {
-    assert!(rt; file_keeps_what_is_left(&rt)?);
+    answers(&mut open_file_disk(&rt, "disk_bytes")?, KEPT)?;
     fs::remove_file(&rt, "disk_bytes")?;
     Ok(())
 }

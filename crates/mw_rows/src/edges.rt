@@ -1,8 +1,11 @@
+ghost use Rattle.std.specs.Prelude.{◌≤◌};
+
+use crate::cases::each;
 use mw_base::{Bytes, List, Memory, Text};
+use mw_cases::part;
 use mw_edges::{
-    Failed, Faults, FileRead, Folder, FolderError, MemoryFolder, MemorySink, MemorySource,
-    ReaderSource, Sink, SinkError, Source, SteadyFolder, SteadySink, SteadySource, SystemFolder,
-    WriterSink,
+    Faults, FileRead, Folder, FolderError, MemoryFolder, MemorySink, MemorySource, ReaderSource,
+    Sink, SinkError, Source, SteadyFolder, SteadySink, SteadySource, SystemFolder, WriterSink,
 };
 use std::alloc::Global;
 use std::io::{ErrorKind, Read, Write};
@@ -10,198 +13,223 @@ use std::rt::Files;
 use std::test::Fail;
 use std::{fs, io};
 
+/// Which of three takes fails, and what they give.
+const TAKES: &str = "0 | !,a,b
+1 | a,!,b
+2 | a,b,!";
+
+/// Which of three puts fails, and what is put.
+const PUTS: &str = "0 | !ab,ab,ab
+1 | ab,!ab,ab
+2 | ab,ab,!ab";
+
+/// Three reads of a folder of one file, of which the first fails.
+const FIRST_READ_FAILS: &str = "read | five | 5 | failed
+read | five | 5 | bytes
+read | five | 5 | bytes";
+
+/// The same where the second fails.
+const SECOND_READ_FAILS: &str = "read | five | 5 | bytes
+read | five | 5 | failed
+read | five | 5 | bytes";
+
+/// The same where the third fails.
+const THIRD_READ_FAILS: &str = "read | five | 5 | bytes
+read | five | 5 | bytes
+read | five | 5 | failed";
+
+/// Three writes, of which the second fails; the file is the third then.
+const SECOND_WRITE_FAILS: &str = "write | new | first | done
+write | new | second | failed
+write | new | third one | done
+read | new | 9 | third one";
+
+/// A folder has the file that was written last.
+const LAST_IS_KEPT: &str = "write | five | three | done
+write | five | to | done
+read | five | 9 | to";
+
+/// A folder of one file of five bytes is read within limits, and a file that isn't there is empty.
+const FIVE_ARE_READ: &str = "read | five | 5 | bytes
+read | five | 4 | longer
+read | none | 0";
+
+/// Files of the system, one of them of five bytes, are read within limits. The last never ends, so a read stops
+/// past the limit.
+const SYSTEM_IS_READ: &str = "read | five_bytes | 5 | bytes
+read | five_bytes | 6 | bytes
+read | five_bytes | 4 | longer
+read | five_bytes | 0 | longer
+read | no_such_file | 5 | failed
+read | /dev/zero | 5 | longer";
+
+/// A file is written.
+const IS_WRITTEN: &str = "write | written_bytes | longer | done";
+
+/// It is written over, and none is in a folder that isn't there.
+const IS_WRITTEN_OVER: &str = "write | written_bytes | short | done
+write | no_such_folder/file |  | failed";
+
 fn bytes_of(alloc: Global, bytes: &[u8]) -> Result<Bytes, Memory> {
     Ok(Bytes::from_vec(Vec::from_slice(alloc, bytes)?))
 }
 
-fn failing_at(alloc: Global, call: u64) -> Result<Faults, Memory> {
-    let mut failing = List::new(alloc);
-    failing.push(call)?;
-    Ok(Faults::at(failing))
+/// A plan by which the call of a case's number fails.
+fn failing_at(alloc: Global, case: &str) -> Result<Faults, Memory> {
+    let call = part(case, 0).parse::<u64>().unwrap_or(u64::MAX);
+    Ok(Faults::at(List::from_vec(vec![in alloc; call]?)))
 }
 
 fn one_file(alloc: Global) -> Result<List<(Text, Bytes)>, Memory> {
-    let mut files = List::new(alloc);
-    files.push((Text::of(alloc, "five")?, bytes_of(alloc, b"bytes")?))?;
-    Ok(files)
+    let file = (Text::of(alloc, "five")?, bytes_of(alloc, b"bytes")?);
+    Ok(List::from_vec(vec![in alloc; file]?))
+}
+
+/// Whether takes of at most so many bytes give these, one after the other, and fail at each `!`. A source can be sent
+/// to other threads.
+fn gives<S: Source + Drop + Send>(mut source: S, room: usize, wanted: &str) -> bool
+    requires { room ≤ 4 }
+{
+    for bytes in wanted.split(',') {
+        let mut into = [0u8; 4];
+        let found = match source.take(&mut into[..room]) {
+            Ok(count) => &into[..count],
+            Err(_) => b"!".as_slice(),
+        };
+        if found != bytes.as_bytes() {
+            return false;
+        }
+    }
+    true
+}
+
+/// Whether these are put, one after the other, and just those fail that a `!` stands before.
+fn puts<S: Sink>(sink: &mut S, pieces: &str) -> bool {
+    for piece in pieces.split(',') {
+        let (bytes, wanted) = match piece.strip_prefix('!') {
+            Some(bytes) => (bytes, Err(SinkError::Failed)),
+            None => (piece, Ok(())),
+        };
+        if sink.put(bytes.as_bytes()) != wanted {
+            return false;
+        }
+    }
+    true
+}
+
+/// Whether a source of three bytes is so, whose call of a case's number fails.
+fn is_take_case(alloc: Global, case: &str) -> Result<bool, Fail> {
+    let bytes = bytes_of(alloc, b"abc")?;
+    let faults = failing_at(alloc, case)?;
+    Ok(gives(MemorySource::new(bytes, faults), 1, part(case, 1)))
+}
+
+#[test]
+fn planned_takes_fail(rt: HostRuntime) -> Result<(), Fail> {
+    each(rt.alloc(), TAKES, is_take_case)
 }
 
 fn is_send<T: Send>(_value: &T) -> bool {
     true
 }
 
-/// What a read gave: its length, or None where the file is longer.
-fn length_of(read: Result<FileRead, FolderError>) -> Result<Option<usize>, FolderError> {
-    match read {
-        Ok(FileRead::Whole(bytes)) => Ok(Some(bytes.len())),
-        Ok(FileRead::Longer) => Ok(None),
-        Err(error) => Err(error),
-    }
-}
-
-/// A source of three bytes whose call of this number fails.
-fn source_of(alloc: Global, planned: u64) -> Result<MemorySource, Memory> {
-    Ok(MemorySource::new(bytes_of(alloc, b"abc")?, failing_at(alloc, planned)?))
-}
-
-/// Whether of three takes of such a source just that fails.
-fn takes_fail_at(alloc: Global, planned: u64) -> Result<bool, Memory> {
-    let mut source = source_of(alloc, planned)?;
-    for call in 0..3u64 {
-        if source.take(&mut [0u8; 1]).is_err() != (call == planned) {
-            return Ok(false);
-        }
-    }
-    Ok(is_send(&source))
-}
-
-#[test]
-fn planned_takes_fail(rt: HostRuntime) -> Result<(), Fail> {
-    let alloc = rt.alloc();
-    assert!(rt; takes_fail_at(alloc, 0)? && takes_fail_at(alloc, 1)? && takes_fail_at(alloc, 2)?);
-    Ok(())
-}
-
-/// Whether of three puts of a sink just that fails, and the sink has the others.
-fn puts_fail_at(alloc: Global, planned: u64) -> Result<bool, Memory> {
-    let mut sink = MemorySink::new(alloc, failing_at(alloc, planned)?);
-    for call in 0..3u64 {
-        if (sink.put(b"ab") == Err(SinkError::Failed)) != (call == planned) {
-            return Ok(false);
-        }
-    }
-    Ok(sink.bytes() == b"abab".as_slice() && is_send(&sink))
+/// Whether a sink is so, whose call of a case's number fails, and has what the others put.
+fn is_put_case(alloc: Global, case: &str) -> Result<bool, Fail> {
+    let mut sink = MemorySink::new(alloc, failing_at(alloc, case)?);
+    let is_so = puts(&mut sink, part(case, 1));
+    Ok(is_so && sink.bytes() == b"abab".as_slice() && is_send(&sink))
 }
 
 #[test]
 fn planned_puts_fail(rt: HostRuntime) -> Result<(), Fail> {
-    let alloc = rt.alloc();
-    assert!(rt; puts_fail_at(alloc, 0)? && puts_fail_at(alloc, 1)? && puts_fail_at(alloc, 2)?);
+    each(rt.alloc(), PUTS, is_put_case)
+}
+
+/// Whether a file is read as is wanted: its bytes, `longer` or an error.
+fn is_read(read: Result<FileRead, FolderError>, wanted: &str) -> bool {
+    let found = match &read {
+        Ok(FileRead::Whole(bytes)) => bytes.as_slice(),
+        Ok(FileRead::Longer) => b"longer".as_slice(),
+        Err(FolderError::Failed) => b"failed".as_slice(),
+        Err(FolderError::Memory) => b"memory".as_slice(),
+    };
+    found == wanted.as_bytes()
+}
+
+/// Whether a write is answered as is wanted: `done` or an error.
+fn is_written(written: Result<(), FolderError>, wanted: &str) -> bool {
+    let found = match written {
+        Ok(()) => "done",
+        Err(FolderError::Failed) => "failed",
+        Err(FolderError::Memory) => "memory",
+    };
+    found == wanted
+}
+
+/// Whether a folder answers a case so: `read | NAME | LIMIT | ANSWER` or `write | NAME | BYTES | ANSWER`.
+fn is_answered<F: Folder>(alloc: Global, folder: &mut F, case: &str) -> Result<bool, Memory> {
+    let name = Text::of(alloc, part(case, 1))?;
+    let (given, wanted) = (part(case, 2), part(case, 3));
+    let is_so = if part(case, 0) == "write" {
+        is_written(folder.write_file(alloc, &name, given.as_bytes()), wanted)
+    } else {
+        let limit = given.parse::<u64>().unwrap_or(0);
+        is_read(folder.read_file(alloc, &name, limit), wanted)
+    };
+    Ok(is_so)
+}
+
+/// Fails at the first of the cases that a folder doesn't answer so.
+fn answers<F: Folder>(alloc: Global, folder: &mut F, cases: &str) -> Result<(), Fail> {
+    for case in cases.split('\n') {
+        if !is_answered(alloc, folder, case)? {
+            return Err(Fail::new(case));
+        }
+    }
     Ok(())
 }
 
-/// Whether a read of a file within a limit gives this.
-fn reads<F: Folder>(
-    alloc: Global,
-    folder: &mut F,
-    name: &str,
-    limit: u64,
-    wanted: Result<Option<usize>, FolderError>,
-) -> bool {
-    match Text::of(alloc, name) {
-        Ok(name) => length_of(folder.read_file(alloc, &name, limit)) == wanted,
-        Err(_) => false,
-    }
-}
-
-/// A folder of one file whose call of this number fails.
-fn folder_of(alloc: Global, planned: u64) -> Result<MemoryFolder, Memory> {
-    Ok(MemoryFolder::new(one_file(alloc)?, failing_at(alloc, planned)?))
-}
-
-/// Whether of three reads of such a folder just that fails.
-fn reads_fail_at(alloc: Global, planned: u64) -> Result<bool, Memory> {
-    let mut folder = folder_of(alloc, planned)?;
-    for call in 0..3u64 {
-        let wanted = if call == planned {
-            Err(FolderError::Failed)
-        } else {
-            Ok(Some(5))
-        };
-        if !reads(alloc, &mut folder, "five", 5, wanted) {
-            return Ok(false);
-        }
-    }
-    Ok(is_send(&folder))
+/// Fails where a folder of one file, whose call of this number fails, doesn't answer so.
+fn answers_but(alloc: Global, planned: &str, cases: &str) -> Result<(), Fail> {
+    let files = one_file(alloc)?;
+    let mut folder = MemoryFolder::new(files, failing_at(alloc, planned)?);
+    is_send(&folder);
+    answers(alloc, &mut folder, cases)
 }
 
 #[test]
 fn planned_reads_fail(rt: HostRuntime) -> Result<(), Fail> {
-    let alloc = rt.alloc();
-    assert!(rt; reads_fail_at(alloc, 0)? && reads_fail_at(alloc, 1)? && reads_fail_at(alloc, 2)?);
-    Ok(())
-}
-
-/// Whether a write of a file is answered so.
-fn writes<F: Folder>(
-    alloc: Global,
-    folder: &mut F,
-    name: &str,
-    bytes: &[u8],
-    wanted: Result<(), FolderError>,
-) -> bool {
-    match Text::of(alloc, name) {
-        Ok(name) => folder.write_file(alloc, &name, bytes) == wanted,
-        Err(_) => false,
-    }
-}
-
-/// Whether the second of three writes of a folder fails, and the file is the third then.
-fn second_write_fails(alloc: Global, folder: &mut MemoryFolder) -> bool {
-    let failed = Err(FolderError::Failed);
-    writes(alloc, folder, "new", b"first", Ok(()))
-        && writes(alloc, folder, "new", b"second", failed)
-        && writes(alloc, folder, "new", b"third one", Ok(()))
-        && reads(alloc, folder, "new", 9, Ok(Some(9)))
+    answers_but(rt.alloc(), "0", FIRST_READ_FAILS)?;
+    answers_but(rt.alloc(), "1", SECOND_READ_FAILS)?;
+    answers_but(rt.alloc(), "2", THIRD_READ_FAILS)
 }
 
 #[test]
 fn planned_writes_fail(rt: HostRuntime) -> Result<(), Fail> {
-    assert!(rt; second_write_fails(rt.alloc(), &mut folder_of(rt.alloc(), 1)?));
-    Ok(())
+    answers_but(rt.alloc(), "1", SECOND_WRITE_FAILS)
 }
 
-/// Whether a folder has the file that was written last.
-fn keeps_the_last(alloc: Global, folder: &mut SteadyFolder) -> bool {
-    writes(alloc, folder, "five", b"three", Ok(()))
-        && writes(alloc, folder, "five", b"to", Ok(()))
-        && reads(alloc, folder, "five", 9, Ok(Some(2)))
+/// Fails where a steady folder of one file doesn't answer so.
+fn steady_answers(alloc: Global, cases: &str) -> Result<(), Fail> {
+    answers(alloc, &mut SteadyFolder::new(one_file(alloc)?), cases)
 }
 
 #[test]
 fn steady_folders_are_written(rt: HostRuntime) -> Result<(), Fail> {
-    let mut folder = SteadyFolder::new(one_file(rt.alloc())?);
-    assert!(rt; keeps_the_last(rt.alloc(), &mut folder));
-    Ok(())
+    steady_answers(rt.alloc(), LAST_IS_KEPT)
 }
 
-/// Whether a source of `abc` gives two bytes, then one, then none.
-fn gives_three(source: &mut SteadySource) -> bool {
-    let mut into = [0u8; 2];
-    source.take(&mut into) == Ok(2)
-        && into == *b"ab"
-        && source.take(&mut into) == Ok(1)
-        && source.take(&mut into) == Ok(0)
-}
-
-/// Whether a steady source does.
-fn source_works(alloc: Global) -> Result<bool, Memory> {
-    Ok(gives_three(&mut SteadySource::new(bytes_of(alloc, b"abc")?)))
-}
-
-/// Whether a sink has what is put.
-fn sink_works(alloc: Global) -> bool {
+/// Whether a steady sink has what is put.
+fn is_sunk(alloc: Global) -> bool {
     let mut sink = SteadySink::new(alloc);
-    sink.put(b"ab") == Ok(()) && sink.put(b"c") == Ok(()) && sink.bytes() == b"abc".as_slice()
-}
-
-/// Whether a folder of one file of five bytes is read within limits.
-fn five_are_read(alloc: Global, folder: &mut SteadyFolder) -> bool {
-    reads(alloc, folder, "five", 5, Ok(Some(5)))
-        && reads(alloc, folder, "five", 4, Ok(None))
-        && reads(alloc, folder, "none", 0, Ok(Some(0)))
-}
-
-/// Whether a steady folder is.
-fn folder_works(alloc: Global) -> Result<bool, Memory> {
-    Ok(five_are_read(alloc, &mut SteadyFolder::new(one_file(alloc)?)))
+    puts(&mut sink, "ab,c") && sink.bytes() == b"abc".as_slice()
 }
 
 #[test]
 fn steady_objects_work(rt: HostRuntime) -> Result<(), Fail> {
-    let alloc = rt.alloc();
-    assert!(rt; source_works(alloc)? && sink_works(alloc) && folder_works(alloc)?);
-    Ok(())
+    let source = SteadySource::new(bytes_of(rt.alloc(), b"abc")?);
+    assert!(rt; gives(source, 2, "ab,c,") && is_sunk(rt.alloc()));
+    steady_answers(rt.alloc(), FIVE_ARE_READ)
 }
 
 /// A reader and writer that is interrupted first, then moves a byte a call, and breaks at its fourth.
@@ -239,99 +267,64 @@ impl Write for Flaky {
     }
 }
 
-/// Whether takes go on where a stream is interrupted, until it breaks.
-fn takes_go_on() -> bool {
-    let mut source = ReaderSource::new(Flaky { calls: 0 });
-    let mut into = [0u8; 4];
-    source.take(&mut into) == Ok(1)
-        && source.take(&mut into) == Ok(1)
-        && source.take(&mut into) == Err(Failed)
-}
-
-/// Whether a put into such a stream is answered so.
-fn puts_flaky(bytes: &[u8], wanted: Result<(), SinkError>) -> bool {
-    let mut sink = WriterSink::new(Flaky { calls: 0 });
-    sink.put(bytes) == wanted
+/// Whether these are put so into such a stream.
+fn puts_flaky(pieces: &str) -> bool {
+    puts(&mut WriterSink::new(Flaky { calls: 0 }), pieces)
 }
 
 #[test]
 fn interrupted_streams_go_on(rt: HostRuntime) {
     assert!(rt;
-        takes_go_on() && puts_flaky(b"ab", Ok(())) && puts_flaky(b"abc", Err(SinkError::Failed))
+        gives(ReaderSource::new(Flaky { calls: 0 }), 4, "\0,\0,!")
+            && puts_flaky("ab")
+            && puts_flaky("!abc")
     );
 }
 
-/// Whether a source gives a stream's bytes.
-fn source_passes() -> bool {
-    let mut source = ReaderSource::new(b"abc".as_slice());
-    let mut into = [0u8; 4];
-    source.take(&mut into) == Ok(3) && into.starts_with(b"abc")
-}
-
 /// Whether a sink puts bytes into a stream.
-fn sink_passes(alloc: Global) -> bool {
+fn is_passed(alloc: Global) -> bool {
     let mut sink = WriterSink::new(Vec::new(alloc));
-    let all = sink.put(b"ab") == Ok(()) && sink.put(b"c") == Ok(());
-    all && sink.into_inner().as_slice() == b"abc".as_slice()
+    let is_so = puts(&mut sink, "ab,c");
+    let inner = sink.into_inner();
+    is_so && inner.as_slice() == b"abc".as_slice()
 }
 
 #[test]
 fn streams_pass_bytes_on(rt: HostRuntime) {
-    assert!(rt; source_passes());
-    assert!(rt; sink_passes(rt.alloc()));
-}
-
-/// Whether files of the system, one of them of five bytes, are read within limits.
-fn system_is_read<F: Folder>(alloc: Global, folder: &mut F) -> bool {
-    let failed = Err(FolderError::Failed);
-    reads(alloc, folder, "five_bytes", 5, Ok(Some(5)))
-        && reads(alloc, folder, "five_bytes", 6, Ok(Some(5)))
-        && reads(alloc, folder, "five_bytes", 4, Ok(None))
-        && reads(alloc, folder, "five_bytes", 0, Ok(None))
-        && reads(alloc, folder, "no_such_file", 5, failed)
-        // It never ends, so a read stops past the limit.
-        && reads(alloc, folder, "/dev/zero", 5, Ok(None))
+    assert!(rt; gives(ReaderSource::new(b"abc".as_slice()), 4, "abc") && is_passed(rt.alloc()));
 }
 
 #[test]
 fn system_files_are_read(rt: HostRuntime) -> Result<(), Fail> {
     fs::write(&rt, "five_bytes", "bytes")?;
-    assert!(rt; system_is_read(rt.alloc(), &mut SystemFolder::new(&rt, rt.alloc())));
+    answers(
+        rt.alloc(),
+        &mut SystemFolder::new(&rt, rt.alloc()),
+        SYSTEM_IS_READ,
+    )?;
     fs::remove_file(&rt, "five_bytes")?;
     Ok(())
 }
 
-/// Whether the file that is written has this text.
-fn holds<R: Files + AllocGlobal>(rt: &R, text: &str) -> io::Result<bool> {
-    let found = fs::read_to_string(rt, "written_bytes")?;
-    Ok(found.as_str() == text)
-}
-
-/// Whether a file is written.
-fn is_put<F: Folder>(alloc: Global, folder: &mut F, text: &str) -> bool {
-    writes(alloc, folder, "written_bytes", text.as_bytes(), Ok(()))
-}
-
-/// Whether a file is written, and written over, and none in a folder that isn't there.
-fn system_is_written<R: Files + AllocGlobal, F: Folder>(
+/// Fails where a folder doesn't answer so, or the file that is written hasn't this text then.
+fn puts_file<R: Files + AllocGlobal, F: Folder>(
     rt: &R,
     folder: &mut F,
-) -> io::Result<bool> {
-    let alloc = rt.alloc();
-    let failed = Err(FolderError::Failed);
-    Ok(
-        is_put(alloc, folder, "longer")
-            && holds(rt, "longer")?
-            && is_put(alloc, folder, "short")
-            && holds(rt, "short")?
-            && writes(alloc, folder, "no_such_folder/file", b"", failed),
-    )
+    cases: &str,
+    text: &str,
+) -> Result<(), Fail> {
+    answers(rt.alloc(), folder, cases)?;
+    if fs::read_to_string(rt, "written_bytes")?.as_str() == text {
+        return Ok(());
+    }
+    Err(Fail::new(cases))
 }
 
 #[test]
 fn system_files_are_written(rt: HostRuntime) -> Result<(), Fail> {
     let mut folder = SystemFolder::new(&rt, rt.alloc());
-    assert!(rt; system_is_written(&rt, &mut folder)?);
+    puts_file(&rt, &mut folder, IS_WRITTEN, "longer")?;
+    puts_file(&rt, &mut folder, IS_WRITTEN_OVER, "short")?;
     fs::remove_file(&rt, "written_bytes")?;
     Ok(())
 }

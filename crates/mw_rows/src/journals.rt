@@ -1,5 +1,5 @@
 use crate::cases::each;
-use mw_base::{Bytes, List};
+use mw_base::{Bytes, List, Memory};
 use mw_cases::part;
 use mw_disk::{DiskCall, DiskError, MadeCall, MemDisk};
 use mw_journal::{AppendError, Journal, JournalState, OpenError, create, open};
@@ -38,59 +38,129 @@ fn image(gate: u8) -> [u8; 62] {
     bytes
 }
 
-/// A disk of these bytes whose calls don't fail.
-fn disk_of(alloc: Global, bytes: &[u8]) -> Result<MemDisk, Fail> {
+/// A journal that is created or opened, and to which the record is appended.
+#[derive(Drop)]
+struct Case<'a> {
+    is_new: bool,
+    /// The bytes of its disk before.
+    start: &'a [u8],
+    /// The number of the call on its disk that fails.
+    failing: u64,
+    /// What each append is answered.
+    appends: &'a [Option<AppendError>],
+    /// The text that is read.
+    text: &'a [u8],
+    /// Its gate and its state in the end.
+    gate: u64,
+    state: JournalState,
+    /// The bytes of its disk in the end.
+    bytes: &'a [u8],
+    /// The last calls on its disk by their first letters; all calls on that of a new journal.
+    calls: &'a str,
+}
+
+/// A number that no call on a disk has.
+const NONE: u64 = u64::MAX;
+
+/// A disk of these bytes of whose calls this one fails.
+fn disk_of(alloc: Global, bytes: &[u8], failing: u64) -> Result<MemDisk, Memory> {
     let start = Bytes::from_vec(Vec::from_slice(alloc, bytes)?);
-    Ok(MemDisk::new(alloc, start, List::new(alloc))?)
+    let plan = vec![in alloc; (failing, DiskError::Failed)]?;
+    MemDisk::new(alloc, start, List::from_vec(plan))
 }
 
-/// The calls on a disk by their first letters.
-fn letters(alloc: Global, calls: &[MadeCall]) -> Result<String, Fail> {
-    let mut letters = String::new(alloc);
-    for made in calls {
-        letters.push(match made.call {
-            DiskCall::Read { .. } => 'r',
-            DiskCall::Write { .. } => 'w',
-            DiskCall::Cut { .. } => 'c',
-            DiskCall::Sync => 's',
-        })?;
-    }
-    Ok(letters)
-}
-
-/// Whether a disk has these bytes, and its calls end so.
-fn is_disk(alloc: Global, disk: &MemDisk, bytes: &[u8], calls: &str) -> Result<bool, Fail> {
-    let letters = letters(alloc, disk.calls())?;
-    Ok(disk.bytes() == bytes && letters.as_str().ends_with(calls))
-}
-
-fn created(alloc: Global, disk: MemDisk) -> Result<Journal<MemDisk>, Fail> {
-    match create(alloc, disk, &EMPTY) {
-        Ok(journal) => Ok(journal),
-        Err((_, error)) => Err(Fail::from(error)),
+/// A journal that is created on a disk, with no text, or the one that is opened, with its text; or why there is none.
+fn begun(
+    alloc: Global,
+    disk: MemDisk,
+    digest: &[u8; 32],
+    is_new: bool,
+) -> Result<(Journal<MemDisk>, Bytes), OpenError> {
+    if is_new {
+        match create(alloc, disk, digest) {
+            Ok(journal) => Ok((journal, Bytes::new(alloc))),
+            Err((_, error)) => Err(error),
+        }
+    } else {
+        match open(alloc, disk, digest) {
+            Ok(both) => Ok(both),
+            Err((_, error)) => Err(error),
+        }
     }
 }
 
-/// What an append of the record is answered.
-fn append(alloc: Global, journal: &mut Journal<MemDisk>) -> Result<Option<AppendError>, Fail> {
+/// Why no journal is created on a disk of these bytes, or none is opened.
+fn refusal(
+    alloc: Global,
+    bytes: &[u8],
+    digest: &[u8; 32],
+    is_new: bool,
+) -> Result<Option<OpenError>, Memory> {
+    let disk = disk_of(alloc, bytes, NONE)?;
+    Ok(begun(alloc, disk, digest, is_new).err())
+}
+
+/// Whether appends of the record are answered so.
+fn is_appended(
+    alloc: Global,
+    journal: &mut Journal<MemDisk>,
+    answers: &[Option<AppendError>],
+) -> Result<bool, Memory> {
     let body = Bytes::from_vec(Vec::from_slice(alloc, &BODY)?);
-    Ok(journal.append_batch(&body).err())
+    for answer in answers {
+        if journal.append_batch(&body).err() != *answer {
+            return Ok(false);
+        }
+    }
+    Ok(true)
 }
 
-/// The journal of these bytes, and its text.
-fn opened(alloc: Global, bytes: &[u8]) -> Result<(Journal<MemDisk>, Bytes), Fail> {
-    match open(alloc, disk_of(alloc, bytes)?, &EMPTY) {
-        Ok(both) => Ok(both),
-        Err((_, error)) => Err(Fail::from(error)),
+/// The first letter of a call on a disk.
+fn letter_of(made: &MadeCall) -> u8 {
+    match made.call {
+        DiskCall::Read { .. } => b'r',
+        DiskCall::Write { .. } => b'w',
+        DiskCall::Cut { .. } => b'c',
+        DiskCall::Sync => b's',
     }
 }
 
-/// Why these bytes aren't opened.
-fn refusal(alloc: Global, bytes: &[u8], digest: &[u8; 32]) -> Result<Option<OpenError>, Fail> {
-    match open(alloc, disk_of(alloc, bytes)?, digest) {
-        Ok(_) => Ok(None),
-        Err((_, error)) => Ok(Some(error)),
+/// Whether calls on a disk are these by their first letters, from some number on.
+fn are_calls(calls: &[MadeCall], before: usize, letters: &str) -> bool {
+    for (index, letter) in letters.bytes().enumerate() {
+        match calls.get(before.saturating_add(index)) {
+            Some(made) if letter_of(made) == letter => {}
+            _ => return false,
+        }
     }
+    true
+}
+
+/// Whether a disk is as a case says in the end.
+fn is_disk(disk: &MemDisk, case: &Case) -> bool {
+    let count = case.calls.len();
+    let before = disk.calls().len().saturating_sub(count);
+    disk.bytes() == case.bytes
+        && are_calls(disk.calls(), before, case.calls)
+        && (before == 0 || !case.is_new)
+}
+
+/// Whether a journal is as a case says in the end.
+fn is_left(journal: Journal<MemDisk>, case: &Case) -> bool {
+    let is_so = journal.gate() == case.gate && journal.state() == case.state;
+    is_disk(&journal.into_disk(), case) && is_so
+}
+
+/// Fails where a case isn't so.
+fn holds(alloc: Global, case: &Case) -> Result<(), Fail> {
+    let disk = disk_of(alloc, case.start, case.failing)?;
+    let (mut journal, text) = begun(alloc, disk, &EMPTY, case.is_new)?;
+    let is_appended = is_appended(alloc, &mut journal, case.appends) == Ok(true);
+    let is_left = is_left(journal, case);
+    if is_appended && is_left && text.as_slice() == case.text {
+        return Ok(());
+    }
+    Err(Fail::new(case.calls))
 }
 
 #[test]
@@ -99,72 +169,74 @@ fn no_bytes_have_their_digest(rt: HostRuntime) {
     assert!(rt; found == EMPTY);
 }
 
-/// A new journal on an empty disk.
-fn new_journal(alloc: Global) -> Result<Journal<MemDisk>, Fail> {
-    created(alloc, disk_of(alloc, b"")?)
-}
-
-/// Whether such a journal has its bytes.
-fn is_created(alloc: Global) -> Result<bool, Fail> {
-    is_disk(alloc, &new_journal(alloc)?.into_disk(), &NEW, "rws")
-}
-
 #[test]
 fn a_journal_is_created(rt: HostRuntime) -> Result<(), Fail> {
-    assert!(rt; is_created(rt.alloc())?);
-    Ok(())
-}
-
-/// Why no journal is created on a disk of these bytes.
-fn creation_refusal(alloc: Global, bytes: &[u8]) -> Result<Option<OpenError>, Fail> {
-    match create(alloc, disk_of(alloc, bytes)?, &EMPTY) {
-        Ok(_) => Ok(None),
-        Err((_, error)) => Ok(Some(error)),
-    }
+    let case = Case {
+        is_new: true,
+        start: b"",
+        failing: NONE,
+        appends: &[],
+        text: b"",
+        gate: 40,
+        state: JournalState::Whole,
+        bytes: &NEW,
+        calls: "rws",
+    };
+    holds(rt.alloc(), &case)
 }
 
 #[test]
-fn a_journal_is_created_once(rt: HostRuntime) -> Result<(), Fail> {
-    assert!(rt; creation_refusal(rt.alloc(), &NEW)? == Some(OpenError::NotEmpty));
-    Ok(())
-}
-
-/// Whether the record is appended to a new journal by two writes, each of them synced.
-fn is_two_writes(alloc: Global, mut journal: Journal<MemDisk>) -> Result<bool, Fail> {
-    let error = append(alloc, &mut journal)?;
-    let appended = error.is_none() && journal.gate() == 61;
-    Ok(is_disk(alloc, &journal.into_disk(), &ONE, "rwswsws")? && appended)
+fn a_journal_is_created_once(rt: HostRuntime) {
+    let error = refusal(rt.alloc(), &NEW, &EMPTY, true);
+    assert!(rt; error == Ok(Some(OpenError::NotEmpty)));
 }
 
 #[test]
 fn a_batch_is_two_writes(rt: HostRuntime) -> Result<(), Fail> {
-    let journal = new_journal(rt.alloc())?;
-    assert!(rt; is_two_writes(rt.alloc(), journal)?);
-    Ok(())
+    let case = Case {
+        is_new: true,
+        start: b"",
+        failing: NONE,
+        appends: &[None],
+        text: b"",
+        gate: 61,
+        state: JournalState::Whole,
+        bytes: &ONE,
+        calls: "rwswsws",
+    };
+    holds(rt.alloc(), &case)
 }
 
 #[test]
 fn a_batch_is_read_again(rt: HostRuntime) -> Result<(), Fail> {
-    let (journal, text) = opened(rt.alloc(), &ONE)?;
-    assert!(rt;
-        text.as_slice() == BODY.as_slice()
-            && journal.state() == JournalState::Whole
-            && journal.gate() == 61
-    );
-    Ok(())
-}
-
-/// Whether a journal whose first gate is torn is opened with no text, and its gate shut.
-fn is_shut(alloc: Global) -> Result<bool, Fail> {
-    let (journal, text) = opened(alloc, &image(7))?;
-    let without_text = text.as_slice().is_empty() && journal.gate() == 40;
-    Ok(is_disk(alloc, &journal.into_disk(), &image(0), "ws")? && without_text)
+    let case = Case {
+        is_new: false,
+        start: &ONE,
+        failing: NONE,
+        appends: &[],
+        text: &BODY,
+        gate: 61,
+        state: JournalState::Whole,
+        bytes: &ONE,
+        calls: "",
+    };
+    holds(rt.alloc(), &case)
 }
 
 #[test]
 fn a_torn_gate_is_shut(rt: HostRuntime) -> Result<(), Fail> {
-    assert!(rt; is_shut(rt.alloc())?);
-    Ok(())
+    let case = Case {
+        is_new: false,
+        start: &image(7),
+        failing: NONE,
+        appends: &[],
+        text: b"",
+        gate: 40,
+        state: JournalState::Whole,
+        bytes: &image(0),
+        calls: "ws",
+    };
+    holds(rt.alloc(), &case)
 }
 
 /// How many bytes a journal of one record is cut to, and where it isn't one then.
@@ -179,18 +251,12 @@ const CUT_CASES: &str = "0 | 0
 60 | 45
 61 | 61";
 
-/// Why a journal of one record that is cut to so many bytes isn't opened.
-fn refusal_cut(alloc: Global, count: usize) -> Result<Option<OpenError>, Fail> {
-    let mut bytes = Vec::from_slice(alloc, &ONE)?;
-    bytes.truncate(count);
-    refusal(alloc, bytes.as_slice(), &EMPTY)
-}
-
 /// Whether a case of a cut is so.
 fn is_cut_case(alloc: Global, case: &str) -> Result<bool, Fail> {
-    let error = refusal_cut(alloc, part(case, 0).parse::<usize>()?)?;
+    let count = part(case, 0).parse::<usize>()?;
     let at = part(case, 1).parse::<u64>()?;
-    Ok(error == Some(OpenError::NotJournal { at }))
+    let error = refusal(alloc, &ONE[..count.min(62)], &EMPTY, false);
+    Ok(error == Ok(Some(OpenError::NotJournal { at })))
 }
 
 #[test]
@@ -199,40 +265,24 @@ fn a_journal_that_is_cut_is_none(rt: HostRuntime) -> Result<(), Fail> {
 }
 
 #[test]
-fn a_journal_is_of_its_seed(rt: HostRuntime) -> Result<(), Fail> {
-    let error = refusal(rt.alloc(), &NEW, &[7; 32])?;
-    assert!(rt; error == Some(OpenError::OtherSeed { found: EMPTY }));
-    Ok(())
-}
-
-/// A new journal whose next sync fails.
-fn journal_to_fail(alloc: Global) -> Result<Journal<MemDisk>, Fail> {
-    let failing = List::from_vec(vec![in alloc; (4, DiskError::Failed)]?);
-    let disk = MemDisk::new(alloc, Bytes::from_vec(Vec::new(alloc)), failing)?;
-    created(alloc, disk)
-}
-
-/// Whether a journal fails at the first of two appends, and stays so.
-fn stays_failed(alloc: Global, journal: &mut Journal<MemDisk>) -> Result<bool, Fail> {
-    let first = append(alloc, journal)?;
-    let second = append(alloc, journal)?;
-    Ok(
-        first == Some(AppendError::DiskFault)
-            && second == first
-            && journal.state() == JournalState::Faulted,
-    )
-}
-
-/// Whether that is so, and these are all the calls on its disk.
-fn is_ended(alloc: Global, mut journal: Journal<MemDisk>, calls: &str) -> Result<bool, Fail> {
-    let failed = stays_failed(alloc, &mut journal)?;
-    let letters = letters(alloc, journal.into_disk().calls())?;
-    Ok(failed && letters.as_str() == calls)
+fn a_journal_is_of_its_seed(rt: HostRuntime) {
+    let error = refusal(rt.alloc(), &NEW, &[7; 32], false);
+    assert!(rt; error == Ok(Some(OpenError::OtherSeed { found: EMPTY })));
 }
 
 #[test]
 fn a_failed_sync_ends_a_journal(rt: HostRuntime) -> Result<(), Fail> {
-    let journal = journal_to_fail(rt.alloc())?;
-    assert!(rt; is_ended(rt.alloc(), journal, "rwsws")?);
-    Ok(())
+    let failed = Some(AppendError::DiskFault);
+    let case = Case {
+        is_new: true,
+        start: b"",
+        failing: 4,
+        appends: &[failed, failed],
+        text: b"",
+        gate: 40,
+        state: JournalState::Faulted,
+        bytes: &image(0),
+        calls: "rwsws",
+    };
+    holds(rt.alloc(), &case)
 }

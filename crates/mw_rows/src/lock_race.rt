@@ -9,41 +9,28 @@ use std::thread;
 use std::thread::join;
 use std::time::{Clock, Duration};
 
-// Adds 1 until the total is more than its own calls, and so has a call of the other. Gives how many calls it made, 0
-// where 10,000 turns pass before.
-fn see_the_other<R: Wait + Clock>(
-    rt: &R,
-    lock: &RoomLock<Sum>,
-    mut pass: Pass<Sum>,
-) -> (u64, Pass<Sum>)
-    requires { pass.lock ≡ lock.now }
-    ensures { result.1.lock ≡ pass.lock }
-{
-    for turn in 1..=10_000u64 {
-        if lock.act(rt, &mut pass, 1) > turn {
-            return (turn, pass);
-        }
-        thread::sleep(rt, Duration::from_micros(100));
-    }
-    (0, pass)
-}
-
-// One of the two: it sees the other, and then adds the number some times.
+/// One of the two: it adds 1 until the total is more than its own calls, and so has a call of the other, and then adds
+/// the number some times. Gives how many calls it made before, 0 where 10,000 turns pass and the other isn't seen.
 fn see_and_add<R: Wait + Clock>(
     rt: &R,
     lock: &RoomLock<Sum>,
-    pass: Pass<Sum>,
+    mut pass: Pass<Sum>,
     number: u64,
     times: u32,
 ) -> (u64, Pass<Sum>)
     requires { pass.lock ≡ lock.now }
     ensures { result.1.lock ≡ pass.lock }
 {
-    let (turns, pass) = see_the_other(rt, lock, pass);
-    (turns, add(rt, lock, pass, number, times))
+    for turn in 1..=10_000u64 {
+        if lock.act(rt, &mut pass, 1) > turn {
+            return (turn, add(rt, lock, pass, number, times));
+        }
+        thread::sleep(rt, Duration::from_micros(100));
+    }
+    (0, pass)
 }
 
-// The total in the end. The lock isn't closed while one of its two passes is out, and is once that was met.
+/// The total in the end. The lock isn't closed while one of its two passes is out, and is once that was met.
 fn total_of(lock: RoomLock<Sum>, first: Pass<Sum>, second: Pass<Sum>) -> Result<u64, Fail>
     requires { (first.lock ≡ lock) × (second.lock ≡ lock) }
 {
@@ -66,7 +53,9 @@ fn two_threads_see_each_other_and_add_to_one_sum(rt: HostRuntime) -> Result<(), 
     let Ok((lock, mut first)) = RoomLock::open(rt.alloc(), Sum::from(0)) else {
         panic!(rt; "no memory")
     };
-    let second = lock.split(&rt, &mut first)?;
+    let Ok(second) = lock.split(&rt, &mut first) else {
+        panic!(rt; "no memory")
+    };
     let (near, far) = join(
         &rt,
         || -> (u64, Pass<Sum>)
@@ -80,8 +69,7 @@ fn two_threads_see_each_other_and_add_to_one_sum(rt: HostRuntime) -> Result<(), 
     );
     let (saw, first) = near;
     let (seen, second) = far;
-    assert!(rt; saw > 0 && seen > 0);
     let total = total_of(lock, first, second)?;
-    assert!(rt; total == saw.wrapping_add(seen).wrapping_add(550));
+    assert!(rt; saw > 0 && seen > 0 && total == saw.wrapping_add(seen).wrapping_add(550));
     Ok(())
 }

@@ -43,7 +43,7 @@ impl Stands for Sum {
     }
 }
 
-// One worker: it adds the number some times.
+/// One worker: it adds the number some times.
 pub(crate) fn add<R: Wait>(
     rt: &R,
     lock: &RoomLock<Sum>,

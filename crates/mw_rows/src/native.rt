@@ -8,7 +8,7 @@ ghost use Rattle.mw_native.specs.Told.{IsNamed};
 use crate::joints::joint_of;
 use mw_base::{List, Memory};
 use mw_fill::{Seed, generate, generate_by};
-use mw_multi::{Joint, Players, Put, TreeRules, World};
+use mw_multi::{Joint, Put, TreeRules, World};
 use mw_native::{Pair, Told};
 use mw_rules::{Named, Rule};
 use mw_tables::{read_players, read_world};
@@ -43,8 +43,7 @@ fn nothing(alloc: Global) -> Named
 fn first_item(alloc: Global) -> Result<Named, Memory>
     ensures { IfOk result (IsNamed (has 0 1)) }
 {
-    let mut items = List::new(alloc);
-    items.push(0)?;
+    let items = List::from_vec(vec![in alloc; 0]?);
     let places = List::new(alloc);
     Ok(Named { items, places })
 }
@@ -54,11 +53,10 @@ fn sword_names(alloc: Global) -> Result<List<Named>, Memory>
     ensures names { IfOk result (AllZip IsNamed (always ∷ has 0 1 ∷ has 0 1 ∷ [])) }
     ensures three { IfOk result (λ named. length named ≡ 3) }
 {
-    let mut named = List::new(alloc);
-    named.push(nothing(alloc))?;
-    named.push(first_item(alloc)?)?;
-    named.push(first_item(alloc)?)?;
-    Ok(named)
+    let second = first_item(alloc)?;
+    let goal = first_item(alloc)?;
+    let named = vec![in alloc; nothing(alloc), second, goal]?;
+    Ok(List::from_vec(named))
 }
 
 /// Whether it is the rule that always holds.
@@ -197,33 +195,22 @@ fn is_sword_first(placement: &[Put]) -> bool {
     placement == [sword, coin].as_slice()
 }
 
-/// Whether that is so of a seed of Ann's alone.
-fn puts_sword_first(alloc: Global, joint: &Joint, seed: u64) -> Result<bool, Fail> {
-    let found = seed_by_closure(alloc, joint, seed)?;
-    Ok(is_sword_first(found.placement.as_slice()))
-}
-
-/// Whether that is so of each of ten seeds.
-fn put_sword_first(alloc: Global, joint: &Joint) -> Result<bool, Fail> {
+/// Fails at the first of ten seeds of which that isn't so.
+fn put_sword_first(alloc: Global, joint: &Joint) -> Result<(), Fail> {
     for seed in 0..10 {
-        if !puts_sword_first(alloc, joint, seed)? {
-            return Ok(false);
+        let found = seed_by_closure(alloc, joint, seed)?;
+        if !is_sword_first(found.placement.as_slice()) {
+            return Err(Fail::new(seed));
         }
     }
-    Ok(true)
-}
-
-/// Whether it is of the players of this file.
-fn are_sword_first(alloc: Global, players: &Players) -> Result<bool, Fail> {
-    let worlds = world_of(alloc, SWORDS)?;
-    put_sword_first(alloc, &joint_of(alloc, &worlds, players)?)
+    Ok(())
 }
 
 #[test]
 fn a_closure_answers_the_rules_of_one_sword(rt: HostRuntime) -> Result<(), Fail> {
     let players = read_players(rt.alloc(), ANN.as_bytes())?;
-    assert!(rt; are_sword_first(rt.alloc(), &players)?);
-    Ok(())
+    let worlds = world_of(rt.alloc(), SWORDS)?;
+    put_sword_first(rt.alloc(), &joint_of(rt.alloc(), &worlds, &players)?)
 }
 
 /// Whether a seed of both by the closure and trees is that by the trees of both.
@@ -236,32 +223,26 @@ fn is_by_trees(alloc: Global, joint: &Joint, keys: &Joint, seed: u64) -> Result<
     )
 }
 
-/// Whether that is so of each of ten seeds.
-fn each_is_by_trees(alloc: Global, joint: &Joint, keys: &Joint) -> Result<bool, Fail> {
+/// Fails at the first of ten seeds of which that isn't so.
+fn each_is_by_trees(alloc: Global, joint: &Joint, keys: &Joint) -> Result<(), Fail> {
     for seed in 0..10 {
         if !is_by_trees(alloc, joint, keys, seed)? {
-            return Ok(false);
+            return Err(Fail::new(seed));
         }
     }
-    Ok(true)
+    Ok(())
 }
 
-/// Whether it is, where the keys are Bob's alone.
-fn is_by_trees_of(alloc: Global, joint: &Joint, bob: &Players) -> Result<bool, Fail> {
+/// Fails where that isn't so with the keys of Bob alone.
+fn are_by_trees(alloc: Global, joint: &Joint) -> Result<(), Fail> {
+    let players = read_players(alloc, BOB.as_bytes())?;
     let worlds = world_of(alloc, KEYS)?;
-    each_is_by_trees(alloc, joint, &joint_of(alloc, &worlds, bob)?)
-}
-
-/// Whether it is of the players of this file.
-fn are_by_trees(alloc: Global, players: &Players) -> Result<bool, Fail> {
-    let bob = read_players(alloc, BOB.as_bytes())?;
-    let worlds = both_worlds(alloc)?;
-    is_by_trees_of(alloc, &joint_of(alloc, &worlds, players)?, &bob)
+    each_is_by_trees(alloc, joint, &joint_of(alloc, &worlds, &players)?)
 }
 
 #[test]
 fn a_closure_and_trees_answer_as_the_trees_of_both(rt: HostRuntime) -> Result<(), Fail> {
     let players = read_players(rt.alloc(), BOTH.as_bytes())?;
-    assert!(rt; are_by_trees(rt.alloc(), &players)?);
-    Ok(())
+    let worlds = both_worlds(rt.alloc())?;
+    are_by_trees(rt.alloc(), &joint_of(rt.alloc(), &worlds, &players)?)
 }

@@ -3,7 +3,7 @@ ghost use Rattle.mw_reach.specs.Reached.{IsBagFor, IsMadeFor, KeepsRules};
 
 use mw_base::{List, Memory};
 use mw_fill::{FillError, GenerateError, Seed, Words, draw};
-use mw_multi::{Bag, Class, Joint, LocKind, Placed, Placement, Put, Slot, World};
+use mw_multi::{Bag, Class, Joint, LocKind, Placed, Placement, Put, Slot};
 use mw_reach::{Reached, reach, unmet_goal};
 use std::alloc::Global;
 
@@ -14,33 +14,27 @@ struct Piece {
     item: u32,
     /// The item's number over all slots.
     number: u32,
-    /// Whether it stays in its receiver's world.
-    local: bool,
-    /// Whether it stands in other worlds, if it isn't local.
-    abroad: bool,
+    class: Class,
+    /// Whether it may stand in its receiver's world.
+    home: bool,
+    /// Whether it may stand in other worlds.
+    away: bool,
 }
 
 /// A location with an id.
-#[derive(Clone, Copy)]
+#[derive(Drop)]
 struct Opening {
-    place: u32,
     slot: u16,
-    filler: u32,
     kind: LocKind,
+    /// What stands there: a filler of the slot where no copy is put.
+    stands: Put,
+    /// The number over all slots of the copy that is put there.
+    number: Option<u32>,
 }
 
-/// A copy at its place.
-#[derive(Clone, Copy)]
-struct Held {
-    place: u32,
-    piece: Piece,
-}
-
-/// The kinds of locations that progression and useful items stand at, in their order.
-const REGULAR: [LocKind; 2] = [LocKind::Priority, LocKind::Default];
-
-/// The kinds that other items stand at.
-const ALL: [LocKind; 3] = [LocKind::Excluded, LocKind::Priority, LocKind::Default];
+/// The kinds of locations in the order in which fillers and traps stand at them. Other items stand at none of the first
+/// kind.
+const KINDS: [LocKind; 3] = [LocKind::Excluded, LocKind::Priority, LocKind::Default];
 
 /// All classes.
 const CLASSES: [Class; 4] = [
@@ -51,96 +45,84 @@ const CLASSES: [Class; 4] = [
 ];
 
 /// The flag at an index, false past the end.
-fn is_set(flags: &[bool], index: usize) -> bool {
+fn is_set(flags: &List<bool>, index: usize) -> bool {
     flags.get(index) == Some(&true)
 }
 
-/// A copy of an item of a slot; `many` says whether there are other slots.
-fn piece_of(slot: &Slot, receiver: u16, many: bool, item: u32) -> Piece {
-    Piece {
-        receiver,
-        item,
-        number: slot.first_item.saturating_add(item),
-        local: is_set(slot.local_items.as_slice(), item as usize),
-        abroad: many && is_set(slot.non_local_items.as_slice(), item as usize),
-    }
-}
-
-/// Whether an item is of one of the classes.
-fn is_of(world: &World, item: u32, classes: &[Class]) -> bool {
-    match world.items.as_slice().get(item as usize) {
-        Some(found) => classes.contains(&found.class),
-        None => false,
-    }
-}
-
-/// Adds the copies of a slot's pool that are of the classes.
-fn push_pieces(
-    pieces: &mut Vec<Piece>,
-    slot: &Slot,
-    receiver: u16,
-    many: bool,
-    classes: &[Class],
-) -> Result<(), Memory> {
+/// Adds the copies of a slot's pool that are of the classes; `many` says whether there are other slots. Where memory
+/// runs out some are left out, here and below, so that the fill's answer is another one.
+fn push_pieces(pieces: &mut Vec<Piece>, slot: &Slot, receiver: u16, many: bool, classes: &[Class]) {
     let world = slot.world;
     for entry in world.pool.as_slice() {
-        if is_of(world, entry.item, classes) {
-            for _ in 0..entry.count {
-                pieces.push(piece_of(slot, receiver, many, entry.item))?;
+        let index = entry.item as usize;
+        let local = is_set(&slot.local_items, index);
+        let abroad = is_set(&slot.non_local_items, index);
+        if let Some(found) = world.items.get(index) {
+            let piece = Piece {
+                receiver,
+                item: entry.item,
+                number: slot.first_item.saturating_add(entry.item),
+                class: found.class,
+                home: local || !many || !abroad,
+                away: !local,
+            };
+            if classes.contains(&piece.class) {
+                let count = pieces.len().saturating_add(entry.count as usize);
+                let _ = pieces.resize(count, piece);
             }
         }
     }
-    Ok(())
 }
 
-/// The copies of the classes, by slot, pool entry and copy.
-fn pieces_of(alloc: Global, joint: &Joint, classes: &[Class]) -> Result<Vec<Piece>, Memory> {
+/// Adds the copies of the classes, by slot, pool entry and copy, put into the order that the next words give.
+fn push_shuffled(pieces: &mut Vec<Piece>, joint: &Joint, words: &mut Words, classes: &[Class]) {
     let slots = joint.slots.as_slice();
-    let many = slots.len() > 1;
-    let mut pieces = Vec::new(alloc);
+    let count = pieces.len();
     for (before, slot) in slots.iter().enumerate() {
-        push_pieces(&mut pieces, slot, before as u16 + 1, many, classes)?;
+        push_pieces(pieces, slot, before as u16 + 1, slots.len() > 1, classes);
     }
-    Ok(pieces)
+    let first = count.min(pieces.len());
+    shuffle_entries(words, &mut pieces.as_mut_slice()[first..]);
 }
 
 /// The kind of a slot's location.
 fn kind_of(slot: &Slot, index: usize, kind: LocKind) -> LocKind {
-    let exclude = is_set(slot.exclude_locations.as_slice(), index);
-    let priority = is_set(slot.priority_locations.as_slice(), index);
-    match kind {
-        LocKind::Excluded => LocKind::Excluded,
-        _ if exclude => LocKind::Excluded,
-        LocKind::Priority => LocKind::Priority,
-        _ if priority => LocKind::Priority,
-        LocKind::Default => LocKind::Default,
+    if kind == LocKind::Excluded || is_set(&slot.exclude_locations, index) {
+        LocKind::Excluded
+    } else if is_set(&slot.priority_locations, index) {
+        LocKind::Priority
+    } else {
+        kind
     }
 }
 
 /// Adds the locations of a slot that have an id.
-fn push_openings(openings: &mut Vec<Opening>, slot: &Slot, number: u16) -> Result<(), Memory> {
+fn push_openings(openings: &mut Vec<Opening>, slot: &Slot, number: u16) {
     let world = slot.world;
     let first = slot.first_place.saturating_add(world.regions.len() as u32);
     for (index, location) in world.locations.as_slice().iter().enumerate() {
         if location.id.is_some() {
-            openings.push(Opening {
-                place: first.saturating_add(index as u32),
+            let _ = openings.push(Opening {
                 slot: number,
-                filler: world.filler,
                 kind: kind_of(slot, index, location.kind),
-            })?;
+                stands: Put {
+                    place: first.saturating_add(index as u32),
+                    receiver: number,
+                    item: world.filler,
+                },
+                number: None,
+            });
         }
     }
-    Ok(())
 }
 
 /// The locations with an id, by slot and table order.
-fn openings_of(alloc: Global, joint: &Joint) -> Result<Vec<Opening>, Memory> {
+fn openings_of(alloc: Global, joint: &Joint) -> Vec<Opening> {
     let mut openings = Vec::new(alloc);
     for (before, slot) in joint.slots.as_slice().iter().enumerate() {
-        push_openings(&mut openings, slot, before as u16 + 1)?;
+        push_openings(&mut openings, slot, before as u16 + 1);
     }
-    Ok(openings)
+    openings
 }
 
 /// Puts entries into the order that the next words give.
@@ -153,124 +135,76 @@ fn shuffle_entries<T>(words: &mut Words, entries: &mut [T]) {
     }
 }
 
-/// The copies of the classes, in the order that the next words give.
-fn shuffled(
-    alloc: Global,
-    joint: &Joint,
-    words: &mut Words,
-    classes: &[Class],
-) -> Result<Vec<Piece>, Memory> {
-    let mut pieces = pieces_of(alloc, joint, classes)?;
-    shuffle_entries(words, pieces.as_mut_slice());
-    Ok(pieces)
-}
-
-/// Whether a location takes a copy.
-fn accepts(opening: &Opening, piece: &Piece) -> bool {
-    let own = piece.receiver == opening.slot;
-    if piece.local {
-        own
-    } else {
-        !own || !piece.abroad
-    }
-}
-
-/// What is held at a place.
-fn held_at(held: &[Held], place: u32) -> Option<Piece> {
-    for entry in held {
-        if entry.place == place {
-            return Some(entry.piece);
-        }
-    }
-    None
-}
-
-/// Whether a place is in the list, where there is one.
-fn is_reached(reached: Option<&Reached>, place: u32) -> bool {
-    match reached {
-        Some(list) => list.has(place),
-        None => true,
-    }
-}
-
 /// Whether a location is free, takes the copy, and is in the list where there is one.
-fn fits(opening: &Opening, piece: &Piece, held: &[Held], reached: Option<&Reached>) -> bool {
-    let place = opening.place;
-    held_at(held, place).is_none() && accepts(opening, piece) && is_reached(reached, place)
+fn fits(opening: &Opening, piece: &Piece, reached: Option<&Reached>) -> bool {
+    let accepts = if piece.receiver == opening.slot {
+        piece.home
+    } else {
+        piece.away
+    };
+    let is_in = match reached {
+        Some(list) => list.has(opening.stands.place),
+        None => true,
+    };
+    accepts && is_in && opening.number.is_none()
 }
 
-/// The place of the first location of these kinds that fits.
-fn first_fit(
+/// Puts a copy at the first location that fits, by kind and then by order.
+fn put(
+    openings: &mut [Opening],
     piece: &Piece,
-    places: &[Opening],
-    kinds: &[LocKind],
-    held: &[Held],
     reached: Option<&Reached>,
-) -> Option<u32> {
-    for kind in kinds {
-        for opening in places {
-            if opening.kind == *kind && fits(opening, piece, held, reached) {
-                return Some(opening.place);
+) -> Result<(), FillError> {
+    let first = match piece.class {
+        Class::Filler | Class::Trap => 0,
+        _ => 1,
+    };
+    for kind in &KINDS[first..] {
+        for opening in openings.iter_mut() {
+            if opening.kind == *kind && fits(opening, piece, reached) {
+                opening.stands.receiver = piece.receiver;
+                opening.stands.item = piece.item;
+                opening.number = Some(piece.number);
+                return Ok(());
             }
         }
     }
-    None
+    Err(FillError::Stuck {
+        slot: piece.receiver,
+        item: piece.item,
+    })
 }
 
-/// Puts a copy there.
-fn put(
-    held: &mut List<Held>,
-    piece: &Piece,
-    places: &[Opening],
-    kinds: &[LocKind],
-    reached: Option<&Reached>,
-) -> Result<(), FillError> {
-    match first_fit(piece, places, kinds, held.as_slice(), reached) {
-        Some(place) => Ok(held.push(Held {
-            place,
-            piece: *piece,
-        })?),
-        None => Err(FillError::Stuck {
-            slot: piece.receiver,
-            item: piece.item,
-        }),
-    }
-}
-
-/// One more of an item, where that is an item's number.
-fn add(bag: &mut Bag, number: u32)
+/// One less of an item, where there is one; none of `u32::MAX`, which is no item's number.
+fn take(bag: &mut Bag, number: u32)
     ensures { length bag.new ≡ length bag.old }
 {
-    if (number as usize) < bag.as_slice().len() && bag.count(number) < 1_000_000 {
-        bag.add(number, 1);
+    if (number as usize) < bag.as_slice().len() && bag.count(number) > 0 {
+        bag.take_one(number);
     }
 }
 
-/// The starting items, the copies that are still to be put, and those that lie at places of the list.
-fn in_hand(
-    alloc: Global,
-    joint: &Joint,
-    later: &[Piece],
-    held: &[Held],
-    reached: &Reached,
-) -> Result<Bag, Memory>
-    ensures { IfOk result (IsBagFor joint.now) }
+/// Takes out what lies at places that aren't in the list.
+fn take_unreached(bag: &mut Bag, openings: &[Opening], reached: &Reached)
+    ensures { length bag.new ≡ length bag.old }
 {
-    let mut bag = Bag::starting(alloc, joint)?;
-    for piece in later {
-        add(&mut bag, piece.number);
-    }
-    for entry in held {
-        if reached.has(entry.place) {
-            add(&mut bag, entry.piece.number);
+    for opening in openings {
+        if let Some(number) = opening.number {
+            if !reached.has(opening.stands.place) {
+                take(bag, number);
+            }
         }
     }
-    Ok(bag)
 }
 
-/// Makes the list the least one for a bag and the events.
-fn reach_with(alloc: Global, joint: &Joint, bag: &Bag, reached: &mut Reached) -> Result<(), Memory>
-    requires bag { IsBagFor joint.now bag.now }
+/// Makes the list anew with everything but a copy of an item, and what lies at places that aren't in it yet.
+fn collect(
+    alloc: Global,
+    joint: &Joint,
+    but: u32,
+    openings: &[Opening],
+    reached: &mut Reached,
+) -> Result<(), Memory>
     requires made { IsMadeFor joint.now reached.old }
     requires rules { KeepsRules joint.now reached.old }
     ensures made { IsMadeFor joint.now reached.new }
@@ -279,142 +213,62 @@ fn reach_with(alloc: Global, joint: &Joint, bag: &Bag, reached: &mut Reached) ->
     // Reading the joint makes known what its type keeps.
     let _ = &joint.slots;
     let placed = Placed::events(alloc, joint)?;
-    reach(joint, bag, &placed, reached);
+    let mut bag = Bag::everything(alloc, joint)?;
+    take_unreached(&mut bag, openings, reached);
+    take(&mut bag, but);
+    reach(joint, &bag, &placed, reached);
     Ok(())
 }
 
-/// How many of the copies lie at places of the list.
-fn found_in(reached: &Reached, held: &[Held]) -> usize {
-    let mut found = 0usize;
-    for entry in held {
-        if reached.has(entry.place) {
-            found = found.saturating_add(1);
-        }
-    }
-    found
-}
-
-/// Makes the list anew with what is in hand by it, and answers whether more is found then.
-fn collect(
-    alloc: Global,
-    joint: &Joint,
-    later: &[Piece],
-    held: &[Held],
-    reached: &mut Reached,
-) -> Result<bool, Memory>
-    requires made { IsMadeFor joint.now reached.old }
-    requires rules { KeepsRules joint.now reached.old }
-    ensures made { IsMadeFor joint.now reached.new }
-    ensures rules { KeepsRules joint.now reached.new }
-{
-    let before = found_in(reached, held);
-    let bag = in_hand(alloc, joint, later, held, reached)?;
-    reach_with(alloc, joint, &bag, reached)?;
-    Ok(found_in(reached, held) > before)
-}
-
-/// The least list with these copies in hand, and with what is held where it lies: that is collected until nothing more is
-/// found, which takes at most a round for each copy, and one more.
+/// The least list with everything but a copy of an item, and with what is put where it lies: that is collected until
+/// nothing more is found, which takes at most a round for each copy that is put, and one more.
 fn reached_with(
     alloc: Global,
     joint: &Joint,
-    later: &[Piece],
-    held: &[Held],
+    but: u32,
+    openings: &[Opening],
+    put: usize,
 ) -> Result<Reached, Memory>
     ensures made { IfOk result (IsMadeFor joint.now) }
     ensures rules { IfOk result (KeepsRules joint.now) }
 {
     let mut reached = Reached::new(alloc, joint)?;
-    let mut more = true;
-    for _ in 0..=held.len() {
-        if more {
-            more = collect(alloc, joint, later, held, &mut reached)?;
-        }
+    for _ in 0..=put {
+        collect(alloc, joint, but, openings, &mut reached)?;
     }
     Ok(reached)
 }
 
-/// Puts each of the copies that rules ask for where it is reached with the later ones in hand.
-fn place_asked(
-    alloc: Global,
-    joint: &Joint,
-    held: &mut List<Held>,
-    pieces: &[Piece],
-    places: &[Opening],
-) -> Result<(), FillError> {
-    for (index, piece) in pieces.iter().enumerate() {
-        let reached = reached_with(alloc, joint, &pieces[index + 1..], held.as_slice())?;
-        put(held, piece, places, &REGULAR, Some(&reached))?;
-    }
-    Ok(())
-}
-
-/// Puts each of the copies at the first location of these kinds that is free and takes it.
-fn place_anywhere(
-    held: &mut List<Held>,
-    pieces: &[Piece],
-    places: &[Opening],
-    kinds: &[LocKind],
-) -> Result<(), FillError> {
-    for piece in pieces {
-        put(held, piece, places, kinds, None)?;
-    }
-    Ok(())
-}
-
-/// Puts the useful copies, and then the fillers and traps.
-fn place_rest(
-    alloc: Global,
-    joint: &Joint,
-    held: &mut List<Held>,
-    words: &mut Words,
-    places: &[Opening],
-) -> Result<(), FillError> {
-    let helping = shuffled(alloc, joint, words, &[Class::Useful])?;
-    let filling = shuffled(alloc, joint, words, &[Class::Filler, Class::Trap])?;
-    place_anywhere(held, helping.as_slice(), places, &REGULAR)?;
-    place_anywhere(held, filling.as_slice(), places, &ALL)
-}
-
-/// Puts all copies, by the words of a try.
+/// Puts the copies in their order: those that rules ask for where they are reached with the later ones in hand.
 fn place_all(
     alloc: Global,
     joint: &Joint,
-    held: &mut List<Held>,
-    words: &mut Words,
+    openings: &mut [Opening],
+    pieces: &[Piece],
 ) -> Result<(), FillError> {
-    let asked = shuffled(alloc, joint, words, &[Class::Progression])?;
-    let mut places = openings_of(alloc, joint)?;
-    shuffle_entries(words, places.as_mut_slice());
-    place_asked(alloc, joint, held, asked.as_slice(), places.as_slice())?;
-    place_rest(alloc, joint, held, words, places.as_slice())
-}
-
-/// What stands at a location in the end.
-fn put_at(opening: &Opening, held: &[Held]) -> Put {
-    let place = opening.place;
-    match held_at(held, place) {
-        Some(piece) => Put {
-            place,
-            receiver: piece.receiver,
-            item: piece.item,
-        },
-        None => Put {
-            place,
-            receiver: opening.slot,
-            item: opening.filler,
-        },
+    for (index, piece) in pieces.iter().enumerate() {
+        let reached = match piece.class {
+            Class::Progression => {
+                Some(reached_with(alloc, joint, piece.number, openings, index)?)
+            }
+            _ => None,
+        };
+        put(openings, piece, reached.as_ref())?;
     }
+    Ok(())
 }
 
-/// What stands at all locations with an id.
-fn placement_of(alloc: Global, joint: &Joint, held: &[Held]) -> Result<Placement, Memory> {
-    let openings = openings_of(alloc, joint)?;
+/// What stands at the locations in the end, in ascending order of places.
+fn placement_of(alloc: Global, joint: &Joint, openings: &[Opening]) -> Placement {
     let mut placement = List::new(alloc);
-    for opening in openings.as_slice() {
-        placement.push(put_at(opening, held))?;
+    for place in 0..joint.place_count() {
+        for opening in openings {
+            if opening.stands.place == place {
+                let _ = placement.push(opening.stands);
+            }
+        }
     }
-    Ok(placement)
+    placement
 }
 
 /// The placement of a try, or the first copy that finds no location.
@@ -424,49 +278,49 @@ pub(crate) fn plain_try(
     seed: u64,
     stream: u64,
 ) -> Result<Placement, FillError> {
-    let mut held = List::new(alloc);
-    place_all(alloc, joint, &mut held, &mut Words::new(seed, stream))?;
-    Ok(placement_of(alloc, joint, held.as_slice())?)
+    let mut words = Words::new(seed, stream);
+    let mut pieces = Vec::new(alloc);
+    let mut openings = openings_of(alloc, joint);
+    push_shuffled(&mut pieces, joint, &mut words, &[Class::Progression]);
+    shuffle_entries(&mut words, openings.as_mut_slice());
+    push_shuffled(&mut pieces, joint, &mut words, &[Class::Useful]);
+    push_shuffled(
+        &mut pieces,
+        joint,
+        &mut words,
+        &[Class::Filler, Class::Trap],
+    );
+    place_all(alloc, joint, openings.as_mut_slice(), pieces.as_slice())?;
+    Ok(placement_of(alloc, joint, openings.as_slice()))
 }
 
 /// The first slot whose goal doesn't hold with everything in hand.
 fn unmet(alloc: Global, joint: &Joint) -> Result<Option<u16>, Memory> {
-    let all = pieces_of(alloc, joint, &CLASSES)?;
-    let reached = reached_with(alloc, joint, all.as_slice(), &[])?;
-    Ok(unmet_goal(joint, &reached))
+    Ok(unmet_goal(joint, &reached_with(alloc, joint, u32::MAX, &[], 0)?))
 }
 
 /// How many copies the pools have.
-fn copies(alloc: Global, joint: &Joint) -> Result<u64, Memory> {
-    Ok(pieces_of(alloc, joint, &CLASSES)?.len() as u64)
+fn copies(alloc: Global, joint: &Joint) -> u64 {
+    let mut pieces = Vec::new(alloc);
+    push_shuffled(&mut pieces, joint, &mut Words::new(0, 0), &CLASSES);
+    pieces.len() as u64
 }
 
-/// How many locations have an id.
-fn room(alloc: Global, joint: &Joint) -> Result<u64, Memory> {
-    Ok(openings_of(alloc, joint)?.len() as u64)
-}
-
-/// Refuses where a goal isn't met, and then where there is too little room.
-fn judge(unmet: Option<u16>, have: u64, room: u64) -> Result<(), GenerateError> {
-    match unmet {
-        Some(slot) => Err(GenerateError::NotBeatable { slot }),
-        None if room < have => Err(GenerateError::TooManyItems { have, room }),
-        None => Ok(()),
-    }
-}
-
-/// The first try's placement, or why there is none.
+/// The first try's placement, or why there is none: a goal that isn't met, then too little room.
 pub(crate) fn plain_seed(
     alloc: Global,
     joint: &Joint,
     seed: u64,
     tries: u64,
 ) -> Result<Seed, GenerateError> {
-    judge(
-        unmet(alloc, joint)?,
-        copies(alloc, joint)?,
-        room(alloc, joint)?,
-    )?;
+    if let Some(slot) = unmet(alloc, joint)? {
+        return Err(GenerateError::NotBeatable { slot });
+    }
+    let have = copies(alloc, joint);
+    let room = openings_of(alloc, joint).len() as u64;
+    if room < have {
+        return Err(GenerateError::TooManyItems { have, room });
+    }
     for stream in 0..tries {
         if let Ok(placement) = plain_try(alloc, joint, seed, stream) {
             return Ok(Seed { placement, stream });

@@ -49,25 +49,15 @@ const WORLD: &str =
 
 const PLAYERS: &str = r#"{"format":"mw-players-1","players":[~players~]}"#;
 
-/// The line of a name.
-fn line_of(name: &str) -> &'static str {
+/// One of a name's alternatives, by the next word.
+fn chosen(words: &mut Words, name: &str) -> &'static str {
     for line in GRAMMAR.split('\n') {
         if part(line, 0) == name {
-            return line;
+            let count = line.split(" | ").count().saturating_sub(1).max(1);
+            return part(line, words.next() as usize % count + 1);
         }
     }
     ""
-}
-
-/// One of a name's alternatives, by the next word.
-fn chosen(words: &mut Words, name: &str) -> &'static str {
-    let line = line_of(name);
-    let count = line.split(" | ").count();
-    let word = words.next() as usize;
-    if count < 2 {
-        return "";
-    }
-    part(line, word % (count - 1) + 1)
 }
 
 /// A text with alternatives in place of its names.
@@ -116,16 +106,11 @@ fn worlds_of(alloc: Global, words: &mut Words, players: &Players) -> Result<List
     Ok(worlds)
 }
 
-/// Whether two placements are the same.
-fn is_same_placement(found: &Placement, plain: &Placement) -> bool {
-    found.as_slice() == plain.as_slice()
-}
-
 /// Whether two answers of the whole fill are the same.
 fn is_same_seed(found: &Result<Seed, GenerateError>, plain: &Result<Seed, GenerateError>) -> bool {
     match (found, plain) {
         (Ok(found), Ok(plain)) => {
-            found.stream == plain.stream && is_same_placement(&found.placement, &plain.placement)
+            found.stream == plain.stream && found.placement.as_slice() == plain.placement.as_slice()
         }
         (Err(found), Err(plain)) => found == plain,
         _ => false,
@@ -135,30 +120,27 @@ fn is_same_seed(found: &Result<Seed, GenerateError>, plain: &Result<Seed, Genera
 /// Whether two answers of a try are the same.
 fn is_same_try(found: &Result<Placement, FillError>, plain: &Result<Placement, FillError>) -> bool {
     match (found, plain) {
-        (Ok(found), Ok(plain)) => is_same_placement(found, plain),
+        (Ok(found), Ok(plain)) => found.as_slice() == plain.as_slice(),
         (Err(found), Err(plain)) => found == plain,
         _ => false,
     }
 }
 
-/// Whether the fill's first try gives what the plain one gives.
-fn tries_agree(alloc: Global, joint: &Joint, seed: u64) -> bool {
-    let found = fill_try(alloc, joint, seed, 0);
-    is_same_try(&found, &plain_try(alloc, joint, seed, 0))
-}
-
-/// Whether both fills give the same, and give a seed: `seed`, `none`, or `other` where they don't.
-fn told(alloc: Global, joint: &Joint, seed: u64) -> &'static str {
+/// Whether the fill gives a seed; None where the plain one gives another, or another at its first try.
+fn told(alloc: Global, joint: &Joint, seed: u64) -> Option<bool> {
     let found = generate(alloc, joint, seed, 5);
-    let same = is_same_seed(&found, &plain_seed(alloc, joint, seed, 5));
-    if !same || !tries_agree(alloc, joint, seed) {
-        return "other";
+    let plain = plain_seed(alloc, joint, seed, 5);
+    let found_first = fill_try(alloc, joint, seed, 0);
+    let plain_first = plain_try(alloc, joint, seed, 0);
+    if is_same_seed(&found, &plain) && is_same_try(&found_first, &plain_first) {
+        Some(found.is_ok())
+    } else {
+        None
     }
-    if found.is_ok() { "seed" } else { "none" }
 }
 
 /// The same for the worlds of a number.
-fn told_of(alloc: Global, number: u64) -> Result<&'static str, Fail> {
+fn told_of(alloc: Global, number: u64) -> Result<Option<bool>, Fail> {
     let mut words = Words::new(number, 1);
     let players = players_of(alloc, &mut words)?;
     let worlds = worlds_of(alloc, &mut words, &players)?;
@@ -170,10 +152,10 @@ fn told_of(alloc: Global, number: u64) -> Result<&'static str, Fail> {
 fn random_worlds_are_filled_as_by_a_plain_fill(rt: HostRuntime) -> Result<(), Fail> {
     let mut seeds = 0u64;
     for number in 0..100 {
-        let word = told_of(rt.alloc(), number)?;
-        assert!(rt; word != "other", "world {number}");
-        if word == "seed" {
-            seeds = seeds.saturating_add(1);
+        match told_of(rt.alloc(), number)? {
+            Some(true) => seeds = seeds.saturating_add(1),
+            Some(false) => {}
+            None => return Err(Fail::new(number)),
         }
     }
     assert!(rt; seeds > 30);

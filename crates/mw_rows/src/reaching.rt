@@ -50,17 +50,6 @@ impl Ruling for Asked {
 /// Which of the place numbers up to 3 are in the list, and the first slot whose goal isn't met.
 type ToldReached = ([bool; 4], Option<u16>);
 
-/// Those of a list.
-fn told(reached: &Reached, unmet: Option<u16>) -> ToldReached {
-    let places = [
-        reached.has(0),
-        reached.has(1),
-        reached.has(2),
-        reached.has(3),
-    ];
-    (places, unmet)
-}
-
 /// What is reached with a bag and the events, by rules that are asked of `Asked`.
 fn reached_by<L: Ledger>(
     blank: Blank,
@@ -81,7 +70,13 @@ fn reached_by<L: Ledger>(
     let mut steps = Steps::<L>::new(blank);
     reach_by(joint, asked, base, &placed, &mut reached, &mut steps);
     let unmet = unmet_goal_by(joint, asked, &reached, &mut steps);
-    Ok(told(&reached, unmet))
+    let places = [
+        reached.has(0),
+        reached.has(1),
+        reached.has(2),
+        reached.has(3),
+    ];
+    Ok((places, unmet))
 }
 
 /// The same with a counter of its own.
@@ -94,20 +89,10 @@ fn reached_with(alloc: Global, joint: &Joint, base: &Bag) -> Result<ToldReached,
     reached_by::<Brand>(Blank::new(1), alloc, joint, base, &asked)
 }
 
-/// What is reached with what the slot starts with.
-fn reached_from_start(alloc: Global, joint: &Joint) -> Result<ToldReached, Memory> {
-    reached_with(alloc, joint, &Bag::starting(alloc, joint)?)
-}
-
-/// What is reached with everything.
-fn reached_with_all(alloc: Global, joint: &Joint) -> Result<ToldReached, Memory> {
-    reached_with(alloc, joint, &Bag::everything(alloc, joint)?)
-}
-
 /// Whether two places are reached from the start and the goal isn't met, and all with everything, and it is.
 fn is_reached(alloc: Global, joint: &Joint) -> Result<bool, Memory> {
-    let (places, unmet) = reached_from_start(alloc, joint)?;
-    let (all, unmet_with_all) = reached_with_all(alloc, joint)?;
+    let (places, unmet) = reached_with(alloc, joint, &Bag::starting(alloc, joint)?)?;
+    let (all, unmet_with_all) = reached_with(alloc, joint, &Bag::everything(alloc, joint)?)?;
     Ok(
         places == [true, false, true, false]
             && unmet == Some(1)

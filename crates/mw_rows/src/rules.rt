@@ -1,4 +1,4 @@
-ghost use Rattle.std.specs.Prelude.{◌≡◌, ◌<◌, [], ◌∷◌, All, IfOk};
+ghost use Rattle.std.specs.Prelude.{◌≡◌, ◌<◌, [], ◌∷◌, All};
 ghost use Rattle.mw_rules.specs.Rule.{IsWithin, AreWithin};
 ghost use Rattle.mw_rules.specs.Names.{AreNames};
 ghost use Rattle.mw_rules.specs.View.{view, rules_view};
@@ -11,130 +11,86 @@ use std::sync::ledger::{Blank, Ledger};
 use std::test::Fail;
 
 /// The answer where there are none, one and two of the items 0, 1 and 2, and place 0 of two is in the list.
-fn answer(rule: &Rule) -> bool
-    requires { IsWithin 3 2 (view rule.now) }
+fn holds(rule: Rule) -> bool
+    requires { IsWithin 3 2 (view rule) }
 {
-    eval(rule, &[0, 1, 2], &[true, false])
+    eval(&rule, &[0, 1, 2], &[true, false])
 }
 
 #[test]
 #[tactic(auto, using(mw_rules::proofs::Views::view_of_always, mw_rules::proofs::Views::view_of_never, mw_rules::proofs::Views::view_of_has, mw_rules::proofs::Views::view_of_can_reach))]
 fn forms_without_lists_answer_at_their_edges(rt: HostRuntime) {
-    assert!(rt; answer(&Rule::Always) && !answer(&Rule::Never));
     assert!(rt;
-        answer(&Rule::Has { item: 1, count: 1 })
-            && !answer(&Rule::Has { item: 1, count: 2 })
-            && answer(&Rule::Has { item: 2, count: 2 })
+        holds(Rule::Always)
+            && !holds(Rule::Never)
+            && holds(Rule::Has { item: 1, count: 1 })
+            && !holds(Rule::Has { item: 1, count: 2 })
+            && holds(Rule::Has { item: 2, count: 2 })
+            && holds(Rule::CanReach { place: 0 })
+            && !holds(Rule::CanReach { place: 1 })
     );
-    assert!(rt; answer(&Rule::CanReach { place: 0 }) && !answer(&Rule::CanReach { place: 1 }));
 }
 
-/// A list of two of the items.
-fn two(alloc: Global, first: u32, second: u32) -> Result<List<u32>, Memory>
+/// A list of two of the items; it has none where memory runs out, and so has that of two rules.
+fn two(alloc: Global, first: u32, second: u32) -> List<u32>
     requires { (first < 3) × (second < 3) }
-    ensures { IfOk result (λ items. All (λ i. i < 3) items) }
+    ensures { All (λ i. i < 3) result }
 {
-    let items = vec![in alloc; first, second]?;
-    Ok(List::from_vec(items))
+    match vec![in alloc; first, second] {
+        Ok(items) => List::from_vec(items),
+        Err(_) => List::new(alloc),
+    }
 }
 
 /// A list of two rules.
-fn both(alloc: Global, first: Rule, second: Rule) -> Result<List<Rule>, Memory>
+fn both(alloc: Global, first: Rule, second: Rule) -> List<Rule>
     requires { IsWithin 3 2 (view first) × IsWithin 3 2 (view second) }
-    ensures { IfOk result (λ rules. AreWithin 3 2 (rules_view rules)) }
+    ensures { AreWithin 3 2 (rules_view result) }
 {
-    let rules = vec![in alloc; first, second]?;
-    Ok(List::from_vec(rules))
+    match vec![in alloc; first, second] {
+        Ok(rules) => List::from_vec(rules),
+        Err(_) => List::new(alloc),
+    }
 }
 
-/// The answer of the rule that takes all of two items.
-#[tactic(auto, using(mw_rules::proofs::Views::view_of_has_all))]
-fn has_all(alloc: Global, first: u32, second: u32) -> Result<bool, Memory>
-    requires { (first < 3) × (second < 3) }
-{
-    let rule = Rule::HasAll(two(alloc, first, second)?);
-    Ok(answer(&rule))
-}
-
-/// The answer of the rule that takes any of two items.
-#[tactic(auto, using(mw_rules::proofs::Views::view_of_has_any))]
-fn has_any(alloc: Global, first: u32, second: u32) -> Result<bool, Memory>
-    requires { (first < 3) × (second < 3) }
-{
-    let rule = Rule::HasAny(two(alloc, first, second)?);
-    Ok(answer(&rule))
-}
-
-/// The answer of the rule that takes so many of the items 1 and 2.
-#[tactic(auto, using(mw_rules::proofs::Views::view_of_count))]
-fn has_count(alloc: Global, at_least: u32) -> Result<bool, Memory> {
-    let items = two(alloc, 1, 2)?;
-    Ok(answer(&Rule::Count { items, at_least }))
-}
-
-/// Whether the rules of no items answer so.
-#[tactic(auto, using(mw_rules::proofs::Views::view_of_has_all, mw_rules::proofs::Views::view_of_has_any))]
-fn no_items_answer(alloc: Global) -> bool {
-    answer(&Rule::HasAll(List::new(alloc))) && !answer(&Rule::HasAny(List::new(alloc)))
-}
-
-/// Whether the rules of two items do.
-fn two_items_answer(alloc: Global) -> Result<bool, Memory> {
-    Ok(
-        has_all(alloc, 1, 2)?
-            && !has_all(alloc, 1, 0)?
-            && has_any(alloc, 0, 1)?
-            && !has_any(alloc, 0, 0)?
-            && has_count(alloc, 3)?
-            && !has_count(alloc, 4)?,
-    )
+/// Whether the rules of no items and of two items answer so.
+#[tactic(auto, using(mw_rules::proofs::Views::view_of_has_all, mw_rules::proofs::Views::view_of_has_any, mw_rules::proofs::Views::view_of_count))]
+fn forms_of_items_answer(alloc: Global) -> bool {
+    holds(Rule::HasAll(List::new(alloc)))
+        && !holds(Rule::HasAny(List::new(alloc)))
+        && holds(Rule::HasAll(two(alloc, 1, 2)))
+        && !holds(Rule::HasAll(two(alloc, 1, 0)))
+        && holds(Rule::HasAny(two(alloc, 0, 1)))
+        && !holds(Rule::HasAny(two(alloc, 0, 0)))
+        && holds(Rule::Count {
+            items: two(alloc, 1, 2),
+            at_least: 3,
+        })
+        && !holds(Rule::Count {
+            items: two(alloc, 1, 2),
+            at_least: 4,
+        })
 }
 
 #[test]
-fn forms_of_items_answer_at_their_edges(rt: HostRuntime) -> Result<(), Fail> {
-    assert!(rt; no_items_answer(rt.alloc()) && two_items_answer(rt.alloc())?);
-    Ok(())
+fn forms_of_items_answer_at_their_edges(rt: HostRuntime) {
+    assert!(rt; forms_of_items_answer(rt.alloc()));
 }
 
-/// The answer of the rule that takes both of two rules.
-#[tactic(auto, using(mw_rules::proofs::Views::view_of_and))]
-fn both_hold(alloc: Global, first: Rule, second: Rule) -> Result<bool, Memory>
-    requires { IsWithin 3 2 (view first) × IsWithin 3 2 (view second) }
-{
-    let rule = Rule::And(both(alloc, first, second)?);
-    Ok(answer(&rule))
-}
-
-/// The answer of the rule that takes one of two rules.
-#[tactic(auto, using(mw_rules::proofs::Views::view_of_or))]
-fn one_holds(alloc: Global, first: Rule, second: Rule) -> Result<bool, Memory>
-    requires { IsWithin 3 2 (view first) × IsWithin 3 2 (view second) }
-{
-    let rule = Rule::Or(both(alloc, first, second)?);
-    Ok(answer(&rule))
-}
-
-/// Whether the rules of no rules answer so.
-#[tactic(auto, using(mw_rules::proofs::Views::view_of_and, mw_rules::proofs::Views::view_of_or))]
-fn no_rules_answer(alloc: Global) -> bool {
-    answer(&Rule::And(List::new(alloc))) && !answer(&Rule::Or(List::new(alloc)))
-}
-
-/// Whether the rules of two rules do.
-#[tactic(auto, using(mw_rules::proofs::Views::view_of_always, mw_rules::proofs::Views::view_of_never))]
-fn two_rules_answer(alloc: Global) -> Result<bool, Memory> {
-    Ok(
-        !both_hold(alloc, Rule::Always, Rule::Never)?
-            && both_hold(alloc, Rule::Always, Rule::Always)?
-            && one_holds(alloc, Rule::Never, Rule::Always)?
-            && !one_holds(alloc, Rule::Never, Rule::Never)?,
-    )
+/// Whether the rules of no rules and of two rules do.
+#[tactic(auto, using(mw_rules::proofs::Views::view_of_and, mw_rules::proofs::Views::view_of_or, mw_rules::proofs::Views::view_of_always, mw_rules::proofs::Views::view_of_never))]
+fn forms_of_rules_answer(alloc: Global) -> bool {
+    holds(Rule::And(List::new(alloc)))
+        && !holds(Rule::Or(List::new(alloc)))
+        && !holds(Rule::And(both(alloc, Rule::Always, Rule::Never)))
+        && holds(Rule::And(both(alloc, Rule::Always, Rule::Always)))
+        && holds(Rule::Or(both(alloc, Rule::Never, Rule::Always)))
+        && !holds(Rule::Or(both(alloc, Rule::Never, Rule::Never)))
 }
 
 #[test]
-fn forms_of_rules_answer_at_their_edges(rt: HostRuntime) -> Result<(), Fail> {
-    assert!(rt; no_rules_answer(rt.alloc()) && two_rules_answer(rt.alloc())?);
-    Ok(())
+fn forms_of_rules_answer_at_their_edges(rt: HostRuntime) {
+    assert!(rt; forms_of_rules_answer(rt.alloc()));
 }
 
 /// Whether the rule holds where there is nothing, counted.
@@ -192,23 +148,29 @@ impl Ruling for OneRule {
 
 /// A rule that names items 2 and 0, item 2 again, and place 1.
 #[tactic(auto, using(mw_rules::proofs::Views::view_of_has_all, mw_rules::proofs::Views::view_of_has, mw_rules::proofs::Views::view_of_can_reach, mw_rules::proofs::Views::view_of_and))]
-fn naming_rule(alloc: Global) -> Result<Rule, Memory> {
-    let all = Rule::HasAll(two(alloc, 2, 0)?);
+fn naming_rule(alloc: Global) -> Rule {
+    let all = Rule::HasAll(two(alloc, 2, 0));
     let has = Rule::Has { item: 2, count: 3 };
-    let inner = Rule::And(both(alloc, has, Rule::CanReach { place: 1 })?);
-    Ok(Rule::Or(both(alloc, all, inner)?))
+    let inner = Rule::And(both(alloc, has, Rule::CanReach { place: 1 }));
+    Rule::Or(both(alloc, all, inner))
 }
 
-/// Whether what is named is each item once, and the place.
-fn are_named(named: &Named) -> bool {
-    named.items.as_slice() == [0, 2].as_slice() && named.places.as_slice() == [1].as_slice()
+/// That rule with what it names.
+fn one_rule(alloc: Global) -> Result<OneRule, Memory> {
+    let rule = naming_rule(alloc);
+    let named = Named::of(alloc, &rule)?;
+    Ok(OneRule { rule, named })
+}
+
+/// Whether there is one rule, and what is named is each item once, and the place.
+fn is_told(one: &OneRule) -> bool {
+    one.count() == 1
+        && one.named.items.as_slice() == [0, 2].as_slice()
+        && one.named.places.as_slice() == [1].as_slice()
 }
 
 #[test]
 fn one_rule_tells_its_count_and_its_names(rt: HostRuntime) -> Result<(), Fail> {
-    let rule = naming_rule(rt.alloc())?;
-    let named = Named::of(rt.alloc(), &rule)?;
-    let one = OneRule { rule, named };
-    assert!(rt; are_named(&one.named) && one.count() == 1);
+    assert!(rt; is_told(&one_rule(rt.alloc())?));
     Ok(())
 }

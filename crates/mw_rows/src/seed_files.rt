@@ -1,6 +1,5 @@
-use crate::cases::{case_of, each, is_named, repeated};
-use mw_base::Memory;
-use mw_multidata::{DataRefusal, RoomTables, read, write};
+use crate::cases::{changed, each, is_answer};
+use mw_multidata::{RoomTables, read, write};
 use mw_room_a::ROOM_A;
 use std::alloc::Global;
 use std::test::Fail;
@@ -22,45 +21,19 @@ const CASES: &str = r#""teams":1} => "teams":1 => NoJson /
 const LIMIT_CASES: &str = r#"[5,0] =>  | [5,0], | 255 |  | [5,0] => accepted
 [5,0] =>  | [5,0], | 256 |  | [5,0] => TooMany /slots/0/start"#;
 
-/// Whether a file is answered so: a refusal's kind and path, or `accepted`.
-fn is_answer(alloc: Global, text: &str, wanted: &str) -> Result<bool, Memory> {
-    match read(alloc, text.as_bytes()) {
-        Ok(_) => Ok(wanted == "accepted"),
-        Err(DataRefusal::Memory) => Err(Memory),
-        Err(DataRefusal::Named { kind, path }) => is_named(alloc, kind, &path, wanted),
-    }
-}
-
-/// Whether the room, changed so, is answered so.
-fn is_answered(alloc: Global, old: &str, new: &str, wanted: &str) -> Result<bool, Fail> {
-    let text = ROOM_A.replace(alloc, old, new)?;
-    Ok(is_answer(alloc, text.as_str(), wanted)?)
-}
-
-/// Whether a case is so.
+/// Whether a case of the room is so.
 fn is_case(alloc: Global, line: &str) -> Result<bool, Fail> {
-    let (old, new, wanted) = case_of(line).ok_or("no case")?;
-    is_answered(alloc, old, new, wanted)
-}
-
-/// Whether a case that repeats a unit is so.
-fn is_limit_case(alloc: Global, line: &str) -> Result<bool, Fail> {
-    let (old, spelled, wanted) = case_of(line).ok_or("no case")?;
-    let new = repeated(alloc, spelled)?;
-    is_answered(alloc, old, new.as_str(), wanted)
-}
-
-/// The tables of the room.
-fn tables(alloc: Global) -> Result<RoomTables, Fail> {
-    match read(alloc, ROOM_A.as_bytes()) {
-        Ok(seed) => Ok(RoomTables::of(alloc, seed)?),
-        Err(_) => Err(Fail::from("refused")),
-    }
+    let text = changed(alloc, ROOM_A, line)?;
+    Ok(is_answer(alloc, read(alloc, text.as_bytes()).err(), line)?)
 }
 
 #[test]
 fn a_room_is_read_and_written(rt: HostRuntime) -> Result<(), Fail> {
-    let text = write(rt.alloc(), tables(rt.alloc())?.multidata())?;
+    let Ok(seed) = read(rt.alloc(), ROOM_A.as_bytes()) else {
+        panic!(rt; "refused")
+    };
+    let tables = RoomTables::of(rt.alloc(), seed)?;
+    let text = write(rt.alloc(), tables.multidata())?;
     assert!(rt; text.as_slice() == ROOM_A.as_bytes());
     Ok(())
 }
@@ -72,5 +45,5 @@ fn each_refusal_has_its_place(rt: HostRuntime) -> Result<(), Fail> {
 
 #[test]
 fn limits_hold_at_their_edge(rt: HostRuntime) -> Result<(), Fail> {
-    each(rt.alloc(), LIMIT_CASES, is_limit_case)
+    each(rt.alloc(), LIMIT_CASES, is_case)
 }

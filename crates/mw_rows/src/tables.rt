@@ -1,8 +1,8 @@
-use crate::cases::{case_of, each, is_named, repeated};
-use mw_base::{List, LocId, Memory, Permission, RoomOptions, Text};
-use mw_multi::{LocKind, Location, Options, Player, Players, StartEntry, World};
+use crate::cases::{changed, each, is_answer};
+use mw_base::{List, LocId, Permission, RoomOptions, Text};
+use mw_multi::{LocKind, Location, Options, Player, Players, World};
 use mw_rules::Rule;
-use mw_tables::{TableRefusal, read_players, read_world};
+use mw_tables::{read_players, read_world};
 use std::alloc::Global;
 use std::test::Fail;
 
@@ -94,30 +94,6 @@ mw-players-1 => mw-world-1 => OtherFormat /format
 "players":[ => "players":[],"no":[ => WrongKind /players
 "Bob" => "Ann" => DuplicateName /players/1/names/0"#;
 
-/// Whether a table's refusal is that of an answer.
-fn is_refusal(alloc: Global, error: TableRefusal, wanted: &str) -> Result<bool, Memory> {
-    match error {
-        TableRefusal::Memory => Err(Memory),
-        TableRefusal::Named { kind, path } => is_named(alloc, kind, &path, wanted),
-    }
-}
-
-/// Whether a world file is answered so, `accepted` for a world.
-fn is_world_answer(alloc: Global, text: &str, wanted: &str) -> Result<bool, Memory> {
-    match read_world(alloc, text.as_bytes()) {
-        Ok(_) => Ok(wanted == "accepted"),
-        Err(error) => is_refusal(alloc, error, wanted),
-    }
-}
-
-/// Whether a players file is answered so, `accepted` for players.
-fn is_players_answer(alloc: Global, text: &str, wanted: &str) -> Result<bool, Memory> {
-    match read_players(alloc, text.as_bytes()) {
-        Ok(_) => Ok(wanted == "accepted"),
-        Err(error) => is_refusal(alloc, error, wanted),
-    }
-}
-
 /// Whether a world has its entrance alone.
 fn has_entrance(world: &World) -> bool {
     let [down] = world.entrances.as_slice() else {
@@ -129,20 +105,15 @@ fn has_entrance(world: &World) -> bool {
         && matches!(down.rule, Rule::Has { item: 0, count: 2 })
 }
 
-/// Whether its pool has one entry.
-fn has_pool(world: &World) -> bool {
+/// Whether its pool has one entry, its goal takes its event, and its filler is its second item.
+fn has_pool_and_goal(world: &World) -> bool {
     let [swords] = world.pool.as_slice() else {
         return false;
     };
-    swords.item == 0 && swords.count == 3
-}
-
-/// Whether its goal takes its event, and its filler is its second item.
-fn has_goal(world: &World) -> bool {
-    match &world.goal {
-        Rule::HasAny(items) => items.as_slice() == [2].as_slice() && world.filler == 1,
-        _ => false,
-    }
+    let Rule::HasAny(items) = &world.goal else {
+        return false;
+    };
+    swords.item == 0 && swords.count == 3 && items.as_slice() == [2].as_slice() && world.filler == 1
 }
 
 /// Whether a location has these parts; its rule is left.
@@ -190,28 +161,21 @@ fn has_locations(world: &World) -> bool {
 
 /// Whether a world is that of the file.
 fn is_world_read(world: &World) -> bool {
-    has_entrance(world) && has_pool(world) && has_goal(world) && has_locations(world)
+    has_entrance(world) && has_pool_and_goal(world) && has_locations(world)
 }
 
 #[test]
-fn a_world_is_read(rt: HostRuntime) -> Result<(), Fail> {
-    match read_world(rt.alloc(), WORLD.as_bytes()) {
-        Ok(world) => assert!(rt; is_world_read(&world)),
-        Err(_) => return Err(Fail::from("refused")),
-    }
-    Ok(())
-}
-
-/// Whether the world, changed so, is answered so.
-fn is_world(alloc: Global, old: &str, new: &str, wanted: &str) -> Result<bool, Fail> {
-    let text = WORLD.replace(alloc, old, new)?;
-    Ok(is_world_answer(alloc, text.as_str(), wanted)?)
+fn a_world_is_read(rt: HostRuntime) {
+    let Ok(world) = read_world(rt.alloc(), WORLD.as_bytes()) else {
+        panic!(rt; "refused")
+    };
+    assert!(rt; is_world_read(&world));
 }
 
 /// Whether a case of the world is so.
 fn is_world_case(alloc: Global, line: &str) -> Result<bool, Fail> {
-    let (old, new, wanted) = case_of(line).ok_or("no case")?;
-    is_world(alloc, old, new, wanted)
+    let text = changed(alloc, WORLD, line)?;
+    Ok(is_answer(alloc, read_world(alloc, text.as_bytes()).err(), line)?)
 }
 
 #[test]
@@ -224,16 +188,9 @@ fn each_refusal_of_locations_and_rules_has_its_place(rt: HostRuntime) -> Result<
     each(rt.alloc(), RULE_CASES, is_world_case)
 }
 
-/// Whether a case of the world that repeats a unit is so.
-fn is_limit_case(alloc: Global, line: &str) -> Result<bool, Fail> {
-    let (old, spelled, wanted) = case_of(line).ok_or("no case")?;
-    let new = repeated(alloc, spelled)?;
-    is_world(alloc, old, new.as_str(), wanted)
-}
-
 #[test]
 fn limits_of_a_world_hold_at_their_edge(rt: HostRuntime) -> Result<(), Fail> {
-    each(rt.alloc(), LIMIT_CASES, is_limit_case)
+    each(rt.alloc(), LIMIT_CASES, is_world_case)
 }
 
 /// Whether texts are these two.
@@ -254,15 +211,15 @@ fn is_room(room: &RoomOptions) -> bool {
         && room.remaining == Permission::Disabled
 }
 
-/// Whether an entry of a start has this name and count.
-fn is_start(entry: &StartEntry, name: &str, count: u32) -> bool {
-    entry.name.as_str() == name && entry.count == count
-}
-
 /// Whether a player starts with two coins and a sword.
 fn has_start(options: &Options) -> bool {
     match options.start_inventory.as_slice() {
-        [coins, sword] => is_start(coins, "Coin", 2) && is_start(sword, "Sword", 1),
+        [coins, sword] => {
+            coins.name.as_str() == "Coin"
+                && coins.count == 2
+                && sword.name.as_str() == "Sword"
+                && sword.count == 1
+        }
         _ => false,
     }
 }
@@ -303,19 +260,17 @@ fn are_players(file: &Players) -> bool {
 }
 
 #[test]
-fn players_are_read(rt: HostRuntime) -> Result<(), Fail> {
-    match read_players(rt.alloc(), PLAYERS.as_bytes()) {
-        Ok(players) => assert!(rt; are_players(&players)),
-        Err(_) => return Err(Fail::from("refused")),
-    }
-    Ok(())
+fn players_are_read(rt: HostRuntime) {
+    let Ok(players) = read_players(rt.alloc(), PLAYERS.as_bytes()) else {
+        panic!(rt; "refused")
+    };
+    assert!(rt; are_players(&players));
 }
 
 /// Whether a case of the players is so.
 fn is_players_case(alloc: Global, line: &str) -> Result<bool, Fail> {
-    let (old, new, wanted) = case_of(line).ok_or("no case")?;
-    let text = PLAYERS.replace(alloc, old, new)?;
-    Ok(is_players_answer(alloc, text.as_str(), wanted)?)
+    let text = changed(alloc, PLAYERS, line)?;
+    Ok(is_answer(alloc, read_players(alloc, text.as_bytes()).err(), line)?)
 }
 
 #[test]

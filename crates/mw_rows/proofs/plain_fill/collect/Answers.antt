@@ -2,7 +2,7 @@ use Rattle.std.proofs.Common.{subst}
 use Rattle.mw_multi.specs.Events.{events_of}
 use Rattle.mw_multi.specs.Joint.{IsJoint}
 use Rattle.mw_reach.proofs.Placing.{placed_for}
-use Rattle.mw_rows.proofs.plain_fill.reach_with.Goals as goal
+use Rattle.mw_rows.proofs.plain_fill.collect.Goals as goal
 
 pub reach-requires-clause-placed : goal.reach-requires-clause-placed
 reach-requires-clause-placed c =
