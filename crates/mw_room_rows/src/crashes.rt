@@ -1,9 +1,8 @@
-use crate::calls::{ANN, BOB, FIRST, SECOND, answer, open, sends, takes};
+use crate::calls::{last_taken, try_calls};
 use crate::cases::fine;
 use crate::disks::{kept_room, new_room};
-use mw_base::SessionId;
+use mw_base::Text;
 use mw_disk::{MemDisk, Tear};
-use mw_keep::{Call, KeptRoom};
 use std::alloc::Global;
 use std::test::Fail;
 
@@ -19,45 +18,29 @@ const BOTH_CHECKED: &str = r#"[{"checked_locations":[101,102],"cmd":"Connected""
 /// What a crash may leave of the last writes.
 const TEARS: [Tear; 4] = [Tear::Lost, Tear::Done, Tear::Filled(1), Tear::Filled(7)];
 
-/// Whether a session whose player comes is told this.
-fn hears(
-    alloc: Global,
-    room: &mut KeptRoom<MemDisk>,
-    session: SessionId,
-    player: &str,
-    wanted: &str,
-) -> Result<bool, Fail> {
-    Ok(sends(alloc, room, session, &[(player, "done")])? && takes(room, session, wanted))
-}
+/// A player comes.
+const ANN: &str = "open | opened\nAnn | done";
 
-/// Whether a player who comes to a room is told this.
-fn is_told(
-    alloc: Global,
-    room: &mut KeptRoom<MemDisk>,
-    player: &str,
-    wanted: &str,
-) -> Result<bool, Fail> {
-    let session = open(room)?;
-    hears(alloc, room, session, player, wanted)
-}
+/// Another one does.
+const BOB: &str = "open | opened\nBob | done";
 
-/// Whether a player who comes to the room that these bytes keep is told this.
-fn tells(alloc: Global, bytes: &[u8], player: &str, wanted: &str) -> Result<bool, Fail> {
+/// The last message of a player who comes to the room that these bytes keep.
+fn told(alloc: Global, bytes: &[u8], player: &str) -> Result<Text, Fail> {
     let mut room = kept_room(alloc, bytes, None)?;
-    is_told(alloc, &mut room, player, wanted)
+    try_calls(alloc, &mut room, player)?;
+    Ok(last_taken(&mut room).ok_or("no message")?)
 }
 
-/// Has Ann check both of her locations, and answers whether all of it is done.
-fn play(alloc: Global, room: &mut KeptRoom<MemDisk>) -> Result<bool, Fail> {
-    let session = open(room)?;
-    let messages = [(ANN, "done"), (FIRST, "done"), (SECOND, "done")];
-    sends(alloc, room, session, &messages)
-}
+/// Ann checks both of her locations.
+const PLAY: &str = "open | opened
+Ann | done
+first | done
+second | done";
 
 /// The disk after two checks of Ann's.
 fn played_disk(alloc: Global) -> Result<MemDisk, Fail> {
     let mut room = new_room(alloc, None)?;
-    let _all = play(alloc, &mut room)?;
+    try_calls(alloc, &mut room, PLAY)?;
     Ok(room.into_disk())
 }
 
@@ -65,16 +48,17 @@ fn played_disk(alloc: Global) -> Result<MemDisk, Fail> {
 const SWORD: &str =
     r#"{"cmd":"ReceivedItems","index":0,"items":[{"class":"NetworkItem","flags":1,"item":7,"location":101,"player":1}]}"#;
 
-/// Whether the room that these bytes keep tells Bob of his item, and Ann of both of her checks.
-fn tells_both(alloc: Global, bytes: &[u8]) -> Result<bool, Fail> {
-    Ok(tells(alloc, bytes, BOB, SWORD)? && tells(alloc, bytes, ANN, BOTH_CHECKED)?)
-}
-
-/// An event commits before it is done, so a check comes back after a crash that no commit precedes.
+/// An event commits before it is done, so a check comes back after a crash that no commit precedes:
+/// Bob is told of his item, and Ann of both of her checks.
 #[test]
 fn crash_before_commit(rt: HostRuntime) -> Result<(), Fail> {
     let disk = played_disk(rt.alloc())?;
-    fine(tells_both(rt.alloc(), disk.bytes())?)
+    let bob = told(rt.alloc(), disk.bytes(), BOB)?;
+    let ann = told(rt.alloc(), disk.bytes(), ANN)?;
+    fine(&[
+        ("Bob", bob.as_str().contains(SWORD)),
+        ("Ann", ann.as_str().contains(BOTH_CHECKED)),
+    ])
 }
 
 /// How a player's Connected begins once so many of the calls on the disk of two checks are made:
@@ -92,43 +76,17 @@ fn least_checked(moment: usize) -> &'static str {
 /// Whether a crash that leaves these bytes keeps the checks that were done before it, and at most
 /// the next one.
 fn keeps(alloc: Global, bytes: &[u8], moment: usize) -> Result<bool, Fail> {
-    Ok(
-        tells(alloc, bytes, ANN, least_checked(moment))?
-            || tells(alloc, bytes, ANN, least_checked(moment.saturating_add(4)))?,
-    )
+    let text = told(alloc, bytes, ANN)?;
+    let next = least_checked(moment.saturating_add(4));
+    Ok(text.as_str().contains(least_checked(moment)) || text.as_str().contains(next))
 }
 
-/// Whether a crash after so many calls does, on a disk that they were made on.
-fn survives(
-    alloc: Global,
-    disk: &MemDisk,
-    calls: usize,
-    tear: Tear,
-    moment: usize,
-) -> Result<bool, Fail> {
-    let image = disk.image_at(calls, tear)?;
-    keeps(alloc, image.as_slice(), moment)
-}
-
-/// Whether it does whatever the crash leaves of the last writes.
-fn survives_tears(
-    alloc: Global,
-    disk: &MemDisk,
-    calls: usize,
-    moment: usize,
-) -> Result<bool, Fail> {
+/// Fails, with the moment, unless a crash after so many calls does, on a disk that they were made
+/// on, whatever it leaves of the last writes.
+fn survives(alloc: Global, disk: &MemDisk, calls: usize, moment: usize) -> Result<(), Fail> {
     for tear in &TEARS {
-        if !survives(alloc, disk, calls, *tear, moment)? {
-            return Ok(false);
-        }
-    }
-    Ok(true)
-}
-
-/// Fails at the first of so many moments after which a crash doesn't.
-fn survives_each(alloc: Global, disk: &MemDisk, moments: usize) -> Result<(), Fail> {
-    for moment in 0..moments {
-        if !survives_tears(alloc, disk, moment, moment)? {
+        let image = disk.image_at(calls, *tear)?;
+        if !keeps(alloc, image.as_slice(), moment)? {
             return Err(Fail::new(moment));
         }
     }
@@ -138,46 +96,31 @@ fn survives_each(alloc: Global, disk: &MemDisk, moments: usize) -> Result<(), Fa
 #[test]
 fn a_crash_at_each_call_keeps_what_is_done(rt: HostRuntime) -> Result<(), Fail> {
     let disk = played_disk(rt.alloc())?;
-    fine(disk.calls().len() == 11)?;
-    survives_each(rt.alloc(), &disk, 12)
+    fine(&[("eleven calls", disk.calls().len() == 11)])?;
+    for moment in 0..12usize {
+        survives(rt.alloc(), &disk, moment, moment)?;
+    }
+    Ok(())
 }
 
-/// Whether a take and an opening are answered that the room is stopped.
-fn stays_stopped(room: &mut KeptRoom<MemDisk>, session: SessionId) -> bool {
-    answer(room, Call::Take { session }) == "stopped"
-        && answer(room, Call::Open { time: 0 }) == "stopped"
-}
+/// All that is asked of a room is stopped once Ann has connected and a check fails.
+const STOPPED: &str = "open | opened
+Ann | done
+first | stopped
+second | stopped
+7 | stopped
+take | stopped
+open | stopped";
 
-/// Whether all that is asked of a room is stopped once Ann has connected and a check fails.
-fn is_stopped(
-    alloc: Global,
-    room: &mut KeptRoom<MemDisk>,
-    session: SessionId,
-) -> Result<bool, Fail> {
-    let messages = [
-        (ANN, "done"),
-        (FIRST, "stopped"),
-        (SECOND, "stopped"),
-        ("7", "stopped"),
-    ];
-    Ok(sends(alloc, room, session, &messages)? && stays_stopped(room, session))
-}
-
-/// The same of a room in which nobody is yet.
-fn stops(alloc: Global, room: &mut KeptRoom<MemDisk>) -> Result<bool, Fail> {
-    let session = open(room)?;
-    is_stopped(alloc, room, session)
-}
-
-/// The disk of a room whose first append fails at its second sync, and whether all is stopped then.
-fn stopped_disk(alloc: Global) -> Result<(bool, MemDisk), Fail> {
+/// The disk of a room whose first append fails at its second sync, after which all is stopped.
+fn stopped_disk(alloc: Global) -> Result<MemDisk, Fail> {
     let mut room = new_room(alloc, Some(6))?;
-    let stopped = stops(alloc, &mut room)?;
-    Ok((stopped, room.into_disk()))
+    try_calls(alloc, &mut room, STOPPED)?;
+    Ok(room.into_disk())
 }
 
 #[test]
 fn second_sync_fails(rt: HostRuntime) -> Result<(), Fail> {
-    let (stopped, disk) = stopped_disk(rt.alloc())?;
-    fine(stopped && survives_tears(rt.alloc(), &disk, 7, 3)?)
+    let disk = stopped_disk(rt.alloc())?;
+    survives(rt.alloc(), &disk, 7, 3)
 }

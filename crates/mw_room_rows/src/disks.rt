@@ -1,6 +1,6 @@
 use mw_base::{Bytes, List};
 use mw_disk::{DiskError, MemDisk};
-use mw_journal::{Journal, create};
+use mw_journal::create;
 use mw_keep::{KeptRoom, recover};
 use mw_multidata::digest;
 use mw_room_a::ROOM_A;
@@ -23,23 +23,11 @@ pub(crate) fn disk_of(alloc: Global, bytes: &[u8], failing: Option<u64>) -> Resu
     Ok(MemDisk::new(alloc, start, plan)?)
 }
 
-/// A new journal of the seed file.
-fn created(alloc: Global, disk: MemDisk) -> Result<Journal<MemDisk>, Fail> {
-    match create(alloc, disk, &digest(ROOM_A.as_bytes())) {
-        Ok(journal) => Ok(journal),
-        Err((_, error)) => Err(Fail::from(error)),
-    }
-}
-
 /// The bytes of a new journal of the seed file.
 pub(crate) fn new_journal(alloc: Global) -> Result<Vec<u8>, Fail> {
-    let disk = created(alloc, disk_of(alloc, b"", None)?)?.into_disk();
-    Ok(Vec::from_slice(alloc, disk.bytes())?)
-}
-
-/// The room that a disk keeps.
-fn recovered(alloc: Global, disk: MemDisk) -> Option<KeptRoom<MemDisk>> {
-    recover(alloc, disk, ROOM_A.as_bytes()).ok()
+    let disk = disk_of(alloc, b"", None)?;
+    let journal = create(alloc, disk, &digest(ROOM_A.as_bytes())).ok();
+    Ok(Vec::from_slice(alloc, journal.ok_or("no journal")?.into_disk().bytes())?)
 }
 
 /// The room that a disk of these bytes keeps.
@@ -49,7 +37,11 @@ pub(crate) fn kept_room(
     failing: Option<u64>,
 ) -> Result<KeptRoom<MemDisk>, Fail> {
     let disk = disk_of(alloc, bytes, failing)?;
-    Ok(recovered(alloc, disk).ok_or("no room")?)
+    Ok(
+        recover(alloc, disk, ROOM_A.as_bytes())
+            .ok()
+            .ok_or("no room")?,
+    )
 }
 
 /// A new room.

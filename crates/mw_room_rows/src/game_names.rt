@@ -1,71 +1,74 @@
-ghost use Rattle.std.specs.Prelude.{IfSome};
-ghost use Rattle.mw_model.specs.Json.{IsWritable};
-ghost use Rattle.mw_json.specs.View.{view};
-
-use crate::cases::{agree, each};
-use mw_base::Text;
+use crate::cases::{Theme, each};
+use crate::logs::tables_of;
+use mw_base::{Memory, Text};
+use mw_cases::part;
 use mw_datapack::{checksum, game_data};
-use mw_json::{Tree, compact_text};
-use mw_multidata::{RoomTables, read};
+use mw_json::compact_text;
+use mw_multidata::RoomTables;
 use std::alloc::Global;
 use std::test::Fail;
 
 const SEED: &str =
     r#"{"format":"mw-multidata-1","games":{"F":{"item_name_to_id":{},"location_name_to_id":{}},"G":{"item_name_to_id":{"Boots":5,"Coin":8,"Map":9,"Sword":7},"location_name_to_id":{"A1":101,"A2":102,"B1":201}}},"locations":[[1,101,7,2,1],[1,102,8,1,0],[2,201,9,1,2]],"seed_name":"A","server":{"collect":"goal","hint_cost":10,"location_check_points":1,"password":"","release":"goal","remaining":"goal"},"slots":[{"game":"G","names":["Ann"],"start":[[5,0]]},{"game":"G","names":["Bob"],"start":[]}],"spheres":[],"teams":1}"#;
 
-/// The tables of the seed.
-fn tables(alloc: Global) -> Result<RoomTables, Fail> {
-    Ok(RoomTables::of(alloc, read(alloc, SEED.as_bytes())?)?)
-}
+/// The seed's games.
+struct Games;
 
-/// The checksum of a game, nothing where it isn't played.
-fn checksum_of(alloc: Global, name: &str) -> Result<Text, Fail> {
-    let tables = tables(alloc)?;
-    match checksum(alloc, &tables, &Text::of(alloc, name)?)? {
-        Some(checksum) => Ok(checksum),
-        None => Ok(Text::of(alloc, "")?),
+impl Theme for Games {
+    /// What a case `KIND | GAME | TEXT` asks for: a game's checksum, or what it is told with.
+    fn answer(alloc: Global, case: &str) -> Result<Text, Fail> {
+        let tables = tables_of(alloc, SEED)?;
+        let game = Text::of(alloc, part(case, 1))?;
+        Ok(told(alloc, part(case, 0), &tables, &game)?)
     }
 }
 
-/// The text of a tree, nothing where there is none.
-fn text_of(alloc: Global, tree: Option<Tree>) -> Result<Text, Fail>
-    requires { IfSome tree (λ t. IsWritable (view t)) }
-{
-    match tree {
-        Some(tree) => Ok(compact_text(alloc, &tree)?),
-        None => Ok(Text::of(alloc, "")?),
+/// The checksum of a game, or what it is told with; nothing where it isn't played.
+fn told(alloc: Global, kind: &str, tables: &RoomTables, game: &Text) -> Result<Text, Memory> {
+    if kind == "checksum" {
+        let found = checksum(alloc, tables, game)?;
+        return or_nothing(alloc, found);
+    }
+    match game_data(alloc, tables, game)? {
+        Some(data) => compact_text(alloc, &data),
+        None => or_nothing(alloc, None),
     }
 }
 
-/// The text of what a game is told with, nothing where it isn't played.
-fn data_of(alloc: Global, name: &str) -> Result<Text, Fail> {
-    let tables = tables(alloc)?;
-    let game = Text::of(alloc, name)?;
-    text_of(alloc, game_data(alloc, &tables, &game)?)
+/// A text, if there is one.
+fn or_nothing(alloc: Global, text: Option<Text>) -> Result<Text, Memory> {
+    match text {
+        Some(text) => Ok(text),
+        None => Text::of(alloc, "nothing"),
+    }
 }
 
 #[test]
 fn a_played_game_has_a_checksum(rt: HostRuntime) -> Result<(), Fail> {
-    let found = checksum_of(rt.alloc(), "G")?;
-    agree(found.as_str(), "3140df20051ca1c7a5dd4f886f8945c613c6fbba")
-}
-
-#[test]
-fn a_played_game_has_its_names(rt: HostRuntime) -> Result<(), Fail> {
-    let found = data_of(rt.alloc(), "G")?;
-    agree(
-        found.as_str(),
-        r#"{"checksum":"3140df20051ca1c7a5dd4f886f8945c613c6fbba","item_name_to_id":{"Boots":5,"Coin":8,"Map":9,"Sword":7},"location_name_to_id":{"A1":101,"A2":102,"B1":201}}"#,
+    each::<Games>(
+        rt.alloc(),
+        "checksum | G | 3140df20051ca1c7a5dd4f886f8945c613c6fbba",
     )
 }
 
-/// Whether a game has neither checksum nor data.
-fn has_nothing(alloc: Global, name: &str) -> Result<bool, Fail> {
-    let checksum = checksum_of(alloc, name)?;
-    Ok(checksum.as_str() == "" && data_of(alloc, name)?.as_str() == "")
+/// What the game is told with.
+const NAMES: &str =
+    r#"data | G | {"checksum":"3140df20051ca1c7a5dd4f886f8945c613c6fbba","item_name_to_id":{"Boots":5,"Coin":8,"Map":9,"Sword":7},"location_name_to_id":{"A1":101,"A2":102,"B1":201}}"#;
+
+#[test]
+fn a_played_game_has_its_names(rt: HostRuntime) -> Result<(), Fail> {
+    each::<Games>(rt.alloc(), NAMES)
 }
+
+/// A game that isn't played, another spelling of the one that is, and no name have nothing.
+const OTHERS: &str = "checksum | F | nothing
+checksum | g | nothing
+checksum |  | nothing
+data | F | nothing
+data | g | nothing
+data |  | nothing";
 
 #[test]
 fn other_games_have_nothing(rt: HostRuntime) -> Result<(), Fail> {
-    each(rt.alloc(), "F\ng\n", has_nothing)
+    each::<Games>(rt.alloc(), OTHERS)
 }

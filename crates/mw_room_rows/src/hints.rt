@@ -1,6 +1,7 @@
-use crate::cases::fine;
-use crate::logs::{ann, b1, bob, log_of_two, new_log, team};
+use crate::cases::{Theme, each, fine};
+use crate::logs::{ann, b1, bob, new_log, played_log, team};
 use mw_base::{HintRecord, HintStatus, ItemId, LocId, Memory, SlotId, Text};
+use mw_cases::part;
 use mw_checks::CheckLog;
 use mw_hints::{Hint, HintAnswer, HintBook, Wanted, cost};
 use std::alloc::Global;
@@ -36,160 +37,153 @@ fn marked() -> HintRecord {
     }
 }
 
-/// A book with the hint that Ann bought.
-fn book_of_one(alloc: Global) -> Result<HintBook, Fail> {
+/// A book, which has the hint that Ann bought or none.
+fn book_of(alloc: Global, is_bought: bool) -> Result<HintBook, Memory> {
     let mut book = HintBook::new(alloc);
-    book.add(&made(ann(), true, priority()))?;
+    if is_bought {
+        book.add(&made(ann(), true, priority()))?;
+    }
     Ok(book)
 }
 
-/// An item of this name.
-fn item(alloc: Global, name: &str) -> Result<Wanted, Memory> {
-    Ok(Wanted::Item(Text::of(alloc, name)?))
+/// The hints and the checks of a room.
+#[derive(Drop)]
+struct Hinted {
+    book: HintBook,
+    log: CheckLog,
 }
 
-/// A location of this name.
-fn location(alloc: Global, name: &str) -> Result<Wanted, Memory> {
-    Ok(Wanted::Location(Text::of(alloc, name)?))
+/// A room in which Ann has bought a hint or hasn't, and a slot has checked all of its locations.
+fn room_of(alloc: Global, is_bought: bool, slot: SlotId) -> Result<Hinted, Fail> {
+    let log = played_log(alloc, slot)?;
+    let book = book_of(alloc, is_bought)?;
+    Ok(Hinted { book, log })
 }
 
-/// What Ann is answered who wants this.
+/// What is wanted by its words, `item NAME` or `location NAME`.
+fn wanted(alloc: Global, words: &str) -> Result<Wanted, Memory> {
+    match words.split_once("location ") {
+        Some((_, name)) => Ok(Wanted::Location(Text::of(alloc, name)?)),
+        None => Ok(Wanted::Item(Text::of(alloc, words)?)),
+    }
+}
+
+/// A word for what Ann is answered.
+fn word(answer: Result<HintAnswer, Memory>) -> &'static str {
+    match answer {
+        Ok(HintAnswer::Bought(record)) if record == made(ann(), true, priority()) => "bought",
+        Ok(HintAnswer::NoSuchName) => "no such name",
+        Ok(HintAnswer::Nothing) => "nothing",
+        Ok(HintAnswer::TooDear { cost: 1, points: 0 }) => "one point of none",
+        _ => "another answer",
+    }
+}
+
+/// What Ann is answered in words who wants this.
 fn asked(
+    alloc: Global,
     book: &HintBook,
     log: &CheckLog,
-    wanted: Result<Wanted, Memory>,
-) -> Result<HintAnswer, Memory> {
-    let wanted = wanted?;
-    book.buy(team(), ann(), &wanted, log)
+    words: &str,
+) -> Result<&'static str, Memory> {
+    let wanted = wanted(alloc, words)?;
+    Ok(word(book.buy(team(), ann(), &wanted, log)))
 }
 
-/// Whether Ann is answered so who wants this.
-fn is_answered(
-    book: &HintBook,
-    log: &CheckLog,
-    wanted: Result<Wanted, Memory>,
-    answer: HintAnswer,
-) -> bool {
-    match asked(book, log, wanted) {
-        Ok(found) => found == answer,
-        Err(_) => false,
+/// What Ann is answered who has checked all of her locations, in cases `BOOK | WANTED | ANSWER`.
+struct Buying;
+
+impl Theme for Buying {
+    fn answer(alloc: Global, case: &str) -> Result<Text, Fail> {
+        let room = room_of(alloc, part(case, 0) == "bought", ann())?;
+        let word = asked(alloc, &room.book, &room.log, part(case, 1))?;
+        Ok(Text::of(alloc, word)?)
     }
 }
 
 #[test]
 fn a_hint_is_bought(rt: HostRuntime) -> Result<(), Fail> {
-    let log = log_of_two(rt.alloc())?;
-    let book = HintBook::new(rt.alloc());
-    let bought = HintAnswer::Bought(made(ann(), true, priority()));
-    fine(is_answered(&book, &log, item(rt.alloc(), "Map"), bought))
+    each::<Buying>(rt.alloc(), "new | Map | bought")
 }
 
-/// Whether Ann gets nothing who wants an item of this name.
-fn is_nothing(alloc: Global, book: &HintBook, log: &CheckLog, name: &str) -> bool {
-    is_answered(book, log, item(alloc, name), HintAnswer::Nothing)
-}
-
-/// Whether Ann is told that there is no such name who wants an item of this one.
-fn is_no_item(alloc: Global, book: &HintBook, log: &CheckLog, name: &str) -> bool {
-    is_answered(book, log, item(alloc, name), HintAnswer::NoSuchName)
-}
-
-/// Whether Ann is told so who wants a location of this name.
-fn is_no_location(alloc: Global, book: &HintBook, log: &CheckLog, name: &str) -> bool {
-    is_answered(book, log, location(alloc, name), HintAnswer::NoSuchName)
-}
-
-/// Whether Ann gets neither a map nor a hat, which is no item.
-fn gives_no_map(alloc: Global, book: &HintBook, log: &CheckLog) -> bool {
-    is_nothing(alloc, book, log, "Map") && is_no_item(alloc, book, log, "Hat")
-}
+/// Ann gets neither a map nor a hat, which is no item.
+const ONCE: &str = "bought | Map | nothing
+bought | Hat | no such name";
 
 #[test]
 fn a_hint_is_bought_once(rt: HostRuntime) -> Result<(), Fail> {
-    let book = book_of_one(rt.alloc())?;
-    let log = log_of_two(rt.alloc())?;
-    fine(gives_no_map(rt.alloc(), &book, &log))
+    each::<Buying>(rt.alloc(), ONCE)
 }
 
-/// Whether Ann gets no hint of no such item, an item of the start, another's item, and one that is
-/// found.
-fn gives_no_hint(alloc: Global, book: &HintBook, log: &CheckLog) -> bool {
-    is_no_item(alloc, book, log, "Hat")
-        && is_nothing(alloc, book, log, "Boots")
-        && is_nothing(alloc, book, log, "Sword")
-        && is_nothing(alloc, book, log, "Coin")
-}
+/// No such item, an item of the start, another's item, and one that is found.
+const NOT_HINTED: &str = "new | Hat | no such name
+new | Boots | nothing
+new | Sword | nothing
+new | Coin | nothing";
 
 #[test]
 fn what_is_not_hinted(rt: HostRuntime) -> Result<(), Fail> {
-    let log = log_of_two(rt.alloc())?;
-    let book = HintBook::new(rt.alloc());
-    fine(gives_no_hint(rt.alloc(), &book, &log))
+    each::<Buying>(rt.alloc(), NOT_HINTED)
 }
 
-/// Whether Ann may name just a location of her own, of which there is no hint.
-fn names_her_own(alloc: Global, book: &HintBook, log: &CheckLog) -> bool {
-    is_no_location(alloc, book, log, "B1")
-        && is_answered(book, log, location(alloc, "A1"), HintAnswer::Nothing)
-        && is_no_location(alloc, book, log, "Map")
-}
+/// Ann may name just a location of her own, of which there is no hint.
+const HER_OWN: &str = "new | location B1 | no such name
+new | location A1 | nothing
+new | location Map | no such name";
 
 #[test]
 fn locations_are_hinted_in_their_own_world(rt: HostRuntime) -> Result<(), Fail> {
-    let log = log_of_two(rt.alloc())?;
-    let book = HintBook::new(rt.alloc());
-    fine(names_her_own(rt.alloc(), &book, &log))
+    each::<Buying>(rt.alloc(), HER_OWN)
 }
 
-/// Whether a hint costs Ann a point, which she hasn't.
-fn is_too_dear(alloc: Global, book: &HintBook, log: &CheckLog) -> bool {
-    let too_dear = HintAnswer::TooDear { cost: 1, points: 0 };
-    is_answered(book, log, item(alloc, "Map"), too_dear)
-        && is_nothing(alloc, book, log, "Boots")
-        && cost(ann(), log) == 1
-}
-
+/// A hint costs Ann a point, which she hasn't.
 #[test]
 fn hints_cost_points(rt: HostRuntime) -> Result<(), Fail> {
     let log = new_log(rt.alloc())?;
     let book = HintBook::new(rt.alloc());
-    fine(is_too_dear(rt.alloc(), &book, &log))
+    fine(&[
+        (
+            "Map",
+            asked(rt.alloc(), &book, &log, "Map") == Ok("one point of none"),
+        ),
+        (
+            "Boots",
+            asked(rt.alloc(), &book, &log, "Boots") == Ok("nothing"),
+        ),
+        ("the cost", cost(ann(), &log) == 1),
+    ])
 }
 
-/// The points of a slot that has checked so many locations.
-fn points_of(book: &HintBook, log: &CheckLog, slot: SlotId, checked: u32) -> u64 {
-    book.points(team(), slot, u64::from(checked), log)
-}
-
-/// Whether a slot that has checked both of its locations has no points once it has paid for one hint more.
-fn pays_once(book: &HintBook, log: &CheckLog, slot: SlotId) -> bool {
-    book.points_once(team(), slot, 2, 1, log) == Ok(0)
-}
-
-/// Whether checks leave Bob, who has bought nothing, and Ann, who has, their points.
-fn leaves_points(book: &HintBook, log: &CheckLog) -> bool {
-    points_of(book, log, bob(), 2) == 2
-        && points_of(book, log, ann(), 2) == 1
-        && points_of(book, log, ann(), 0) == 0
-        && pays_once(book, log, ann())
-}
-
+/// What checks leave Bob, who has bought nothing, and Ann, who has bought a hint.
 #[test]
 fn points_are_what_checks_leave(rt: HostRuntime) -> Result<(), Fail> {
-    let book = book_of_one(rt.alloc())?;
-    let log = log_of_two(rt.alloc())?;
-    fine(leaves_points(&book, &log))
+    let room = room_of(rt.alloc(), true, ann())?;
+    fine(&[
+        (
+            "Bob's two",
+            room.book.points(team(), bob(), 2, &room.log) == 2,
+        ),
+        (
+            "Ann's two",
+            room.book.points(team(), ann(), 2, &room.log) == 1,
+        ),
+        (
+            "Ann's none",
+            room.book.points(team(), ann(), 0, &room.log) == 0,
+        ),
+        (
+            "one hint more",
+            room.book.points_once(team(), ann(), 2, 1, &room.log) == Ok(0),
+        ),
+    ])
 }
 
 /// Whether a slot that scouts a location of its own makes these hints.
-fn scouts(
-    book: &HintBook,
-    log: &CheckLog,
-    slot: SlotId,
-    location: LocId,
-    wanted: &[HintRecord],
-) -> bool {
-    match book.scout(team(), slot, &[(slot, location)], log) {
+fn scouts(room: &Hinted, slot: SlotId, location: LocId, wanted: &[HintRecord]) -> bool {
+    match room
+        .book
+        .scout(team(), slot, &[(slot, location)], &room.log)
+    {
         Ok(found) => found.as_slice() == wanted,
         Err(_) => false,
     }
@@ -197,61 +191,64 @@ fn scouts(
 
 #[test]
 fn scouts_make_hints_of_what_is_not_checked(rt: HostRuntime) -> Result<(), Fail> {
-    let log = log_of_two(rt.alloc())?;
-    let book = HintBook::new(rt.alloc());
+    let room = room_of(rt.alloc(), false, ann())?;
     let wanted = made(bob(), false, HintStatus::new(0).unwrap());
-    fine(scouts(&book, &log, bob(), b1(), &[wanted]))
+    fine(&[("Bob's location", scouts(&room, bob(), b1(), &[wanted]))])
 }
 
 #[test]
 fn scouts_make_no_hints_of_what_is_checked(rt: HostRuntime) -> Result<(), Fail> {
-    let log = log_of_two(rt.alloc())?;
-    let book = HintBook::new(rt.alloc());
-    fine(scouts(&book, &log, ann(), LocId::new(101).unwrap(), &[]))
+    let room = room_of(rt.alloc(), false, ann())?;
+    fine(&[(
+        "Ann's location",
+        scouts(&room, ann(), LocId::new(101).unwrap(), &[]),
+    )])
 }
 
 /// The record by which a slot gives the hint of Bob's location a status.
-fn marks(book: &HintBook, by: SlotId, status: HintStatus, log: &CheckLog) -> Option<HintRecord> {
-    book.set_status(team(), by, bob(), b1(), status, log)
+fn marks(room: &Hinted, by: SlotId, status: HintStatus) -> Option<HintRecord> {
+    room.book
+        .set_status(team(), by, bob(), b1(), status, &room.log)
 }
 
-/// Whether Ann alone gives the hint another status.
-fn is_marked_by_ann(book: &HintBook, log: &CheckLog) -> bool {
-    marks(book, ann(), no_priority(), log) == Some(marked())
-        && marks(book, ann(), priority(), log).is_none()
-        && marks(book, bob(), no_priority(), log).is_none()
-}
-
+/// Ann alone gives the hint another status.
 #[test]
 fn receivers_set_the_status(rt: HostRuntime) -> Result<(), Fail> {
-    let book = book_of_one(rt.alloc())?;
-    let log = log_of_two(rt.alloc())?;
-    fine(is_marked_by_ann(&book, &log))
+    let room = room_of(rt.alloc(), true, ann())?;
+    fine(&[
+        (
+            "Ann's mark",
+            marks(&room, ann(), no_priority()) == Some(marked()),
+        ),
+        ("no other status", marks(&room, ann(), priority()).is_none()),
+        ("Bob's mark", marks(&room, bob(), no_priority()).is_none()),
+    ])
 }
 
 /// A book with that hint and its mark, in room that is taken ahead.
-fn grown_book(alloc: Global) -> Result<HintBook, Fail> {
+fn grown_book(alloc: Global) -> Result<HintBook, Memory> {
     let mut book = HintBook::new(alloc);
     let growth = book.room_for(2)?;
     book.add_grown(&[made(ann(), true, priority()), marked()], growth);
     Ok(book)
 }
 
-/// Whether a book has the hint of Bob's location with its mark.
-fn has_marked(book: &HintBook) -> bool {
-    book.hint_at(team(), bob(), b1()) == Some(made(ann(), true, no_priority()))
-        && book.hint_at(team(), ann(), b1()).is_none()
-}
-
 #[test]
 fn hints_are_added_in_room_taken_ahead(rt: HostRuntime) -> Result<(), Fail> {
     let book = grown_book(rt.alloc())?;
-    fine(has_marked(&book))
+    let wanted = Some(made(ann(), true, no_priority()));
+    fine(&[
+        (
+            "the hint with its mark",
+            book.hint_at(team(), bob(), b1()) == wanted,
+        ),
+        ("none of Ann's", book.hint_at(team(), ann(), b1()).is_none()),
+    ])
 }
 
-/// Bob's location as its hint is told.
-fn hint(found: bool, status: u8) -> Hint {
-    Hint {
+/// Whether the hints that a slot is told are that of Bob's location alone, so.
+fn is_told(room: &Hinted, slot: SlotId, found: bool, status: u8) -> bool {
+    let wanted = Hint {
         receiving_player: 1,
         finding_player: bob(),
         location: b1(),
@@ -259,44 +256,29 @@ fn hint(found: bool, status: u8) -> Hint {
         found,
         item_flags: 2,
         status,
-    }
-}
-
-/// Whether the hints that a slot is told are that of Bob's location alone, so.
-fn is_told(book: &HintBook, slot: SlotId, log: &CheckLog, wanted: Hint) -> bool {
-    match book.list(team(), slot, log) {
+    };
+    match room.book.list(team(), slot, &room.log) {
         Ok(hints) => hints.as_slice() == [wanted].as_slice(),
         Err(_) => false,
     }
 }
 
-/// Whether both are told the hint, which isn't found.
-fn tells_both(book: &HintBook, log: &CheckLog) -> bool {
-    is_told(book, ann(), log, hint(false, 30)) && is_told(book, bob(), log, hint(false, 30))
-}
-
+/// Both are told the hint, which isn't found.
 #[test]
 fn hints_are_told_to_both(rt: HostRuntime) -> Result<(), Fail> {
-    let book = book_of_one(rt.alloc())?;
-    let log = log_of_two(rt.alloc())?;
-    fine(tells_both(&book, &log))
+    let room = room_of(rt.alloc(), true, ann())?;
+    fine(&[
+        ("Ann", is_told(&room, ann(), false, 30)),
+        ("Bob", is_told(&room, bob(), false, 30)),
+    ])
 }
 
-/// The log of a room in which Bob has checked his location.
-fn log_of_bobs(alloc: Global) -> Result<CheckLog, Fail> {
-    let mut log = new_log(alloc)?;
-    let _added = log.add(team(), &[(bob(), b1())])?;
-    Ok(log)
-}
-
-/// Whether the hint is found, and gets no status any more.
-fn is_found(book: &HintBook, log: &CheckLog) -> bool {
-    is_told(book, bob(), log, hint(true, 40)) && marks(book, ann(), no_priority(), log).is_none()
-}
-
+/// The hint is found, and gets no status any more.
 #[test]
 fn hints_are_found_once_checked(rt: HostRuntime) -> Result<(), Fail> {
-    let book = book_of_one(rt.alloc())?;
-    let log = log_of_bobs(rt.alloc())?;
-    fine(is_found(&book, &log))
+    let room = room_of(rt.alloc(), true, bob())?;
+    fine(&[
+        ("found", is_told(&room, bob(), true, 40)),
+        ("no mark", marks(&room, ann(), no_priority()).is_none()),
+    ])
 }

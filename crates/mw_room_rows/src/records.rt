@@ -1,109 +1,33 @@
-use crate::cases::{each, fine};
-use mw_base::{Bytes, ClientStatus, HintRecord, HintStatus, List, LocId, SlotId, TeamId, Text};
+use crate::cases::{Theme, each};
+use mw_base::{
+    Bytes, ClientStatus, HintRecord, HintStatus, List, LocId, Memory, SlotId, TeamId, Text,
+};
 use mw_cases::part;
 use mw_json::Tree;
 use mw_records::{Record, RecordError, Stored, decode, encode};
 use std::alloc::Global;
 use std::test::Fail;
 
-/// The digits of a byte 9 and of a record that is written twice behind it.
-fn digits(alloc: Global, record: &Record) -> Result<String, Fail> {
+/// A byte 9 and a record that is written twice behind it.
+fn twice(alloc: Global, record: &Record) -> Result<Bytes, Memory> {
     let mut bytes = Bytes::from_vec(Vec::from_slice(alloc, &[9])?);
     encode(alloc, record, &mut bytes)?;
     encode(alloc, record, &mut bytes)?;
-    Ok(hex::encode(alloc, bytes.as_slice())?)
+    Ok(bytes)
 }
 
-/// The record that stands behind the first byte of digits and ends there.
-fn record_in(alloc: Global, digits: &str, end: usize) -> Result<Record, Fail> {
-    let bytes = hex::decode(alloc, digits)?;
-    let (record, next) = decode(alloc, bytes.as_slice(), 1)?;
-    if next != end as u64 {
-        return Err(Fail::from("another end"));
-    }
-    Ok(record)
-}
-
-/// Whether these are a record's digits.
-fn are_digits(alloc: Global, record: &Record, wanted: &str) -> Result<bool, Fail> {
-    Ok(digits(alloc, record)?.as_str() == wanted)
-}
-
-/// Whether a record is spelled so, behind what stands already, and is read again from there.
-fn is_spelled(alloc: Global, record: &Record, spelled: &str) -> Result<bool, Fail> {
-    let wanted = format!(in alloc; "09{spelled}{spelled}")?;
-    if !are_digits(alloc, record, wanted.as_str())? {
-        return Ok(false);
-    }
-    let again = record_in(alloc, wanted.as_str(), spelled.len() / 2 + 1)?;
-    are_digits(alloc, &again, wanted.as_str())
+/// Whether the first of the two is read again from behind the 9, and ends where the second begins.
+fn is_read(alloc: Global, bytes: &[u8]) -> Result<bool, Fail> {
+    let (record, next) = decode(alloc, bytes, 1)?;
+    let again = twice(alloc, &record)?;
+    Ok(next as usize == bytes.len() / 2 + 1 && again.as_slice() == bytes)
 }
 
 /// A check of a location.
 fn check(alloc: Global) -> Result<Record, Fail> {
-    let mut locations = List::new(alloc);
-    locations.push(LocId::new(101).unwrap())?;
+    let locations = List::from_vec(Vec::from_slice(alloc, &[LocId::new(101).unwrap()])?);
     let (team, slot) = (TeamId::new(0).unwrap(), SlotId::new(1).unwrap());
     Ok(Record::of_checks(team, slot, locations).ok_or("a location")?)
-}
-
-#[test]
-fn checks_are_spelled(rt: HostRuntime) -> Result<(), Fail> {
-    let record = check(rt.alloc())?;
-    fine(is_spelled(rt.alloc(), &record, "01000001000000010000000000000065")?)
-}
-
-/// The hint that a slot buys of Bob's location.
-fn made() -> Option<HintRecord> {
-    Some(HintRecord::Made {
-        team: TeamId::new(0)?,
-        finder: SlotId::new(2)?,
-        loc: LocId::new(201)?,
-        bought: true,
-        buyer: SlotId::new(1)?,
-        status: HintStatus::new(30)?,
-    })
-}
-
-/// A status of the hint of the location with the greatest id.
-fn marked() -> Option<HintRecord> {
-    Some(HintRecord::Marked {
-        team: TeamId::new(0)?,
-        finder: SlotId::new(2)?,
-        loc: LocId::new(9_007_199_254_740_991)?,
-        status: HintStatus::new(30)?,
-    })
-}
-
-/// A record by its name: of the last slot of the last team, or of a hint.
-fn record_of(name: &str) -> Option<Record> {
-    let (team, slot) = (TeamId::new(7)?, SlotId::new(1024)?);
-    let status = ClientStatus::new(5)?;
-    match name {
-        "release" => Some(Record::Release { team, slot }),
-        "collect" => Some(Record::Collect { team, slot }),
-        "status" => Some(Record::Status { team, slot, status }),
-        "hint" => Some(Record::Hint(made()?)),
-        _ => Some(Record::Hint(marked()?)),
-    }
-}
-
-/// Names of records, and how each is spelled.
-const RECORDS: &str = "release | 02070400
-collect | 03070400
-status | 0407040005
-hint | 0500000200000000000000c90100011e
-mark | 06000002001fffffffffffff1e";
-
-/// Whether a case's record is spelled so.
-fn is_case(alloc: Global, case: &str) -> Result<bool, Fail> {
-    let record = record_of(part(case, 0)).ok_or("no record")?;
-    is_spelled(alloc, &record, part(case, 1))
-}
-
-#[test]
-fn records_of_slots_and_hints_are_spelled(rt: HostRuntime) -> Result<(), Fail> {
-    each(rt.alloc(), RECORDS, is_case)
 }
 
 /// The value [5] of a key k.
@@ -114,57 +38,130 @@ fn five(alloc: Global) -> Result<Record, Fail> {
     Ok(Record::Store(stored.ok_or("short")?))
 }
 
-#[test]
-fn values_are_spelled(rt: HostRuntime) -> Result<(), Fail> {
-    let record = five(rt.alloc())?;
-    fine(is_spelled(rt.alloc(), &record, "07000000016b000000035b355d")?)
-}
-
-/// The place of a bad record, if it is one.
-fn bad_at(alloc: Global, bytes: &[u8], at: u64) -> Option<u64> {
-    match decode(alloc, bytes, at) {
-        Err(RecordError::BadRecord { at }) => Some(at),
-        _ => None,
+/// The hint that a slot buys of Bob's location.
+fn made() -> HintRecord {
+    HintRecord::Made {
+        team: TeamId::new(0).unwrap(),
+        finder: SlotId::new(2).unwrap(),
+        loc: LocId::new(201).unwrap(),
+        bought: true,
+        buyer: SlotId::new(1).unwrap(),
+        status: HintStatus::new(30).unwrap(),
     }
 }
 
-/// Bytes that begin with no record, by their digits, and why.
-const NO_RECORDS: &str = " | nothing
-00 | kind 0
-08000001 | kind 8
-02080001 | team 8
-02000000 | slot 0
-02000401 | slot 1,025
-020004 | a slot cut short
-0100000100000000 | no location
-01000001000000010000000000000000 | location 0
-01000001000000010020000000000000 | location 2^53
-01000001000000020000000000000065 | one location of two
-0400000128 | status 40 of a slot
-06000001000000000000006505 | status 5 of a hint
-0500000100000000000000650200011e | a flag of 2
-0700000001ff0000000135 | a key that is no text
-07000000016b000000022035 | white space
-07000000016b00000003352e35 | a fraction
-07000000016b00000008225c753030343122 | another spelling of a text
-07000000016b0000000d7b2262223a312c2261223a327d | members out of order
-07000000016b000000015b | no JSON
-07000000016b0000000235 | a value cut short";
-
-/// Whether a case's bytes begin with no record.
-fn is_bad(alloc: Global, case: &str) -> Result<bool, Fail> {
-    let bytes = hex::decode(alloc, part(case, 0))?;
-    Ok(bad_at(alloc, bytes.as_slice(), 0) == Some(0))
+/// A status of the hint of the location with the greatest id.
+fn marked() -> HintRecord {
+    HintRecord::Marked {
+        team: TeamId::new(0).unwrap(),
+        finder: SlotId::new(2).unwrap(),
+        loc: LocId::new(9_007_199_254_740_991).unwrap(),
+        status: HintStatus::new(30).unwrap(),
+    }
 }
 
-/// Whether no record begins behind a record's end.
-fn ends(alloc: Global) -> bool {
-    let after = b"\x02\x00\x00\x01".as_slice();
-    bad_at(alloc, after, 4) == Some(4) && bad_at(alloc, after, u64::MAX) == Some(u64::MAX)
+/// A record by its name: of the last slot of the last team, of a hint, or another.
+fn record_of(alloc: Global, name: &str) -> Result<Record, Fail> {
+    let (team, slot) = (TeamId::new(7).unwrap(), SlotId::new(1024).unwrap());
+    let status = ClientStatus::new(5).unwrap();
+    match name {
+        "release" => Ok(Record::Release { team, slot }),
+        "collect" => Ok(Record::Collect { team, slot }),
+        "status" => Ok(Record::Status { team, slot, status }),
+        "hint" => Ok(Record::Hint(made())),
+        "mark" => Ok(Record::Hint(marked())),
+        "check" => check(alloc),
+        _ => five(alloc),
+    }
+}
+
+/// Records that are written twice behind a byte 9, and read again, in cases `RECORD | DIGITS`.
+struct Spelled;
+
+impl Theme for Spelled {
+    fn answer(alloc: Global, case: &str) -> Result<Text, Fail> {
+        let bytes = twice(alloc, &record_of(alloc, part(case, 0))?)?;
+        if !is_read(alloc, bytes.as_slice())? {
+            return Err(Fail::new(case));
+        }
+        Ok(Text::from_string(hex::encode(alloc, bytes.as_slice())?))
+    }
+}
+
+#[test]
+fn checks_are_spelled(rt: HostRuntime) -> Result<(), Fail> {
+    each::<Spelled>(
+        rt.alloc(),
+        "check | 090100000100000001000000000000006501000001000000010000000000000065",
+    )
+}
+
+/// Names of records, and how each is spelled twice behind a 9.
+const RECORDS: &str = "release | 090207040002070400
+collect | 090307040003070400
+status | 0904070400050407040005
+hint | 090500000200000000000000c90100011e0500000200000000000000c90100011e
+mark | 0906000002001fffffffffffff1e06000002001fffffffffffff1e";
+
+#[test]
+fn records_of_slots_and_hints_are_spelled(rt: HostRuntime) -> Result<(), Fail> {
+    each::<Spelled>(rt.alloc(), RECORDS)
+}
+
+#[test]
+fn values_are_spelled(rt: HostRuntime) -> Result<(), Fail> {
+    each::<Spelled>(
+        rt.alloc(),
+        "value | 0907000000016b000000035b355d07000000016b000000035b355d",
+    )
+}
+
+/// Why no record begins at places of bytes, the places, and the bytes by their digits.
+const NO_RECORDS: &str = "nothing | 0 |  | no record
+kind 0 | 0 | 00 | no record
+kind 8 | 0 | 08000001 | no record
+team 8 | 0 | 02080001 | no record
+slot 0 | 0 | 02000000 | no record
+slot 1,025 | 0 | 02000401 | no record
+a slot cut short | 0 | 020004 | no record
+no location | 0 | 0100000100000000 | no record
+location 0 | 0 | 01000001000000010000000000000000 | no record
+location 2^53 | 0 | 01000001000000010020000000000000 | no record
+one location of two | 0 | 01000001000000020000000000000065 | no record
+status 40 of a slot | 0 | 0400000128 | no record
+status 5 of a hint | 0 | 06000001000000000000006505 | no record
+a flag of 2 | 0 | 0500000100000000000000650200011e | no record
+a key that is no text | 0 | 0700000001ff0000000135 | no record
+white space | 0 | 07000000016b000000022035 | no record
+a fraction | 0 | 07000000016b00000003352e35 | no record
+another spelling of a text | 0 | 07000000016b00000008225c753030343122 | no record
+members out of order | 0 | 07000000016b0000000d7b2262223a312c2261223a327d | no record
+no JSON | 0 | 07000000016b000000015b | no record
+a value cut short | 0 | 07000000016b0000000235 | no record
+behind a record's end | 4 | 02000001 | no record
+far behind it | 18446744073709551615 | 02000001 | no record";
+
+/// Whether a record begins at a place of bytes.
+fn begins(alloc: Global, bytes: &[u8], at: u64) -> &'static str {
+    match decode(alloc, bytes, at) {
+        Ok(_) => "a record",
+        Err(RecordError::BadRecord { at: told }) if told == at => "no record",
+        Err(_) => "another error",
+    }
+}
+
+/// Whether a record begins, in cases `WHY | PLACE | DIGITS | ANSWER`.
+struct Beginnings;
+
+impl Theme for Beginnings {
+    fn answer(alloc: Global, case: &str) -> Result<Text, Fail> {
+        let at = part(case, 1).parse::<u64>()?;
+        let bytes = hex::decode(alloc, part(case, 2))?;
+        Ok(Text::of(alloc, begins(alloc, bytes.as_slice(), at))?)
+    }
 }
 
 #[test]
 fn what_is_no_record(rt: HostRuntime) -> Result<(), Fail> {
-    fine(ends(rt.alloc()))?;
-    each(rt.alloc(), NO_RECORDS, is_bad)
+    each::<Beginnings>(rt.alloc(), NO_RECORDS)
 }

@@ -4,13 +4,14 @@ ghost use Rattle.mw_model.specs.Seed.{Seed};
 ghost use Rattle.mw_protocol.specs.Named.{are_named};
 ghost use Rattle.mw_records.specs.Records.{record_view};
 
-use crate::cases::{agree, fine};
+use crate::cases::agree;
 use crate::logs::tables_of;
-use crate::rooms::{ANN, makes, next, opened, recorded, state};
-use mw_base::{List, SessionId, Text};
+use crate::rooms::{session, try_steps};
+use mw_base::{List, Text};
 use mw_json::Tree;
 use mw_records::{Record, Stored};
 use mw_room::{Room, SessionState};
+use mw_room_a::ROOM_A;
 use std::alloc::Global;
 use std::test::Fail;
 
@@ -27,45 +28,34 @@ fn journal(alloc: Global) -> Result<List<Record>, Fail>
 
 /// The room of that journal.
 fn replayed(alloc: Global) -> Result<Room, Fail> {
-    let tables = tables_of(alloc)?;
+    let tables = tables_of(alloc, ROOM_A)?;
     let records = journal(alloc)?;
     Ok(Room::replay(alloc, tables, &records)?)
 }
 
-/// The last message that an open session takes.
-fn last_taken(room: &mut Room, session: SessionId) -> Option<Text> {
-    if state(room, session) == SessionState::Shut {
-        return None;
-    }
-    room.take(session).into_vec().pop()
-}
-
-/// What a session sends that asks for the key, and how many records each makes.
-const GETS: [(&str, usize); 2] = [(ANN, 0), (r#"[{"cmd":"Get","keys":["k"]}]"#, 0)];
-
-/// The last message of a session that sends these.
-fn got(alloc: Global, room: &mut Room) -> Result<Text, Fail> {
-    let session = opened(room)?;
-    if !makes(alloc, room, session, &GETS)? {
-        return Err(Fail::from("a record"));
-    }
-    Ok(last_taken(room, session).ok_or("no message")?)
-}
-
-/// What a room of that journal tells a session that asks for the key.
-fn got_of_journal(alloc: Global) -> Result<Text, Fail> {
-    let mut room = replayed(alloc)?;
-    got(alloc, &mut room)
-}
-
 #[test]
 fn a_replayed_room_keeps_its_records(rt: HostRuntime) -> Result<(), Fail> {
-    let room = replayed(rt.alloc())?;
-    fine(recorded(&room) == 1 && next(&room).get() == 1)
+    let mut room = replayed(rt.alloc())?;
+    try_steps(rt.alloc(), &mut room, "records | 1\nnext session | 1")
 }
+
+/// The last message that the session takes.
+fn last_taken(room: &mut Room) -> Option<Text> {
+    if room.state(session()) == SessionState::Shut {
+        return None;
+    }
+    room.take(session()).into_vec().pop()
+}
+
+/// Ann asks for the key.
+const GETS: &str = r#"open | 0
+Ann | 0
+[{"cmd":"Get","keys":["k"]}] | 0"#;
 
 #[test]
 fn a_replayed_room_tells_what_was_set(rt: HostRuntime) -> Result<(), Fail> {
-    let message = got_of_journal(rt.alloc())?;
+    let mut room = replayed(rt.alloc())?;
+    try_steps(rt.alloc(), &mut room, GETS)?;
+    let message = last_taken(&mut room).ok_or("no message")?;
     agree(message.as_str(), r#"[{"cmd":"Retrieved","keys":{"k":5}}]"#)
 }

@@ -1,256 +1,207 @@
-use crate::cases::fine;
-use crate::logs::tables_of;
-use crate::messages::packets_in;
-use mw_base::{Memory, SessionId, SlotId, TeamId};
-use mw_multidata::RoomTables;
+//! Rooms by scripts: lines `STEP | ANSWER`, of which each is what is done to a room, or asked of it,
+//! and what that answers. Its one session is the first.
+use crate::cases::check;
+use crate::logs::{ann, bob, tables_of, team};
+use crate::messages::{last_in, message_of};
+use mw_base::{SessionId, SlotId, TeamId};
+use mw_cases::part;
 use mw_packets_in::Inbound;
 use mw_records::Record;
 use mw_room::{Event, Room, SessionState};
+use mw_room_a::ROOM_A;
 use std::alloc::Global;
 use std::test::Fail;
 
-/// A room of tables.
-fn room_of(alloc: Global, tables: RoomTables) -> Result<Room, Memory> {
-    Room::new(alloc, tables)
+/// The number of the session.
+pub(crate) fn session() -> SessionId {
+    SessionId::new(1).unwrap()
 }
 
-/// A room that was just made.
-fn new_room(alloc: Global) -> Result<Room, Fail> {
-    let tables = tables_of(alloc)?;
-    Ok(room_of(alloc, tables)?)
+/// A small number in digits.
+fn digits(number: usize) -> &'static str {
+    match number {
+        0 => "0",
+        1 => "1",
+        2 => "2",
+        3 => "3",
+        _ => "more",
+    }
 }
 
-/// The number that the next session gets.
-pub(crate) fn next(room: &Room) -> SessionId {
-    room.next_session()
+/// The event of what the session sends.
+fn event_of(session: SessionId, sent: Inbound) -> Event {
+    match sent {
+        Inbound::Good(packet) => Event::Packet { session, packet },
+        Inbound::Wrong(bad) => Event::Bad { session, bad },
+    }
 }
 
-/// How a session stands.
-pub(crate) fn state(room: &Room, session: SessionId) -> SessionState {
-    room.state(session)
-}
-
-/// How many records there are.
-pub(crate) fn recorded(room: &Room) -> u64 {
-    room.length()
+/// An event by its name, or that of a message.
+fn event(alloc: Global, step: &str) -> Result<Event, Fail> {
+    let session = session();
+    match step {
+        "open" => Ok(Event::Open { time: 7 }),
+        "lost" => Ok(Event::Lost { session }),
+        sent => Ok(event_of(session, last_in(alloc, message_of(sent))?)),
+    }
 }
 
 /// Does an event, and answers how many records that makes.
-fn act(room: &mut Room, event: &Event) -> Result<usize, Fail> {
+fn act(room: &mut Room, event: &Event) -> Result<&'static str, Fail> {
     let plan = room.plan(event)?;
     let records = plan.records().len();
     room.apply(plan);
-    Ok(records)
+    Ok(digits(records))
 }
 
-/// Opens a session, and answers how many records that makes.
-fn open(room: &mut Room) -> Result<usize, Fail> {
-    act(room, &Event::Open { time: 7 })
-}
-
-/// The event of a message's last element.
-fn event_of(alloc: Global, session: SessionId, message: &str) -> Result<Event, Fail> {
-    let mut found = packets_in(alloc, message)?.into_vec();
-    match found.pop().ok_or("no element")? {
-        Inbound::Good(packet) => Ok(Event::Packet { session, packet }),
-        Inbound::Wrong(bad) => Ok(Event::Bad { session, bad }),
+/// How the session stands.
+fn state(room: &Room) -> &'static str {
+    match room.state(session()) {
+        SessionState::Shut => "shut",
+        SessionState::Overrun => "overrun",
+        SessionState::Ready { shows: 0 } => "shows 0",
+        SessionState::Ready { shows: 1 } => "shows 1",
+        SessionState::Ready { .. } => "shows more",
     }
 }
 
-/// Does what a message of one element asks for, and answers how many records that makes.
-fn send(alloc: Global, room: &mut Room, session: SessionId, message: &str) -> Result<usize, Fail> {
-    let event = event_of(alloc, session, message)?;
-    act(room, &event)
-}
-
-/// How many messages a session takes, 0 where it isn't open.
-fn taken(room: &mut Room, session: SessionId) -> usize {
-    if state(room, session) == SessionState::Shut {
-        return 0;
+/// How many messages the session takes, none where it isn't open.
+fn taken(room: &mut Room) -> &'static str {
+    if room.state(session()) == SessionState::Shut {
+        return "shut";
     }
-    room.take(session).len()
+    digits(room.take(session()).len())
 }
 
-/// Opens a session, and gives its number.
-pub(crate) fn opened(room: &mut Room) -> Result<SessionId, Fail> {
-    let session = next(room);
-    open(room)?;
-    Ok(session)
+/// What a room is asked, and answers without an event.
+fn asked(room: &mut Room, step: &str) -> Option<&'static str> {
+    match step {
+        "state" => Some(state(room)),
+        "take" => Some(taken(room)),
+        "records" => Some(digits(room.length() as usize)),
+        "next session" => Some(digits(room.next_session().get() as usize)),
+        _ => None,
+    }
 }
 
-/// Whether a room's first session is still to be opened, and nothing is recorded.
-fn is_new(room: &Room) -> bool {
-    let session = next(room);
-    session.get() == 1 && state(room, session) == SessionState::Shut && recorded(room) == 0
+/// The record that a slot of a team released what its world holds.
+fn release(step: &str) -> Option<Record> {
+    let (team, slot) = match step {
+        "Ann releases" => (team(), ann()),
+        "Bob releases" => (team(), bob()),
+        "a third slot releases" => (team(), SlotId::new(3).unwrap()),
+        "another team releases" => (TeamId::new(1).unwrap(), ann()),
+        _ => return None,
+    };
+    Some(Record::Release { team, slot })
 }
+
+/// Enters a record, and answers whether the seed has its slot.
+fn enter(room: &mut Room, entry: &Record) -> Result<&'static str, Fail> {
+    if room.enter(entry)? {
+        Ok("entered")
+    } else {
+        Ok("refused")
+    }
+}
+
+/// The answer to a step: of an event or a message how many records it makes.
+fn answer(alloc: Global, room: &mut Room, step: &str) -> Result<&'static str, Fail> {
+    if let Some(word) = asked(room, step) {
+        return Ok(word);
+    }
+    match release(step) {
+        Some(entry) => enter(room, &entry),
+        None => act(room, &event(alloc, step)?),
+    }
+}
+
+/// Fails at the first line of a script that a room answers otherwise.
+pub(crate) fn try_steps(alloc: Global, room: &mut Room, script: &str) -> Result<(), Fail> {
+    for line in script.split('\n') {
+        check(line, answer(alloc, room, part(line, 0))?)?;
+    }
+    Ok(())
+}
+
+/// Tries a script on a room that was just made.
+fn try_new(alloc: Global, script: &str) -> Result<(), Fail> {
+    let mut room = Room::new(alloc, tables_of(alloc, ROOM_A)?)?;
+    try_steps(alloc, &mut room, script)
+}
+
+/// The first session is still to be opened, and nothing is recorded.
+const NEW: &str = "next session | 1
+state | shut
+records | 0";
 
 #[test]
 fn a_new_room_has_no_session(rt: HostRuntime) -> Result<(), Fail> {
-    let room = new_room(rt.alloc())?;
-    fine(is_new(&room))
+    try_new(rt.alloc(), NEW)
 }
 
-/// Whether a session is open, and its messages show so many records.
-fn is_ready(room: &Room, session: SessionId, shows: u64) -> bool {
-    state(room, session) == SessionState::Ready { shows }
-}
-
-/// Whether a session takes so many messages, which then show nothing, and no more of them.
-fn takes_once(room: &mut Room, session: SessionId, count: usize) -> bool {
-    taken(room, session) == count && is_ready(room, session, 0) && taken(room, session) == 0
-}
-
-/// Whether a session that is opened takes one message, and nothing is recorded.
-fn opens(room: &mut Room) -> Result<bool, Fail> {
-    let session = next(room);
-    Ok(
-        open(room)? == 0
-            && is_ready(room, session, 0)
-            && takes_once(room, session, 1)
-            && recorded(room) == 0,
-    )
-}
-
-/// Whether that is so in a new room.
-fn new_room_opens(alloc: Global) -> Result<bool, Fail> {
-    let mut room = new_room(alloc)?;
-    opens(&mut room)
-}
+/// The session takes one message, which shows nothing, and no more.
+const OPENED: &str = "open | 0
+state | shows 0
+take | 1
+state | shows 0
+take | 0
+records | 0";
 
 #[test]
 fn an_opened_session_takes_its_message_once(rt: HostRuntime) -> Result<(), Fail> {
-    fine(new_room_opens(rt.alloc())?)
+    try_new(rt.alloc(), OPENED)
 }
 
-pub(crate) const ANN: &str =
-    r#"[{"cmd":"Connect","game":"G","items_handling":7,"name":"Ann","tags":["NoText"],"version":{"build":0,"major":0,"minor":5}}]"#;
-
-/// Whether each of these messages makes so many records, one after the other.
-pub(crate) fn makes(
-    alloc: Global,
-    room: &mut Room,
-    session: SessionId,
-    messages: &[(&str, usize)],
-) -> Result<bool, Fail> {
-    for (message, records) in messages {
-        if send(alloc, room, session, message)? != *records {
-            return Ok(false);
-        }
-    }
-    Ok(true)
-}
-
-/// What a session sends that checks locations twice, of which one is its own, and how many records
-/// each makes.
-const TWICE: [(&str, usize); 6] = [
-    (r#"[{"cmd":"LocationChecks","locations":[101,101,999]}]"#, 0),
-    (ANN, 0),
-    (r#"[{"cmd":"LocationChecks","locations":[101,101,999]}]"#, 1),
-    (r#"[{"cmd":"LocationChecks","locations":[101,101,999]}]"#, 0),
-    (ANN, 0),
-    ("7", 0),
-];
-
-/// Whether these make one record in a room in which nobody is yet.
-fn records_once(alloc: Global, room: &mut Room) -> Result<bool, Fail> {
-    let session = opened(room)?;
-    Ok(makes(alloc, room, session, &TWICE)? && recorded(room) == 1)
-}
-
-/// Whether that is so in a new room.
-fn new_room_records_once(alloc: Global) -> Result<bool, Fail> {
-    let mut room = new_room(alloc)?;
-    records_once(alloc, &mut room)
-}
+/// Locations, of which one is her own, are checked before Ann connects, and twice after it.
+const TWICE: &str = r#"open | 0
+[{"cmd":"LocationChecks","locations":[101,101,999]}] | 0
+Ann | 0
+[{"cmd":"LocationChecks","locations":[101,101,999]}] | 1
+[{"cmd":"LocationChecks","locations":[101,101,999]}] | 0
+Ann | 0
+7 | 0
+records | 1"#;
 
 #[test]
 fn new_checks_make_one_record(rt: HostRuntime) -> Result<(), Fail> {
-    fine(new_room_records_once(rt.alloc())?)
+    try_new(rt.alloc(), TWICE)
 }
 
-/// What a session sends that checks one location, and how many records each makes.
-const ONCE: [(&str, usize); 2] = [
-    (ANN, 0),
-    (r#"[{"cmd":"LocationChecks","locations":[101]}]"#, 1),
-];
-
-/// Whether the messages of a session that sends these show one record, and none once they are
-/// taken.
-fn shows(alloc: Global, room: &mut Room) -> Result<bool, Fail> {
-    let session = opened(room)?;
-    Ok(
-        makes(alloc, room, session, &ONCE)?
-            && is_ready(room, session, 1)
-            && takes_once(room, session, 3),
-    )
-}
-
-/// Whether that is so in a new room.
-fn new_room_shows(alloc: Global) -> Result<bool, Fail> {
-    let mut room = new_room(alloc)?;
-    shows(alloc, &mut room)
-}
+/// The messages of a session that checks a location show one record, and none once they are taken.
+const SHOWN: &str = "open | 0
+Ann | 0
+first | 1
+state | shows 1
+take | 3
+state | shows 0
+take | 0";
 
 #[test]
 fn a_session_shows_the_records_of_its_messages(rt: HostRuntime) -> Result<(), Fail> {
-    fine(new_room_shows(rt.alloc())?)
+    try_new(rt.alloc(), SHOWN)
 }
 
-/// Whether a session that ends is shut, and the next one gets another number.
-fn loses(room: &mut Room) -> Result<bool, Fail> {
-    let session = opened(room)?;
-    Ok(
-        act(room, &Event::Lost { session })? == 0
-            && state(room, session) == SessionState::Shut
-            && next(room).get() == 2,
-    )
-}
-
-/// Whether that is so in a new room.
-fn new_room_loses(alloc: Global) -> Result<bool, Fail> {
-    let mut room = new_room(alloc)?;
-    loses(&mut room)
-}
+/// A session that ends is shut, and the next one gets another number.
+const LOST: &str = "open | 0
+lost | 0
+state | shut
+next session | 2";
 
 #[test]
 fn a_lost_session_is_shut(rt: HostRuntime) -> Result<(), Fail> {
-    fine(new_room_loses(rt.alloc())?)
+    try_new(rt.alloc(), LOST)
 }
 
-/// A record that a slot released what its world holds.
-fn release(team: u8, slot: u16) -> Option<Record> {
-    Some(Record::Release {
-        team: TeamId::new(team)?,
-        slot: SlotId::new(slot)?,
-    })
-}
-
-/// Whether a room enters that record.
-fn enters(room: &mut Room, team: u8, slot: u16) -> Result<bool, Fail> {
-    let entry = release(team, slot).ok_or("no record")?;
-    Ok(room.enter(&entry)?)
-}
-
-/// Slots, and whether the seed has each.
-const SLOTS: [(u8, u16, bool); 4] = [(0, 1, true), (0, 3, false), (1, 1, false), (0, 2, true)];
-
-/// Whether a room enters just the records of those that the seed has, one after another.
-fn enters_known(room: &mut Room) -> Result<bool, Fail> {
-    for (team, slot, is_known) in &SLOTS {
-        if enters(room, *team, *slot)? != *is_known {
-            return Ok(false);
-        }
-    }
-    Ok(true)
-}
-
-/// Whether a new room does, has two records then, and no session yet.
-fn new_room_enters(alloc: Global) -> Result<bool, Fail> {
-    let mut room = new_room(alloc)?;
-    Ok(enters_known(&mut room)? && recorded(&room) == 2 && next(&room).get() == 1)
-}
+/// Just the records of those that the seed has are entered.
+const RELEASED: &str = "Ann releases | entered
+a third slot releases | refused
+another team releases | refused
+Bob releases | entered
+records | 2
+next session | 1";
 
 #[test]
 fn records_that_the_seed_names_are_entered(rt: HostRuntime) -> Result<(), Fail> {
-    fine(new_room_enters(rt.alloc())?)
+    try_new(rt.alloc(), RELEASED)
 }

@@ -1,11 +1,13 @@
 ghost use Rattle.std.specs.Prelude.{◌≡◌, ◌∷◌, [], IfOk};
 
-use crate::cases::{agree, each, fine};
+use crate::cases::{Theme, each, fine};
+use crate::client_packets::sole;
+use crate::logs::{ann, bob, team};
 use crate::messages::packets_in;
-use mw_base::{List, Memory, NetItem, Permission, SlotId, TeamId, Text};
+use mw_base::{List, Memory, NetItem, Permission, SlotId, Text, copy_texts};
 use mw_cases::part;
-use mw_json::{Member, Tree};
-use mw_packets_in::{Bounce, Inbound, Packet};
+use mw_json::{Member, Tree, copy_members};
+use mw_packets_in::{Bounce, Packet};
 use mw_packets_out::{
     Bounced, Connected, GameSum, InvalidKind, NetworkPlayer, NetworkSlot, Retrieved, RoomInfo,
     ServerPacket, SetReply, packet_text, write_both, write_message, write_with,
@@ -40,248 +42,125 @@ fn room_info(alloc: Global) -> Result<RoomInfo, Fail> {
     })
 }
 
-fn player(alloc: Global, slot: SlotId, name: &str) -> Result<NetworkPlayer, Fail> {
-    Ok(NetworkPlayer {
-        team: TeamId::new(0).unwrap(),
-        slot,
-        name: Text::of(alloc, name)?,
-    })
+/// A list of these.
+fn list_of<T: Copy>(alloc: Global, items: &[T]) -> Result<List<T>, Fail> {
+    Ok(List::from_vec(Vec::from_slice(alloc, items)?))
 }
 
-fn slot_of(alloc: Global, slot: SlotId, name: &str) -> Result<NetworkSlot, Fail> {
-    Ok(NetworkSlot {
-        slot,
-        name: Text::of(alloc, name)?,
-        game: Text::of(alloc, "G")?,
-    })
-}
-
-fn first() -> SlotId {
-    SlotId::new(1).unwrap()
-}
-
-fn second() -> SlotId {
-    SlotId::new(2).unwrap()
+/// Adds a player of the first team.
+fn push_player(
+    alloc: Global,
+    players: &mut List<NetworkPlayer>,
+    slot: SlotId,
+    name: &str,
+) -> Result<(), Fail> {
+    let (team, name) = (team(), Text::of(alloc, name)?);
+    Ok(players.push(NetworkPlayer { team, slot, name })?)
 }
 
 fn players(alloc: Global) -> Result<List<NetworkPlayer>, Fail> {
-    let mut players = list(alloc, player(alloc, first(), "Ann")?)?;
-    players.push(player(alloc, second(), "Bob")?)?;
+    let mut players = List::new(alloc);
+    push_player(alloc, &mut players, ann(), "Ann")?;
+    push_player(alloc, &mut players, bob(), "Bob")?;
     Ok(players)
 }
 
-fn slots(alloc: Global) -> Result<List<NetworkSlot>, Fail> {
-    let mut slots = list(alloc, slot_of(alloc, first(), "Ann")?)?;
-    slots.push(slot_of(alloc, second(), "Bob")?)?;
+/// Adds a slot of the game.
+fn push_slot(
+    alloc: Global,
+    slots: &mut List<NetworkSlot>,
+    slot: SlotId,
+    name: &str,
+) -> Result<(), Fail> {
+    let (name, game) = (Text::of(alloc, name)?, Text::of(alloc, "G")?);
+    Ok(slots.push(NetworkSlot { slot, name, game })?)
+}
+
+/// The slots, and a tenth one where it plays.
+fn slots(alloc: Global, has_tenth: bool) -> Result<List<NetworkSlot>, Fail> {
+    let mut slots = List::new(alloc);
+    push_slot(alloc, &mut slots, ann(), "Ann")?;
+    push_slot(alloc, &mut slots, bob(), "Bob")?;
+    if has_tenth {
+        push_slot(alloc, &mut slots, SlotId::new(10).unwrap(), "Cy")?;
+    }
     Ok(slots)
 }
 
-fn missing(alloc: Global) -> Result<List<i64>, Fail> {
-    let mut missing = list(alloc, 101)?;
-    missing.push(102)?;
-    Ok(missing)
-}
-
-fn connected_to(alloc: Global, slot_info: List<NetworkSlot>) -> Result<ServerPacket, Fail> {
+fn connected(alloc: Global, has_tenth: bool) -> Result<ServerPacket, Fail> {
+    let missing_locations = list_of(alloc, &[101, 102])?;
     let players = players(alloc)?;
     Ok(ServerPacket::Connected(Connected {
-        team: TeamId::new(0).unwrap(),
-        slot: first(),
+        team: team(),
+        slot: ann(),
         players,
-        missing_locations: missing(alloc)?,
+        missing_locations,
         checked_locations: List::new(alloc),
-        slot_info,
+        slot_info: slots(alloc, has_tenth)?,
         hint_points: 0,
     }))
 }
 
 /// What a session has from its start.
-fn received(alloc: Global) -> Result<ServerPacket, Fail> {
-    let boots = NetItem {
-        item: 5,
-        location: -2,
-        player: 0,
-        flags: 0,
-    };
-    Ok(ServerPacket::ReceivedItems {
-        index: 0,
-        items: list(alloc, boots)?,
+const BOOTS: NetItem = NetItem {
+    item: 5,
+    location: -2,
+    player: 0,
+    flags: 0,
+};
+
+/// What stands at a location.
+const SWORD: NetItem = NetItem {
+    item: 7,
+    location: 101,
+    player: 2,
+    flags: 1,
+};
+
+/// What a session is told of checks.
+fn update(alloc: Global, checked: &[i64], hint_points: u64) -> Result<ServerPacket, Fail> {
+    Ok(ServerPacket::RoomUpdate {
+        checked_locations: list_of(alloc, checked)?,
+        hint_points,
     })
 }
 
-/// What a session is told of a check.
-fn update(alloc: Global) -> Result<ServerPacket, Fail> {
-    Ok(ServerPacket::RoomUpdate {
-        checked_locations: list(alloc, 101)?,
-        hint_points: 1,
-    })
+/// Adds a text.
+fn push_text(alloc: Global, texts: &mut List<Text>, text: &str) -> Result<(), Fail> {
+    Ok(texts.push(Text::of(alloc, text)?)?)
 }
 
 /// A refused Connect.
 fn refusal(alloc: Global) -> Result<ServerPacket, Fail> {
-    let mut errors = list(alloc, Text::of(alloc, "InvalidPassword")?)?;
-    errors.push(Text::of(alloc, "InvalidSlot")?)?;
+    let mut errors = List::new(alloc);
+    push_text(alloc, &mut errors, "InvalidPassword")?;
+    push_text(alloc, &mut errors, "InvalidSlot")?;
     Ok(ServerPacket::ConnectionRefused { errors })
+}
+
+/// What is told of a packet that is none, or whose arguments are wrong.
+fn invalid(
+    alloc: Global,
+    kind: InvalidKind,
+    original_cmd: Option<Text>,
+    why: &str,
+) -> Result<ServerPacket, Fail> {
+    Ok(ServerPacket::InvalidPacket {
+        kind,
+        original_cmd,
+        text: Text::of(alloc, why)?,
+    })
 }
 
 /// A packet whose arguments are wrong.
 fn bad_arguments(alloc: Global) -> Result<ServerPacket, Fail> {
-    Ok(ServerPacket::InvalidPacket {
-        kind: InvalidKind::Arguments,
-        original_cmd: Some(Text::of(alloc, "LocationChecks")?),
-        text: Text::of(alloc, "arguments: locations")?,
-    })
-}
-
-/// What is no packet.
-fn no_packet(alloc: Global) -> Result<ServerPacket, Fail> {
-    Ok(ServerPacket::InvalidPacket {
-        kind: InvalidKind::Cmd,
-        original_cmd: None,
-        text: Text::of(alloc, "no JSON list")?,
-    })
-}
-
-/// The slots where a tenth one plays.
-fn ten_slots(alloc: Global) -> Result<List<NetworkSlot>, Fail> {
-    let mut slots = slots(alloc)?;
-    slots.push(slot_of(alloc, SlotId::new(10).unwrap(), "Cy")?)?;
-    Ok(slots)
-}
-
-/// A message to a session.
-#[derive(Clone, Copy)]
-enum Message {
-    /// The room presents itself.
-    Room,
-    /// The session is connected.
-    Welcome,
-    /// The session is connected where a tenth slot plays.
-    WelcomeOfTen,
-    /// A location is checked.
-    Update,
-    /// Three refusals.
-    Refusals,
-}
-
-/// Adds what a session is told that is connected.
-fn push_welcome(alloc: Global, packets: &mut List<ServerPacket>) -> Result<(), Fail> {
-    packets.push(connected_to(alloc, slots(alloc)?)?)?;
-    packets.push(received(alloc)?)?;
-    Ok(())
-}
-
-/// Adds three refusals.
-fn push_refusals(alloc: Global, packets: &mut List<ServerPacket>) -> Result<(), Fail> {
-    packets.push(refusal(alloc)?)?;
-    packets.push(bad_arguments(alloc)?)?;
-    packets.push(no_packet(alloc)?)?;
-    Ok(())
-}
-
-/// Adds the packets of a message.
-fn push_packets(
-    alloc: Global,
-    packets: &mut List<ServerPacket>,
-    message: Message,
-) -> Result<(), Fail> {
-    match message {
-        Message::Room => packets.push(ServerPacket::RoomInfo(room_info(alloc)?))?,
-        Message::Welcome => push_welcome(alloc, packets)?,
-        Message::WelcomeOfTen => packets.push(connected_to(alloc, ten_slots(alloc)?)?)?,
-        Message::Update => packets.push(update(alloc)?)?,
-        Message::Refusals => push_refusals(alloc, packets)?,
-    }
-    Ok(())
-}
-
-/// The text of a message.
-fn text_of(alloc: Global, message: Message) -> Result<Text, Fail> {
-    let mut packets = List::new(alloc);
-    push_packets(alloc, &mut packets, message)?;
-    Ok(write_message(alloc, &packets)?)
-}
-
-#[test]
-fn a_room_presents_itself(rt: HostRuntime) -> Result<(), Fail> {
-    agree(
-        text_of(rt.alloc(), Message::Room)?.as_str(),
-        r#"[{"cmd":"RoomInfo","datapackage_checksums":{"G":"H"},"games":["G"],"generator_version":{"build":0,"class":"Version","major":0,"minor":5},"hint_cost":10,"location_check_points":1,"password":false,"permissions":{"collect":2,"release":2,"remaining":2},"seed_name":"A","tags":[],"time":0,"version":{"build":0,"class":"Version","major":0,"minor":5}}]"#,
+    let cmd = Text::of(alloc, "LocationChecks")?;
+    invalid(
+        alloc,
+        InvalidKind::Arguments,
+        Some(cmd),
+        "arguments: locations",
     )
-}
-
-#[test]
-fn a_session_is_connected(rt: HostRuntime) -> Result<(), Fail> {
-    agree(
-        text_of(rt.alloc(), Message::Welcome)?.as_str(),
-        r#"[{"checked_locations":[],"cmd":"Connected","hint_points":0,"missing_locations":[101,102],"players":[{"alias":"Ann","class":"NetworkPlayer","name":"Ann","slot":1,"team":0},{"alias":"Bob","class":"NetworkPlayer","name":"Bob","slot":2,"team":0}],"slot":1,"slot_data":{},"slot_info":{"1":{"class":"NetworkSlot","game":"G","group_members":[],"name":"Ann","type":1},"2":{"class":"NetworkSlot","game":"G","group_members":[],"name":"Bob","type":1}},"team":0},{"cmd":"ReceivedItems","index":0,"items":[{"class":"NetworkItem","flags":0,"item":5,"location":-2,"player":0}]}]"#,
-    )
-}
-
-#[test]
-fn a_location_is_checked(rt: HostRuntime) -> Result<(), Fail> {
-    agree(
-        text_of(rt.alloc(), Message::Update)?.as_str(),
-        r#"[{"checked_locations":[101],"cmd":"RoomUpdate","hint_points":1}]"#,
-    )
-}
-
-/// Whether the tenth slot stands between the first and the second.
-fn is_in_byte_order(text: &str) -> bool {
-    let first = text.find(r#""1":{"#);
-    let tenth = text.find(r#""10":{"#);
-    let second = text.find(r#""2":{"#);
-    first < tenth && tenth < second
-}
-
-#[test]
-fn slots_stand_in_byte_order(rt: HostRuntime) -> Result<(), Fail> {
-    let text = text_of(rt.alloc(), Message::WelcomeOfTen)?;
-    fine(is_in_byte_order(text.as_str()))
-}
-
-#[test]
-fn refusals_are_told(rt: HostRuntime) -> Result<(), Fail> {
-    agree(
-        text_of(rt.alloc(), Message::Refusals)?.as_str(),
-        r#"[{"cmd":"ConnectionRefused","errors":["InvalidPassword","InvalidSlot"]},{"cmd":"InvalidPacket","original_cmd":"LocationChecks","text":"arguments: locations","type":"arguments"},{"cmd":"InvalidPacket","original_cmd":null,"text":"no JSON list","type":"cmd"}]"#,
-    )
-}
-
-/// The text of a message that tells what stands at a location.
-fn scouted(alloc: Global) -> Result<Text, Fail> {
-    let sword = NetItem {
-        item: 7,
-        location: 101,
-        player: 2,
-        flags: 1,
-    };
-    let info = ServerPacket::LocationInfo {
-        locations: list(alloc, sword)?,
-    };
-    Ok(write_both(alloc, &[], list(alloc, info)?.as_slice())?)
-}
-
-#[test]
-fn what_stands_there_is_told(rt: HostRuntime) -> Result<(), Fail> {
-    agree(
-        scouted(rt.alloc())?.as_str(),
-        r#"[{"cmd":"LocationInfo","locations":[{"class":"NetworkItem","flags":1,"item":7,"location":101,"player":2}]}]"#,
-    )
-}
-
-/// The text of a packet.
-fn text_alone(alloc: Global, packet: ServerPacket) -> Result<Text, Memory> {
-    packet_text(alloc, &packet)
-}
-
-/// Whether a packet is this text.
-fn is_packet(
-    alloc: Global,
-    packet: Result<ServerPacket, Fail>,
-    wanted: &str,
-) -> Result<bool, Fail> {
-    Ok(text_alone(alloc, packet?)?.as_str() == wanted)
 }
 
 /// The value of a key.
@@ -302,56 +181,181 @@ fn change(alloc: Global) -> Result<ServerPacket, Fail> {
         key: Text::of(alloc, "k")?,
         value: Tree::Whole(5),
         original_value: Tree::Null,
-        slot: SlotId::new(2).unwrap(),
+        slot: bob(),
         further: List::new(alloc),
     }))
 }
 
-#[test]
-fn values_are_told(rt: HostRuntime) -> Result<(), Fail> {
-    let wanted = r#"{"cmd":"Retrieved","keys":{"k":5}}"#;
-    fine(is_packet(rt.alloc(), value(rt.alloc()), wanted)?)
-}
-
-#[test]
-fn changes_are_told(rt: HostRuntime) -> Result<(), Fail> {
-    let wanted = r#"{"cmd":"SetReply","key":"k","original_value":null,"slot":2,"value":5}"#;
-    fine(is_packet(rt.alloc(), change(rt.alloc()), wanted)?)
-}
-
-/// The Bounce that a packet is.
-fn bounce_of(inbound: Inbound) -> Option<Bounce> {
-    match inbound {
-        Inbound::Good(Packet::Bounce(bounce)) => Some(bounce),
-        _ => None,
+/// A packet by its name.
+fn packet(alloc: Global, name: &str) -> Result<ServerPacket, Fail> {
+    match name {
+        "room" => Ok(ServerPacket::RoomInfo(room_info(alloc)?)),
+        "connected" => connected(alloc, false),
+        "tenth" => connected(alloc, true),
+        "items" => Ok(ServerPacket::ReceivedItems {
+            index: 0,
+            items: list_of(alloc, &[BOOTS])?,
+        }),
+        "update" => update(alloc, &[101], 1),
+        "points" => update(alloc, &[], 2),
+        "refusal" => refusal(alloc),
+        "arguments" => bad_arguments(alloc),
+        "cmd" => invalid(alloc, InvalidKind::Cmd, None, "no JSON list"),
+        "scouted" => Ok(ServerPacket::LocationInfo {
+            locations: list_of(alloc, &[SWORD])?,
+        }),
+        "value" => value(alloc),
+        _ => change(alloc),
     }
 }
 
-/// The Bounce of a message.
-fn bounce_in(alloc: Global, message: &str) -> Result<Option<Bounce>, Fail> {
-    let found = packets_in(alloc, message)?;
-    match found.into_vec().pop() {
-        Some(inbound) => Ok(bounce_of(inbound)),
+/// The text of a message of packets by their names.
+fn message(alloc: Global, names: &str) -> Result<Text, Fail> {
+    let mut packets = List::new(alloc);
+    for name in names.split(' ') {
+        packets.push(packet(alloc, name)?)?;
+    }
+    Ok(write_message(alloc, &packets)?)
+}
+
+/// Messages of packets, in cases `NAMES | TEXT`.
+struct Messages;
+
+impl Theme for Messages {
+    fn answer(alloc: Global, case: &str) -> Result<Text, Fail> {
+        message(alloc, part(case, 0))
+    }
+}
+
+/// The room presents itself.
+const ROOM: &str =
+    r#"room | [{"cmd":"RoomInfo","datapackage_checksums":{"G":"H"},"games":["G"],"generator_version":{"build":0,"class":"Version","major":0,"minor":5},"hint_cost":10,"location_check_points":1,"password":false,"permissions":{"collect":2,"release":2,"remaining":2},"seed_name":"A","tags":[],"time":0,"version":{"build":0,"class":"Version","major":0,"minor":5}}]"#;
+
+#[test]
+fn a_room_presents_itself(rt: HostRuntime) -> Result<(), Fail> {
+    each::<Messages>(rt.alloc(), ROOM)
+}
+
+/// The session is connected.
+const WELCOME: &str =
+    r#"connected items | [{"checked_locations":[],"cmd":"Connected","hint_points":0,"missing_locations":[101,102],"players":[{"alias":"Ann","class":"NetworkPlayer","name":"Ann","slot":1,"team":0},{"alias":"Bob","class":"NetworkPlayer","name":"Bob","slot":2,"team":0}],"slot":1,"slot_data":{},"slot_info":{"1":{"class":"NetworkSlot","game":"G","group_members":[],"name":"Ann","type":1},"2":{"class":"NetworkSlot","game":"G","group_members":[],"name":"Bob","type":1}},"team":0},{"cmd":"ReceivedItems","index":0,"items":[{"class":"NetworkItem","flags":0,"item":5,"location":-2,"player":0}]}]"#;
+
+#[test]
+fn a_session_is_connected(rt: HostRuntime) -> Result<(), Fail> {
+    each::<Messages>(rt.alloc(), WELCOME)
+}
+
+/// A location is checked.
+const UPDATE: &str = r#"update | [{"checked_locations":[101],"cmd":"RoomUpdate","hint_points":1}]"#;
+
+#[test]
+fn a_location_is_checked(rt: HostRuntime) -> Result<(), Fail> {
+    each::<Messages>(rt.alloc(), UPDATE)
+}
+
+/// Whether the tenth slot stands between the first and the second.
+fn is_in_byte_order(text: &str) -> bool {
+    let first = text.find(r#""1":{"#);
+    let tenth = text.find(r#""10":{"#);
+    let second = text.find(r#""2":{"#);
+    first < tenth && tenth < second
+}
+
+#[test]
+fn slots_stand_in_byte_order(rt: HostRuntime) -> Result<(), Fail> {
+    let text = message(rt.alloc(), "tenth")?;
+    fine(&[(text.as_str(), is_in_byte_order(text.as_str()))])
+}
+
+/// Three refusals.
+const REFUSALS: &str =
+    r#"refusal arguments cmd | [{"cmd":"ConnectionRefused","errors":["InvalidPassword","InvalidSlot"]},{"cmd":"InvalidPacket","original_cmd":"LocationChecks","text":"arguments: locations","type":"arguments"},{"cmd":"InvalidPacket","original_cmd":null,"text":"no JSON list","type":"cmd"}]"#;
+
+#[test]
+fn refusals_are_told(rt: HostRuntime) -> Result<(), Fail> {
+    each::<Messages>(rt.alloc(), REFUSALS)
+}
+
+/// The text of a packet alone, of a message of it behind no others, or of one in which two written
+/// texts stand behind it.
+fn written(alloc: Global, form: &str, packet: &ServerPacket) -> Result<Text, Memory> {
+    let alone = std::slice::from_ref(packet);
+    match form {
+        "behind" => write_both(alloc, &[], alone),
+        "before" => write_with(alloc, alone, &[], &["{}", r#"{"a":1}"#]),
+        _ => packet_text(alloc, packet),
+    }
+}
+
+/// Packets by themselves or with others, in cases `FORM | NAME | TEXT`.
+struct Packets;
+
+impl Theme for Packets {
+    fn answer(alloc: Global, case: &str) -> Result<Text, Fail> {
+        let packet = packet(alloc, part(case, 1))?;
+        Ok(written(alloc, part(case, 0), &packet)?)
+    }
+}
+
+/// What stands at a location is told.
+const SCOUTED: &str =
+    r#"behind | scouted | [{"cmd":"LocationInfo","locations":[{"class":"NetworkItem","flags":1,"item":7,"location":101,"player":2}]}]"#;
+
+#[test]
+fn what_stands_there_is_told(rt: HostRuntime) -> Result<(), Fail> {
+    each::<Packets>(rt.alloc(), SCOUTED)
+}
+
+/// The value of a key is told.
+const VALUE: &str = r#"alone | value | {"cmd":"Retrieved","keys":{"k":5}}"#;
+
+#[test]
+fn values_are_told(rt: HostRuntime) -> Result<(), Fail> {
+    each::<Packets>(rt.alloc(), VALUE)
+}
+
+/// A key's first value is told.
+const CHANGE: &str =
+    r#"alone | change | {"cmd":"SetReply","key":"k","original_value":null,"slot":2,"value":5}"#;
+
+#[test]
+fn changes_are_told(rt: HostRuntime) -> Result<(), Fail> {
+    each::<Packets>(rt.alloc(), CHANGE)
+}
+
+/// Copies of texts, where they are given.
+fn copied(alloc: Global, texts: &Option<List<Text>>) -> Result<Option<List<Text>>, Memory>
+    ensures { IfOk result (λ copies. copies ≡ texts.now) }
+{
+    match texts {
+        Some(texts) => Ok(Some(copy_texts(alloc, texts.as_slice())?)),
         None => Ok(None),
     }
 }
 
-/// What the clients of its games and tags are told.
-fn bounced(bounce: Bounce) -> ServerPacket {
-    ServerPacket::Bounced(Bounced {
-        games: bounce.games,
-        tags: bounce.tags,
+/// What the clients of a Bounce's games and tags are told.
+fn bounced(alloc: Global, bounce: &Bounce) -> Result<ServerPacket, Memory> {
+    let games = copied(alloc, &bounce.games)?;
+    let tags = copied(alloc, &bounce.tags)?;
+    Ok(ServerPacket::Bounced(Bounced {
+        games,
+        tags,
         slots: None,
-        further: bounce.further,
-    })
+        further: copy_members(alloc, bounce.further.as_slice())?,
+    }))
 }
 
-/// Whether a case's message of a Bounce is told so.
-fn passes(alloc: Global, case: &str) -> Result<bool, Fail> {
-    let Some(bounce) = bounce_in(alloc, part(case, 0))? else {
-        return Ok(false);
-    };
-    Ok(text_alone(alloc, bounced(bounce))?.as_str() == part(case, 1))
+/// Messages of a Bounce, in cases `MESSAGE | TEXT`.
+struct Bounces;
+
+impl Theme for Bounces {
+    fn answer(alloc: Global, case: &str) -> Result<Text, Fail> {
+        let found = packets_in(alloc, part(case, 0))?;
+        match sole(&found) {
+            Some(Packet::Bounce(bounce)) => Ok(packet_text(alloc, &bounced(alloc, bounce)?)?),
+            _ => Err(Fail::new(case)),
+        }
+    }
 }
 
 /// Messages of a Bounce, and what is told of each.
@@ -361,23 +365,14 @@ const BOUNCES: &str =
 
 #[test]
 fn a_message_passes_through(rt: HostRuntime) -> Result<(), Fail> {
-    each(rt.alloc(), BOUNCES, passes)
+    each::<Bounces>(rt.alloc(), BOUNCES)
 }
 
 /// A message of a packet and two texts.
-fn with_texts(alloc: Global) -> Result<Text, Fail> {
-    let update = ServerPacket::RoomUpdate {
-        checked_locations: List::new(alloc),
-        hint_points: 2,
-    };
-    Ok(write_with(alloc, &[update], &[], &["{}", r#"{"a":1}"#])?)
-}
+const WITH_TEXTS: &str =
+    r#"before | points | [{"checked_locations":[],"cmd":"RoomUpdate","hint_points":2},{},{"a":1}]"#;
 
 #[test]
 fn written_texts_stand_behind(rt: HostRuntime) -> Result<(), Fail> {
-    let text = with_texts(rt.alloc())?;
-    agree(
-        text.as_str(),
-        r#"[{"checked_locations":[],"cmd":"RoomUpdate","hint_points":2},{},{"a":1}]"#,
-    )
+    each::<Packets>(rt.alloc(), WITH_TEXTS)
 }

@@ -1,12 +1,12 @@
-ghost use Rattle.mw_model.specs.Json.{IsWritable};
 ghost use Rattle.mw_json.specs.View.{view};
+ghost use Rattle.mw_storage.specs.Stored.{IsKeepable};
 
-use crate::cases::{each, fine};
+use crate::cases::{Theme, each};
 use crate::client_packets::sole;
 use crate::messages::packets_in;
 use mw_base::{List, Memory, Text};
 use mw_cases::part;
-use mw_json::{SetPacket, Tree, compact_text};
+use mw_json::{SetPacket, Tree, compact_text, number_tree};
 use mw_packets_in::{Inbound, Packet};
 use mw_storage::{Store, StoreRefusal};
 use std::alloc::Global;
@@ -20,435 +20,302 @@ fn change_in(found: &List<Inbound>) -> Option<&SetPacket> {
     }
 }
 
-/// The message of one Set, of a key with a default and operations.
-fn set_of(
-    alloc: Global,
-    key: &str,
-    default: &str,
-    operations: &str,
-) -> Result<List<Inbound>, Fail> {
-    let message = format!(in alloc;
-        r#"[{{"cmd":"Set","key":"{key}","default":{default},"operations":{operations}}}]"#
-    )?;
-    packets_in(alloc, message.as_str())
+/// The text of what a store keeps under a key, nothing where it keeps nothing.
+fn kept(alloc: Global, store: &Store, key: &Text) -> Result<Text, Memory> {
+    match store.get(key) {
+        Some(value) => compact_text(alloc, value),
+        None => Text::of(alloc, ""),
+    }
 }
 
-fn is_text(alloc: Global, tree: &Tree, wanted: &str) -> Result<bool, Fail>
-    requires { IsWritable (view tree.now) }
+/// Keeps what a store makes of a change, and answers the text of what is kept then, which is that
+/// of what was made.
+fn keep(alloc: Global, store: &mut Store, key: &Text, made: Tree) -> Result<Text, Memory>
+    requires { IsKeepable (view made) }
 {
-    Ok(compact_text(alloc, tree)?.as_str() == wanted)
-}
-
-/// Keeps what a store makes of a change, where it isn't refused.
-fn put_changed(store: &mut Store, set: &SetPacket) -> Result<(), Memory> {
-    match store.apply(set) {
-        Ok(changed) => store.put(&set.key, changed.new),
-        Err(_) => Ok(()),
+    let text = compact_text(alloc, &made)?;
+    store.put(key, made)?;
+    let kept = kept(alloc, store, key)?;
+    if kept.as_str() == text.as_str() {
+        return Ok(kept);
     }
-}
-
-/// Whether a store keeps this of a change.
-fn keeps(alloc: Global, store: &mut Store, set: &SetPacket, wanted: &str) -> Result<bool, Fail> {
-    put_changed(store, set)?;
-    match store.get(&set.key) {
-        Some(kept) => is_text(alloc, kept, wanted),
-        None => Ok(false),
-    }
-}
-
-fn refusal(store: &Store, set: &SetPacket) -> Option<StoreRefusal> {
-    store.apply(set).err()
-}
-
-/// Whether the change of a message of one Set is refused so, or isn't refused.
-fn is_refused(store: &Store, found: &List<Inbound>, wanted: Option<StoreRefusal>) -> bool {
-    match change_in(found) {
-        Some(set) => refusal(store, set) == wanted,
-        None => false,
-    }
-}
-
-/// A default, the operations of a Set, and what they make of it.
-const OPERATIONS: &str =
-    r#"[3,4,3] | [{"operation":"remove","value":3},{"operation":"pop","value":0},{"operation":"add","value":[5]}] | [3,5]
--7 | [{"operation":"mod","value":3},{"operation":"left_shift","value":2},{"operation":"right_shift","value":1}] | 4
-[3,4] | [{"operation":"update","value":[4,5]}] | [3,4,5]
-{"b":1,"d":2} | [{"operation":"update","value":{"a":0,"b":[],"c":"x"}},{"operation":"pop","value":"d"}] | {"a":0,"b":[],"c":"x"}
--9223372036854775808 | [{"operation":"mod","value":-1},{"operation":"or","value":-1},{"operation":"and","value":12},{"operation":"xor","value":-1}] | -13
-5 | [{"operation":"max","value":9},{"operation":"min","value":7},{"operation":"mul","value":-3},{"operation":"mod","value":-4},{"operation":"right_shift","value":63}] | -1
-1 | [{"operation":"default","value":9},{"operation":"floor","value":0},{"operation":"ceil","value":0},{"operation":"replace","value":"é\n"}] | "é\n""#;
-
-/// Whether a store makes this of a change, and one of its own keeps it.
-fn is_made_and_kept(alloc: Global, set: &SetPacket, wanted: &str) -> Result<bool, Fail> {
-    Ok(is_made(alloc, set, wanted)? && keeps(alloc, &mut Store::new(alloc), set, wanted)?)
-}
-
-/// Whether operations make this of a default.
-fn makes(alloc: Global, default: &str, operations: &str, wanted: &str) -> Result<bool, Fail> {
-    let found = set_of(alloc, "q", default, operations)?;
-    match change_in(&found) {
-        Some(set) => is_made_and_kept(alloc, set, wanted),
-        None => Ok(false),
-    }
-}
-
-/// Whether a case `DEFAULT | OPERATIONS | VALUE` is so.
-fn is_case(alloc: Global, case: &str) -> Result<bool, Fail> {
-    makes(alloc, part(case, 0), part(case, 1), part(case, 2))
-}
-
-#[test]
-fn operations_make_their_values(rt: HostRuntime) -> Result<(), Fail> {
-    each(rt.alloc(), OPERATIONS, is_case)
-}
-
-/// Whether a change is refused so by a new store, which then doesn't keep its key.
-fn refuses(alloc: Global, set: &SetPacket, wanted: StoreRefusal) -> bool {
-    let store = Store::new(alloc);
-    refusal(&store, set) == Some(wanted) && store.get(&set.key).is_none()
+    Text::of(alloc, "another value is kept")
 }
 
 /// A refusal by its name.
-fn refusal_of(name: &str) -> StoreRefusal {
-    match name {
-        "out of range" => StoreRefusal::OutOfRange { place: 0 },
-        "first" => StoreRefusal::BadOperation { place: 0 },
-        "second" => StoreRefusal::BadOperation { place: 1 },
-        _ => StoreRefusal::PrivateKey,
+fn name_of(alloc: Global, refusal: StoreRefusal) -> Result<Text, Memory> {
+    Ok(Text::from_string(format!(in alloc; "{refusal:?}")?))
+}
+
+/// What a store makes of a change and keeps then, or why it refuses the change and keeps nothing.
+fn change(alloc: Global, store: &mut Store, set: &SetPacket) -> Result<Text, Memory> {
+    match store.apply(set) {
+        Ok(changed) => keep(alloc, store, &set.key, changed.new),
+        Err(refusal) if store.get(&set.key).is_none() => name_of(alloc, refusal),
+        Err(_) => Text::of(alloc, "a refused value is kept"),
     }
 }
 
-/// Whether a case `KEY | DEFAULT | OPERATIONS | REFUSAL` is so.
-fn is_refusal(alloc: Global, case: &str) -> Result<bool, Fail> {
-    let found = set_of(alloc, part(case, 0), part(case, 1), part(case, 2))?;
-    Ok(match change_in(&found) {
-        Some(set) => refuses(alloc, set, refusal_of(part(case, 3))),
-        None => false,
-    })
+/// What a store answers the message of one Set.
+fn answer(alloc: Global, store: &mut Store, message: &str) -> Result<Text, Fail> {
+    let found = packets_in(alloc, message)?;
+    match change_in(&found) {
+        Some(set) => Ok(change(alloc, store, set)?),
+        None => Err(Fail::new(message)),
+    }
+}
+
+/// What a new store answers the message of one Set.
+fn answer_of_new(alloc: Global, message: &str) -> Result<Text, Fail> {
+    answer(alloc, &mut Store::new(alloc), message)
+}
+
+/// Sets on a new store, in cases `MESSAGE | ANSWER`.
+struct Sets;
+
+impl Theme for Sets {
+    fn answer(alloc: Global, case: &str) -> Result<Text, Fail> {
+        answer_of_new(alloc, part(case, 0))
+    }
+}
+
+/// Sets, and what the operations of each make of its default.
+const OPERATIONS: &str =
+    r#"[{"cmd":"Set","key":"q","default":[3,4,3],"operations":[{"operation":"remove","value":3},{"operation":"pop","value":0},{"operation":"add","value":[5]}]}] | [3,5]
+[{"cmd":"Set","key":"q","default":-7,"operations":[{"operation":"mod","value":3},{"operation":"left_shift","value":2},{"operation":"right_shift","value":1}]}] | 4
+[{"cmd":"Set","key":"q","default":[3,4],"operations":[{"operation":"update","value":[4,5]}]}] | [3,4,5]
+[{"cmd":"Set","key":"q","default":{"b":1,"d":2},"operations":[{"operation":"update","value":{"a":0,"b":[],"c":"x"}},{"operation":"pop","value":"d"}]}] | {"a":0,"b":[],"c":"x"}
+[{"cmd":"Set","key":"q","default":-9223372036854775808,"operations":[{"operation":"mod","value":-1},{"operation":"or","value":-1},{"operation":"and","value":12},{"operation":"xor","value":-1}]}] | -13
+[{"cmd":"Set","key":"q","default":5,"operations":[{"operation":"max","value":9},{"operation":"min","value":7},{"operation":"mul","value":-3},{"operation":"mod","value":-4},{"operation":"right_shift","value":63}]}] | -1
+[{"cmd":"Set","key":"q","default":1,"operations":[{"operation":"default","value":9},{"operation":"floor","value":0},{"operation":"ceil","value":0},{"operation":"replace","value":"é\n"}]}] | "é\n""#;
+
+#[test]
+fn operations_make_their_values(rt: HostRuntime) -> Result<(), Fail> {
+    each::<Sets>(rt.alloc(), OPERATIONS)
 }
 
 /// Operations on numbers that are refused.
 const OUT_OF_RANGE: &str =
-    r#"k | 9223372036854775807 | [{"operation":"add","value":1}] | out of range
-k | -7 | [{"operation":"mod","value":0}] | first"#;
+    r#"[{"cmd":"Set","key":"k","default":9223372036854775807,"operations":[{"operation":"add","value":1}]}] | OutOfRange { place: 0 }
+[{"cmd":"Set","key":"k","default":-7,"operations":[{"operation":"mod","value":0}]}] | BadOperation { place: 0 }"#;
 
 #[test]
 fn storage_out_of_range(rt: HostRuntime) -> Result<(), Fail> {
-    each(rt.alloc(), OUT_OF_RANGE, is_refusal)
+    each::<Sets>(rt.alloc(), OUT_OF_RANGE)
 }
 
 /// Other Sets that are refused.
 const REFUSED: &str =
-    r#"k | 1 | [{"operation":"add","value":1},{"operation":"fly","value":1},{"operation":"mod","value":0}] | second
-k | 18446744073709551615 | [{"operation":"add","value":0}] | first
-_read_x | 0 | [] | private key"#;
+    r#"[{"cmd":"Set","key":"k","default":1,"operations":[{"operation":"add","value":1},{"operation":"fly","value":1},{"operation":"mod","value":0}]}] | BadOperation { place: 1 }
+[{"cmd":"Set","key":"k","default":18446744073709551615,"operations":[{"operation":"add","value":0}]}] | BadOperation { place: 0 }
+[{"cmd":"Set","key":"_read_x","default":0,"operations":[]}] | PrivateKey"#;
 
 #[test]
 fn other_sets_are_refused(rt: HostRuntime) -> Result<(), Fail> {
-    each(rt.alloc(), REFUSED, is_refusal)
+    each::<Sets>(rt.alloc(), REFUSED)
 }
 
-/// The text of a numbered key.
-fn key_of(alloc: Global, number: u64) -> Result<Text, Fail> {
-    Ok(Text::from_string(format!(in alloc; "key {number}")?))
-}
-
-/// Keeps a number under its key, in room that is taken ahead.
-fn put_number(alloc: Global, store: &mut Store, number: u64) -> Result<(), Fail> {
-    let key = key_of(alloc, number)?;
+/// Keeps a number under its key, which begins with these words, in room that is taken ahead.
+fn put_number(
+    alloc: Global,
+    store: &mut Store,
+    words: &str,
+    number: u64,
+    value: u64,
+) -> Result<(), Fail> {
+    let key = Text::from_string(format!(in alloc; "{words}{number}")?);
     let growth = store.room_for(1)?;
-    store.put_grown(key, mw_json::number_tree(number), growth);
+    store.put_grown(key, number_tree(value), growth);
     Ok(())
 }
 
-/// A store of twenty numbers under their keys, but for a text under the seventh.
-fn store_of_twenty(alloc: Global) -> Result<Store, Fail> {
+/// A store of so many numbers from 0 on under their keys, each number no more than `most`.
+fn numbered_store(alloc: Global, words: &str, keys: u64, most: u64) -> Result<Store, Fail> {
     let mut store = Store::new(alloc);
-    for number in 0..20u64 {
-        put_number(alloc, &mut store, number)?;
+    for number in 0..keys {
+        put_number(alloc, &mut store, words, number, number.min(most))?;
     }
-    store.put(&key_of(alloc, 7)?, mw_json::words_tree(alloc, "x")?)?;
     Ok(store)
 }
 
-/// Whether a store keeps a number under its key.
-fn has_number(alloc: Global, store: &Store, number: u64) -> Result<bool, Fail> {
-    let key = key_of(alloc, number)?;
-    Ok(matches!(store.get(&key), Some(Tree::Whole(z)) if *z == i128::from(number)))
+/// A Set that puts a text in the place of what is kept under the seventh key.
+const TEXT: &str =
+    r#"[{"cmd":"Set","key":"key 7","default":0,"operations":[{"operation":"replace","value":"x"}]}]"#;
+
+/// A store of twenty numbers under their keys, but for a text under the seventh.
+fn store_of_twenty(alloc: Global) -> Result<Store, Fail> {
+    let mut store = numbered_store(alloc, "key ", 20, 19)?;
+    let _text = answer(alloc, &mut store, TEXT)?;
+    Ok(store)
 }
 
-/// Whether a store keeps a text under a key.
-fn has_text(alloc: Global, store: &Store, number: u64) -> Result<bool, Fail> {
-    let key = key_of(alloc, number)?;
-    Ok(matches!(store.get(&key), Some(Tree::Words(_))))
+/// What that store keeps, in cases `KEY | VALUE`.
+struct Keeping;
+
+impl Theme for Keeping {
+    fn answer(alloc: Global, case: &str) -> Result<Text, Fail> {
+        let store = store_of_twenty(alloc)?;
+        Ok(kept(alloc, &store, &Text::of(alloc, part(case, 0))?)?)
+    }
 }
 
-/// Whether a store keeps nothing under a key.
-fn has_none(alloc: Global, store: &Store, number: u64) -> Result<bool, Fail> {
-    let key = key_of(alloc, number)?;
-    Ok(store.get(&key).is_none())
-}
-
-/// Whether a store keeps the first and the last number, and those beside the text.
-fn has_numbers(alloc: Global, store: &Store) -> Result<bool, Fail> {
-    Ok(
-        has_number(alloc, store, 0)?
-            && has_number(alloc, store, 6)?
-            && has_number(alloc, store, 8)?
-            && has_number(alloc, store, 19)?,
-    )
-}
-
-/// Whether a store keeps those, the text, and nothing behind them.
-fn has_twenty(alloc: Global, store: &Store) -> Result<bool, Fail> {
-    Ok(has_text(alloc, store, 7)? && has_numbers(alloc, store)? && has_none(alloc, store, 20)?)
-}
+/// The first and the last number, those beside the text, the text, and nothing behind them.
+const TWENTY: &str = r#"key 0 | 0
+key 6 | 6
+key 7 | "x"
+key 8 | 8
+key 19 | 19
+key 20 | "#;
 
 #[test]
 fn keys_keep_their_values(rt: HostRuntime) -> Result<(), Fail> {
-    let store = store_of_twenty(rt.alloc())?;
-    fine(has_twenty(rt.alloc(), &store)?)
+    each::<Keeping>(rt.alloc(), TWENTY)
 }
 
-/// Keeps a text of 1,000,000 characters under a key.
-fn put_long(alloc: Global, store: &mut Store, key: &str) -> Result<(), Fail> {
-    let long = "a".repeat(alloc, 1_000_000)?;
-    let value = mw_json::words_tree(alloc, long.as_str())?;
-    store.put(&Text::of(alloc, key)?, value)?;
-    Ok(())
+/// What a store answers the Set of a key to a text of so many characters.
+fn set_long(alloc: Global, store: &mut Store, key: &str, count: usize) -> Result<Text, Fail> {
+    let long = "a".repeat(alloc, count)?;
+    let message = format!(in alloc;
+        r#"[{{"cmd":"Set","key":"{key}","default":"{long}","operations":[]}}]"#
+    )?;
+    answer(alloc, store, message.as_str())
 }
 
 /// A store of four keys, each of 1,000,003 bytes with its value.
 fn store_of_four(alloc: Global) -> Result<Store, Fail> {
     let mut store = Store::new(alloc);
     for key in "a b c d".split(' ') {
-        put_long(alloc, &mut store, key)?;
+        let _text = set_long(alloc, &mut store, key, 1_000_000)?;
     }
     Ok(store)
 }
 
-/// The message of one Set, of a fifth key with a text of so many characters.
-fn fifth(alloc: Global, count: usize) -> Result<List<Inbound>, Fail> {
-    let long = "a".repeat(alloc, count)?;
-    let message = format!(in alloc;
-        r#"[{{"cmd":"Set","key":"e","default":"{long}","operations":[]}}]"#
-    )?;
-    packets_in(alloc, message.as_str())
-}
+/// What that store answers the Set of a fifth key, in cases `CHARACTERS | ANSWER`.
+struct Fifth;
 
-/// Whether that Set is refused so, or isn't refused.
-fn is_fifth(
-    alloc: Global,
-    store: &Store,
-    count: usize,
-    wanted: Option<StoreRefusal>,
-) -> Result<bool, Fail> {
-    Ok(is_refused(store, &fifth(alloc, count)?, wanted))
-}
-
-/// A store of five keys would be of so many bytes.
-fn five_full(bytes: u64) -> StoreRefusal {
-    StoreRefusal::StoreFull { bytes, keys: 5 }
+impl Theme for Fifth {
+    fn answer(alloc: Global, case: &str) -> Result<Text, Fail> {
+        let count = part(case, 0).parse::<usize>()?;
+        let text = set_long(alloc, &mut store_of_four(alloc)?, "e", count)?;
+        if text.as_str().len() == count.saturating_add(2) {
+            return Ok(Text::of(alloc, "taken")?);
+        }
+        Ok(text)
+    }
 }
 
 #[test]
 fn a_full_store_says_what_would_stand(rt: HostRuntime) -> Result<(), Fail> {
-    let store = store_of_four(rt.alloc())?;
-    fine(is_fifth(rt.alloc(), &store, 1_000_000, Some(five_full(5_000_015)))?)
-}
-
-/// Whether a fifth key fills a store to its last byte, and one of a character more is refused.
-fn takes_fifth(alloc: Global, store: &Store) -> Result<bool, Fail> {
-    Ok(
-        is_fifth(alloc, store, 194_289, None)?
-            && is_fifth(alloc, store, 194_290, Some(five_full(4_194_305)))?,
+    each::<Fifth>(
+        rt.alloc(),
+        "1000000 | StoreFull { bytes: 5000015, keys: 5 }",
     )
 }
 
+/// A fifth key that fills the store to its last byte, and one of a character more.
+const LAST_BYTE: &str = "194289 | taken
+194290 | StoreFull { bytes: 4194305, keys: 5 }";
+
 #[test]
 fn a_store_is_filled_to_its_last_byte(rt: HostRuntime) -> Result<(), Fail> {
-    let store = store_of_four(rt.alloc())?;
-    fine(takes_fifth(rt.alloc(), &store)?)
+    each::<Fifth>(rt.alloc(), LAST_BYTE)
 }
 
-/// Keeps 0 under a key that is a number.
-fn put_zero(alloc: Global, store: &mut Store, number: u64) -> Result<(), Fail> {
-    let key = Text::from_string(format!(in alloc; "{number}")?);
-    Ok(store.put(&key, mw_json::number_tree(0))?)
-}
+/// Sets on a store of so many keys, which are the numbers from 0 on, in cases
+/// `KEYS | MESSAGE | ANSWER`.
+struct Numbered;
 
-/// A store of so many keys, which are the numbers from 0 on.
-fn numbered_store(alloc: Global, keys: u64) -> Result<Store, Fail> {
-    let mut store = Store::new(alloc);
-    for number in 0..keys {
-        put_zero(alloc, &mut store, number)?;
+impl Theme for Numbered {
+    fn answer(alloc: Global, case: &str) -> Result<Text, Fail> {
+        let keys = part(case, 0).parse::<u64>()?;
+        let mut store = numbered_store(alloc, "", keys, 0)?;
+        answer(alloc, &mut store, part(case, 1))
     }
-    Ok(store)
 }
 
-/// Whether the Set of a key to 0 is refused so, or isn't refused.
-fn is_key(
-    alloc: Global,
-    store: &Store,
-    key: &str,
-    wanted: Option<StoreRefusal>,
-) -> Result<bool, Fail> {
-    Ok(is_refused(store, &set_of(alloc, key, "0", "[]")?, wanted))
-}
-
-/// What a store says of which one key more would be too many.
-const FULL: StoreRefusal = StoreRefusal::StoreFull {
-    bytes: 382_112,
-    keys: 65_537,
-};
-
-/// Whether a store takes its last key again, and no further one.
-fn is_full(alloc: Global, store: &Store) -> Result<bool, Fail> {
-    Ok(is_key(alloc, store, "65535", None)? && is_key(alloc, store, "65536", Some(FULL))?)
-}
+/// A store that has its last key takes it again, and no further one.
+const FULL: &str = r#"65536 | [{"cmd":"Set","key":"65535","default":0,"operations":[]}] | 0
+65536 | [{"cmd":"Set","key":"65536","default":0,"operations":[]}] | StoreFull { bytes: 382112, keys: 65537 }"#;
 
 #[test]
 fn a_store_is_filled_to_its_last_key(rt: HostRuntime) -> Result<(), Fail> {
-    let store = numbered_store(rt.alloc(), 65_536)?;
-    fine(is_full(rt.alloc(), &store)?)
+    each::<Numbered>(rt.alloc(), FULL)
 }
+
+/// A store that lacks its last key takes it.
+const LAST: &str = r#"65535 | [{"cmd":"Set","key":"65535","default":0,"operations":[]}] | 0"#;
 
 #[test]
 fn a_store_takes_its_last_key(rt: HostRuntime) -> Result<(), Fail> {
-    let store = numbered_store(rt.alloc(), 65_535)?;
-    fine(is_key(rt.alloc(), &store, "65535", None)?)
+    each::<Numbered>(rt.alloc(), LAST)
 }
 
-/// A value of each kind.
-const KINDS: &str = r#"null true 6 "a" [6] {"a":6}"#;
+/// A value of each kind with an operand of each kind.
+const PAIRS: &str =
+    r#"null/null null/true null/6 null/"a" null/[6] null/{"a":6} true/null true/true true/6 true/"a" true/[6] true/{"a":6} 6/null 6/true 6/6 6/"a" 6/[6] 6/{"a":6} "a"/null "a"/true "a"/6 "a"/"a" "a"/[6] "a"/{"a":6} [6]/null [6]/true [6]/6 [6]/"a" [6]/[6] [6]/{"a":6} {"a":6}/null {"a":6}/true {"a":6}/6 {"a":6}/"a" {"a":6}/[6] {"a":6}/{"a":6}"#;
 
-/// Operations with a value and an operand that they take, and what they make. What `replace`,
-/// `default`, `floor` and `ceil` make stands in `made`.
-const TAKEN: &str = r#"add 6 6 | 12
-mul 6 6 | 36
-max 6 6 | 6
-min 6 6 | 6
-and 6 6 | 6
-or 6 6 | 6
-mod 6 6 | 0
-xor 6 6 | 0
-right_shift 6 6 | 0
-left_shift 6 6 | 384
-remove [6] 6 | []
-remove [6] null | [6]
-remove [6] true | [6]
-remove [6] "a" | [6]
-remove [6] [6] | [6]
-remove [6] {"a":6} | [6]
-pop [6] 6 | [6]
-pop {"a":6} "a" | {}
-add [6] [6] | [6,6]
-update [6] [6] | [6]
-update {"a":6} {"a":6} | {"a":6}"#;
+/// Adds a pair that an operation of this name takes, with what it makes of it.
+fn add_taken(alloc: Global, all: &mut String, name: &str, pair: &str) -> Result<(), Fail> {
+    let (value, operand) = pair.split_once('/').ok_or("no pair")?;
+    let message = format!(in alloc;
+        r#"[{{"cmd":"Set","key":"q","default":{value},"operations":[{{"operation":"{name}","value":{operand}}}]}}]"#
+    )?;
+    let made = answer_of_new(alloc, message.as_str())?;
+    if made.as_str() == "BadOperation { place: 0 }" {
+        return Ok(());
+    }
+    Ok(all.push_str([pair, "=", made.as_str(), ";"].join(alloc, "")?.as_str())?)
+}
 
-/// What stands behind an operation with its value and operand; nothing where it takes none such.
-fn taken(operation: &str) -> &'static str {
-    for case in TAKEN.split('\n') {
-        if part(case, 0) == operation {
-            return part(case, 1);
+/// The pairs that an operation takes, with what it makes of each, in cases `NAME | TAKEN`.
+struct Kinds;
+
+impl Theme for Kinds {
+    fn answer(alloc: Global, case: &str) -> Result<Text, Fail> {
+        let mut all = String::new(alloc);
+        for pair in PAIRS.split(' ') {
+            add_taken(alloc, &mut all, part(case, 0), pair)?;
         }
+        Ok(Text::from_string(all))
     }
-    ""
-}
-
-/// Whether an operation leaves a value as it is, whatever its operand.
-fn leaves(name: &str, value: &str) -> bool {
-    name == "default" || (value == "6" && (name == "floor" || name == "ceil"))
-}
-
-/// What an operation makes of a value with an operand; nothing where it is refused.
-fn made(
-    alloc: Global,
-    name: &str,
-    value: &'static str,
-    operand: &'static str,
-) -> Result<&'static str, Fail> {
-    if name == "replace" {
-        return Ok(operand);
-    }
-    if leaves(name, value) {
-        return Ok(value);
-    }
-    Ok(taken(format!(in alloc; "{name} {value} {operand}")?.as_str()))
-}
-
-/// Whether a store makes this of a change, or refuses its first operation where this is nothing.
-fn is_made(alloc: Global, set: &SetPacket, wanted: &str) -> Result<bool, Fail> {
-    match Store::new(alloc).apply(set) {
-        Ok(changed) => is_text(alloc, &changed.new, wanted),
-        Err(refusal) => {
-            Ok(wanted.is_empty() && refusal == StoreRefusal::BadOperation { place: 0 })
-        }
-    }
-}
-
-/// Whether an operation makes of a value what it has to, or is refused.
-fn gives(
-    alloc: Global,
-    name: &str,
-    value: &'static str,
-    operand: &'static str,
-) -> Result<bool, Fail> {
-    let operations = format!(in alloc; r#"[{{"operation":"{name}","value":{operand}}}]"#)?;
-    let found = set_of(alloc, "q", value, operations.as_str())?;
-    match change_in(&found) {
-        Some(set) => is_made(alloc, set, made(alloc, name, value, operand)?),
-        None => Ok(false),
-    }
-}
-
-/// Whether an operation makes of each kind of value with each kind of operand what it has to.
-fn gives_all(alloc: Global, name: &str) -> Result<bool, Fail> {
-    for value in KINDS.split(' ') {
-        for operand in KINDS.split(' ') {
-            if !gives(alloc, name, value, operand)? {
-                return Ok(false);
-            }
-        }
-    }
-    Ok(true)
 }
 
 /// All operations, and three names of none, the last of which is empty.
-const NAMES: &str = "replace
-default
-floor
-ceil
-add
-mul
-max
-min
-mod
-and
-or
-xor
-left_shift
-right_shift
-remove
-pop
-update
-pow
-Add
-";
+const NAMES: &str =
+    r#"replace | null/null=null;null/true=true;null/6=6;null/"a"="a";null/[6]=[6];null/{"a":6}={"a":6};true/null=null;true/true=true;true/6=6;true/"a"="a";true/[6]=[6];true/{"a":6}={"a":6};6/null=null;6/true=true;6/6=6;6/"a"="a";6/[6]=[6];6/{"a":6}={"a":6};"a"/null=null;"a"/true=true;"a"/6=6;"a"/"a"="a";"a"/[6]=[6];"a"/{"a":6}={"a":6};[6]/null=null;[6]/true=true;[6]/6=6;[6]/"a"="a";[6]/[6]=[6];[6]/{"a":6}={"a":6};{"a":6}/null=null;{"a":6}/true=true;{"a":6}/6=6;{"a":6}/"a"="a";{"a":6}/[6]=[6];{"a":6}/{"a":6}={"a":6};
+default | null/null=null;null/true=null;null/6=null;null/"a"=null;null/[6]=null;null/{"a":6}=null;true/null=true;true/true=true;true/6=true;true/"a"=true;true/[6]=true;true/{"a":6}=true;6/null=6;6/true=6;6/6=6;6/"a"=6;6/[6]=6;6/{"a":6}=6;"a"/null="a";"a"/true="a";"a"/6="a";"a"/"a"="a";"a"/[6]="a";"a"/{"a":6}="a";[6]/null=[6];[6]/true=[6];[6]/6=[6];[6]/"a"=[6];[6]/[6]=[6];[6]/{"a":6}=[6];{"a":6}/null={"a":6};{"a":6}/true={"a":6};{"a":6}/6={"a":6};{"a":6}/"a"={"a":6};{"a":6}/[6]={"a":6};{"a":6}/{"a":6}={"a":6};
+floor | 6/null=6;6/true=6;6/6=6;6/"a"=6;6/[6]=6;6/{"a":6}=6;
+ceil | 6/null=6;6/true=6;6/6=6;6/"a"=6;6/[6]=6;6/{"a":6}=6;
+add | 6/6=12;[6]/[6]=[6,6];
+mul | 6/6=36;
+max | 6/6=6;
+min | 6/6=6;
+mod | 6/6=0;
+and | 6/6=6;
+or | 6/6=6;
+xor | 6/6=0;
+left_shift | 6/6=384;
+right_shift | 6/6=0;
+remove | [6]/null=[6];[6]/true=[6];[6]/6=[];[6]/"a"=[6];[6]/[6]=[6];[6]/{"a":6}=[6];
+pop | [6]/6=[6];{"a":6}/"a"={};
+update | [6]/[6]=[6];{"a":6}/{"a":6}={"a":6};
+pow | 
+Add | 
+ | "#;
 
 #[test]
 fn each_operation_takes_its_kinds(rt: HostRuntime) -> Result<(), Fail> {
-    each(rt.alloc(), NAMES, gives_all)
+    each::<Kinds>(rt.alloc(), NAMES)
 }
 
-/// The same, of numbers at the ends of their ranges.
+/// The same as of the first table, of numbers at the ends of their ranges.
 const ENDS: &str =
-    r#"-9223372036854775808 | [{"operation":"left_shift","value":0},{"operation":"right_shift","value":63}] | -1
-1 | [{"operation":"left_shift","value":62},{"operation":"add","value":4611686018427387903}] | 9223372036854775807
--7 | [{"operation":"right_shift","value":1},{"operation":"mod","value":-3}] | -1
-[1,2] | [{"operation":"pop","value":-1},{"operation":"pop","value":2},{"operation":"pop","value":1}] | [1]"#;
+    r#"[{"cmd":"Set","key":"q","default":-9223372036854775808,"operations":[{"operation":"left_shift","value":0},{"operation":"right_shift","value":63}]}] | -1
+[{"cmd":"Set","key":"q","default":1,"operations":[{"operation":"left_shift","value":62},{"operation":"add","value":4611686018427387903}]}] | 9223372036854775807
+[{"cmd":"Set","key":"q","default":-7,"operations":[{"operation":"right_shift","value":1},{"operation":"mod","value":-3}]}] | -1
+[{"cmd":"Set","key":"q","default":[1,2],"operations":[{"operation":"pop","value":-1},{"operation":"pop","value":2},{"operation":"pop","value":1}]}] | [1]"#;
 
 #[test]
 fn numbers_at_their_ends(rt: HostRuntime) -> Result<(), Fail> {
-    each(rt.alloc(), ENDS, is_case)
+    each::<Sets>(rt.alloc(), ENDS)
 }
