@@ -1,25 +1,9 @@
 //! What players say, and what they are told of one another.
+use crate::harness::{Run, case_tells, cases_tell};
 use crate::session_harness::marks;
 use crate::team_tests::ROOM as ROOM_OF_TEAMS;
-use crate::tests::ROOM_A;
-use std::alloc::Global;
+use crate::tests::{FOLDER_A, ROOM_A};
 use std::test::Fail;
-
-/// Ann and Bob in Room A, who hear texts of the room from the mark on.
-const BOTH: &str = r#"open
-text 1 [{"cmd":"Connect","game":"G","items_handling":7,"name":"Ann","tags":[],"version":{"build":0,"major":0,"minor":5}}]
-open
-text 2 [{"cmd":"Connect","game":"G","items_handling":7,"name":"Bob","tags":[],"version":{"build":0,"major":0,"minor":5}}]
-take 1
-take 2
-mark
-"#;
-
-/// Fails where another text is told after both have connected.
-fn both_hear(alloc: Global, lines: &str, wanted: &str) -> Result<(), Fail> {
-    let script = format!(in alloc; "{BOTH}{lines}")?;
-    marks(alloc, ROOM_A, script.as_str(), wanted)
-}
 
 #[test]
 fn item_send(rt: HostRuntime) -> Result<(), Fail> {
@@ -89,7 +73,8 @@ take 1
 
 #[test]
 fn who_comes_and_goes(rt: HostRuntime) -> Result<(), Fail> {
-    let lines = r#"text 2 [{"cmd":"Say","text":"hi \"all\""}]
+    let lines = r#"both
+text 2 [{"cmd":"Say","text":"hi \"all\""}]
 take 1
 text 2 [{"cmd":"ConnectUpdate","tags":["Tracker"]}]
 take 1
@@ -101,53 +86,49 @@ take 1
 1 [{"cmd":"PrintJSON","data":[{"text":"Bob changed tags"}],"slot":2,"tags":["Tracker"],"team":0,"type":"TagsChanged"}]
 1 [{"cmd":"PrintJSON","data":[{"text":"Bob left"}],"slot":2,"team":0,"type":"Part"}]
 "#;
-    both_hear(rt.alloc(), lines, expected)
+    marks(rt.alloc(), ROOM_A, lines, expected)
 }
 
-/// Fails where Ann is answered otherwise who says a command.
-fn answers(alloc: Global, command: &str, answer: &str) -> Result<(), Fail> {
-    let lines = format!(in alloc;
-        "text 1 [{{\"cmd\":\"Say\",\"text\":\"{command}\"}}]\ntake 1\ntake 2\n"
-    )?;
-    let expected = format!(in alloc;
-        "1 [{{\"cmd\":\"PrintJSON\",\"data\":[{{\"text\":\"{answer}\"}}],\"type\":\"CommandResult\"}}]\n"
-    )?;
-    both_hear(alloc, lines.as_str(), expected.as_str())
-}
+/// Ann says a command, and each of both takes.
+const ANSWERED: [Run<'static>; 1] = [(
+    "drive A",
+    r#"both
+text 1 [{"cmd":"Say","text":"$0"}]
+take 1
+take 2
+"#,
+    r#"mark
+1 [{"cmd":"PrintJSON","data":[{"text":"$1"}],"type":"CommandResult"}]
+"#,
+)];
 
 /// Commands of Ann, and what each is answered.
-const ANSWERS: [(&str, &str); 15] = [
-    (
-        "!help",
-        "!help !players !missing !checked !remaining !release !collect !hint !hint_location",
-    ),
-    ("!players now", "Connected: Ann, Bob"),
-    ("!missing", "2 missing: A1, A2"),
-    ("!checked", "0 checked: "),
-    ("!remaining", "not allowed"),
-    ("!release", "not allowed"),
-    ("!collect", "not allowed"),
-    ("!hint", "0 points, a hint costs 1"),
-    ("!hint ", "0 points, a hint costs 1"),
-    ("!hint Hat", "no such name"),
-    ("!hint Boots", "nothing to hint"),
-    ("!hint Map", "1 points needed, 0 there"),
-    ("!hint_location B1", "no such name"),
-    ("!hint_location A1", "1 points needed, 0 there"),
-    ("!fly", "unknown command"),
-];
+const ANSWERS: &str =
+    "!help | !help !players !missing !checked !remaining !release !collect !hint !hint_location
+!players now | Connected: Ann, Bob
+!missing | 2 missing: A1, A2
+!checked | 0 checked:\u{20}
+!remaining | not allowed
+!release | not allowed
+!collect | not allowed
+!hint | 0 points, a hint costs 1
+!hint  | 0 points, a hint costs 1
+!hint Hat | no such name
+!hint Boots | nothing to hint
+!hint Map | 1 points needed, 0 there
+!hint_location B1 | no such name
+!hint_location A1 | 1 points needed, 0 there
+!fly | unknown command";
 
 #[test]
 fn each_command_has_its_answer(rt: HostRuntime) -> Result<(), Fail> {
-    for (command, answer) in ANSWERS {
-        answers(rt.alloc(), command, answer)?;
-    }
-    Ok(())
+    cases_tell(rt.alloc(), &FOLDER_A, "", &ANSWERED, ANSWERS)
 }
 
 #[test]
 fn the_goal_is_told(rt: HostRuntime) -> Result<(), Fail> {
-    let lines = r#"text 1 [{"cmd":"StatusUpdate","status":30}]
+    let lines = r#"both
+text 1 [{"cmd":"StatusUpdate","status":30}]
 take 2
 text 1 [{"cmd":"StatusUpdate","status":10}]
 text 1 [{"cmd":"Say","text":"!remaining"}]
@@ -156,7 +137,7 @@ take 2
     let expected =
         r#"2 [{"cmd":"PrintJSON","data":[{"text":"Ann reached the goal"}],"slot":1,"team":0,"type":"Goal"}]
 "#;
-    both_hear(rt.alloc(), lines, expected)
+    marks(rt.alloc(), ROOM_A, lines, expected)
 }
 
 /// Both players of the teams 0 and 1, who hear texts of the room from the mark on.
@@ -192,37 +173,38 @@ fn teams_do_not_hear_each_other(rt: HostRuntime) -> Result<(), Fail> {
     marks(rt.alloc(), ROOM_OF_TEAMS, TWO_TEAMS, expected)
 }
 
-/// Spellings of characters as they may be sent, and as they are printed.
-const ESCAPES: [(&str, &str); 6] = [
-    (r#"\u0022\"\u005C\\"#, r#"\"\"\\\\"#),
-    (r#"\u0008\u0009\u000A\u000C\u000D"#, r#"\b\t\n\f\r"#),
-    (r#"\b\t\n\f\r"#, r#"\b\t\n\f\r"#),
-    (r#"\u0000\u0001\u000B\u001F"#, r#"\u0000\u0001\u000b\u001f"#),
-    (r#"\u007F\/\u002F"#, "\u{7f}//"),
-    (r#"\u00E4\uD83D\uDE00"#, "\u{e4}\u{1f600}"),
-];
+/// Ann says something, and Bob takes. A case has its spelling in JSON, and the one with which it is
+/// printed.
+const HEARD: [Run<'static>; 1] = [(
+    "drive A",
+    r#"both
+text 1 [{"cmd":"Say","text":"$0"}]
+take 2
+"#,
+    r#"mark
+2 [{"cmd":"PrintJSON","data":[{"text":"Ann: $1"}],"message":"$1","slot":1,"team":0,"type":"Chat"}]
+"#,
+)];
 
-/// Fails where Bob hears otherwise what Ann says. The first text is its spelling in JSON, the
-/// second the one with which it is printed.
-fn bob_hears(alloc: Global, said: &str, told: &str) -> Result<(), Fail> {
-    let lines = format!(in alloc; "text 1 [{{\"cmd\":\"Say\",\"text\":\"{said}\"}}]\ntake 2\n")?;
-    let expected = format!(in alloc;
-        "2 [{{\"cmd\":\"PrintJSON\",\"data\":[{{\"text\":\"Ann: {told}\"}}],\"message\":\"{told}\",\"slot\":1,\"team\":0,\"type\":\"Chat\"}}]\n"
-    )?;
-    both_hear(alloc, lines.as_str(), expected.as_str())
-}
+/// Spellings of quotes and of control characters.
+const ESCAPES: &str = r#"\u0022\"\u005C\\ | \"\"\\\\
+\u0008\u0009\u000A\u000C\u000D | \b\t\n\f\r
+\b\t\n\f\r | \b\t\n\f\r
+\u0000\u0001\u000B\u001F | \u0000\u0001\u000b\u001f"#;
+
+/// Spellings of characters that are printed as they are.
+const PLAIN: &str = "\\u007F\\/\\u002F | \u{7f}//\n\\u00E4\\uD83D\\uDE00 | \u{e4}\u{1f600}";
 
 #[test]
 fn quotes_and_control_characters_are_said(rt: HostRuntime) -> Result<(), Fail> {
-    for (said, told) in ESCAPES {
-        bob_hears(rt.alloc(), said, told)?;
-    }
-    Ok(())
+    cases_tell(rt.alloc(), &FOLDER_A, "", &HEARD, ESCAPES)?;
+    cases_tell(rt.alloc(), &FOLDER_A, "", &HEARD, PLAIN)
 }
 
 #[test]
 fn ten_thousand_characters_are_said(rt: HostRuntime) -> Result<(), Fail> {
     let said = r#"\"\u0001\u00e4\n\\"#.repeat(rt.alloc(), 2_000)?;
     let told = "\\\"\\u0001\u{e4}\\n\\\\".repeat(rt.alloc(), 2_000)?;
-    bob_hears(rt.alloc(), said.as_str(), told.as_str())
+    let case = format!(in rt.alloc(); "{} | {}", said.as_str(), told.as_str())?;
+    case_tells(rt.alloc(), &FOLDER_A, "", &HEARD, case.as_str())
 }

@@ -1,22 +1,37 @@
-//! What the tests run the program with: a folder, an input and two sinks in memory.
+//! What the tests run the program with, a folder, an input and two sinks in memory, and how cases
+//! of runs are tried.
 use crate::run::run;
+use crate::session_harness::script_of;
 use mw_base::{Bytes, List, Text};
-use mw_edges::{Faults, MemoryFolder, MemorySink, MemorySource, Sink};
+use mw_edges::{
+    Faults, FileRead, Folder, FolderError, MemoryFolder, MemorySink, MemorySource, Sink,
+};
 use std::alloc::Global;
 use std::test::Fail;
 
-/// The number of a call that never comes.
-pub(crate) const NEVER: u64 = u64::MAX;
+/// A file's name and its text.
+pub(crate) type File<'a> = (&'a str, &'a str);
 
-pub(crate) fn bytes_of(alloc: Global, text: &[u8]) -> Result<Bytes, Fail> {
-    Ok(Bytes::from_vec(Vec::from_slice(alloc, text)?))
+/// The words of a run, its script in short lines, and what it tells.
+pub(crate) type Run<'a> = (&'a str, &'a str, &'a str);
+
+/// The number of the call that fails, by a place among the numbers for the folder, the input, the
+/// out sink and the error sink. What is no number there, as `-`, stands for a call that never
+/// comes.
+fn failing(calls: &str, place: usize) -> u64 {
+    let word = calls.split(' ').nth(place).unwrap_or("");
+    word.parse::<u64>().unwrap_or(u64::MAX)
 }
 
-/// Faults whose call of this number fails.
-pub(crate) fn faults(alloc: Global, failing: u64) -> Result<Faults, Fail> {
+/// Faults whose call of that number fails.
+pub(crate) fn faults(alloc: Global, calls: &str, place: usize) -> Result<Faults, Fail> {
     let mut list = List::new(alloc);
-    list.push(failing)?;
+    list.push(failing(calls, place))?;
     Ok(Faults::at(list))
+}
+
+fn bytes_of(alloc: Global, text: &[u8]) -> Result<Bytes, Fail> {
+    Ok(Bytes::from_vec(Vec::from_slice(alloc, text)?))
 }
 
 pub(crate) fn add_file(
@@ -31,6 +46,33 @@ pub(crate) fn add_file(
     Ok(())
 }
 
+/// What stands in a text for the parts of a case.
+const PLACES: [&str; 5] = ["$0", "$1", "$2", "$3", "$4"];
+
+/// A text with the parts of a case in their places. Between the parts stands a mark.
+pub(crate) fn filled(alloc: Global, text: &str, mark: &str, case: &str) -> Result<String, Fail> {
+    let mut filled = String::from_str(alloc, text)?;
+    for (part, place) in case.split(mark).zip(PLACES.iter()) {
+        filled = filled.replace(alloc, *place, part)?;
+    }
+    Ok(filled)
+}
+
+/// A folder of files, in whose texts a case's parts have their places.
+pub(crate) fn folder_of(
+    alloc: Global,
+    files: &[File<'_>],
+    calls: &str,
+    case: &str,
+) -> Result<MemoryFolder, Fail> {
+    let mut list = List::new(alloc);
+    for (name, text) in files {
+        let text = filled(alloc, text, " | ", case)?;
+        add_file(alloc, &mut list, name, text.as_bytes())?;
+    }
+    Ok(MemoryFolder::new(list, faults(alloc, calls, 0)?))
+}
+
 /// The words of a line that have a blank between them.
 pub(crate) fn words_of(alloc: Global, line: &str) -> Result<Vec<Text>, Fail> {
     let mut words = Vec::new(alloc);
@@ -40,17 +82,17 @@ pub(crate) fn words_of(alloc: Global, line: &str) -> Result<Vec<Text>, Fail> {
     Ok(words)
 }
 
-pub(crate) fn source_of(alloc: Global, text: &[u8], failing: u64) -> Result<MemorySource, Fail> {
-    let bytes = bytes_of(alloc, text)?;
-    Ok(MemorySource::new(bytes, faults(alloc, failing)?))
+fn source_of(alloc: Global, text: &str, calls: &str) -> Result<MemorySource, Fail> {
+    let bytes = bytes_of(alloc, text.as_bytes())?;
+    Ok(MemorySource::new(bytes, faults(alloc, calls, 1)?))
 }
 
-pub(crate) fn sink_of(alloc: Global, failing: u64) -> Result<MemorySink, Fail> {
-    Ok(MemorySink::new(alloc, faults(alloc, failing)?))
+fn sink_of(alloc: Global, calls: &str, place: usize) -> Result<MemorySink, Fail> {
+    Ok(MemorySink::new(alloc, faults(alloc, calls, place)?))
 }
 
 /// A run. Its clauses stay here: the tests look at what it leaves.
-pub(crate) fn ran<O: Sink>(
+fn ran<O: Sink>(
     alloc: Global,
     words: &[Text],
     folder: &mut MemoryFolder,
@@ -61,80 +103,184 @@ pub(crate) fn ran<O: Sink>(
     run(alloc, words, folder, input, out, err)
 }
 
-/// What a run leaves: the status, what was put, and what the error sink got.
-#[derive(Drop)]
-pub(crate) struct Outcome {
-    pub(crate) status: u8,
-    pub(crate) out: MemorySink,
-    pub(crate) err: MemorySink,
-}
-
-/// What a run on a folder leaves, where these calls of the input and of the two sinks fail.
-pub(crate) fn outcome_of(
-    alloc: Global,
-    words: &[Text],
-    folder: &mut MemoryFolder,
-    script: &[u8],
-    failing: [u64; 3],
-) -> Result<Outcome, Fail> {
-    let mut input = source_of(alloc, script, failing[0])?;
-    let mut out = sink_of(alloc, failing[1])?;
-    let mut err = sink_of(alloc, failing[2])?;
-    let status = ran(alloc, words, folder, &mut input, &mut out, &mut err);
-    Ok(Outcome { status, out, err })
-}
-
-/// The same as one text: the status, a blank, what was put, and the error line.
-fn told_of(alloc: Global, outcome: &Outcome) -> Result<String, Fail> {
-    let printed = std::str::from_utf8(outcome.out.bytes()).or(Err("no text"))?;
-    let line = std::str::from_utf8(outcome.err.bytes()).or(Err("no text"))?;
-    let status = u64::from(outcome.status);
-    Ok(format!(in alloc; "{status} {printed}{line}")?)
-}
-
-/// What a run tells of a line of words and a script, where the out sink's call of this number fails.
-pub(crate) fn told_with(
+/// The status of a run of a line of words and a script, and what the error sink got.
+pub(crate) fn ended<O: Sink>(
     alloc: Global,
     folder: &mut MemoryFolder,
     line: &str,
     script: &str,
-    failing: u64,
-) -> Result<String, Fail> {
+    out: &mut O,
+    calls: &str,
+) -> Result<(u8, MemorySink), Fail> {
     let words = words_of(alloc, line)?;
-    let outcome = outcome_of(
-        alloc,
-        &words,
-        folder,
-        script.as_bytes(),
-        [NEVER, failing, NEVER],
-    )?;
-    told_of(alloc, &outcome)
+    let mut input = source_of(alloc, script, calls)?;
+    let mut err = sink_of(alloc, calls, 3)?;
+    let status = ran(alloc, &words, folder, &mut input, out, &mut err);
+    Ok((status, err))
 }
 
-/// Fails, with the first line that is found in the place of another, where these texts differ.
-pub(crate) fn agree(found: &str, wanted: &str) -> Result<(), Fail> {
-    if found == wanted {
+/// What a run leaves as one text: the status, a blank, what was put, and the error line.
+pub(crate) fn told_of(
+    alloc: Global,
+    status: u8,
+    printed: &[u8],
+    line: &[u8],
+) -> Result<String, Fail> {
+    let printed = std::str::from_utf8(printed).or(Err("no text"))?;
+    let line = std::str::from_utf8(line).or(Err("no text"))?;
+    let status = u64::from(status);
+    Ok(format!(in alloc; "{status} {printed}{line}")?)
+}
+
+/// What a file has, and `no file` where there is none.
+fn bytes_in(alloc: Global, folder: &mut MemoryFolder, name: &str) -> Result<Bytes, Fail> {
+    let name = Text::of(alloc, name)?;
+    match folder.read_file(alloc, &name, 1_000_000) {
+        Ok(FileRead::Whole(bytes)) => Ok(bytes),
+        Err(FolderError::Failed) => bytes_of(alloc, b"no file"),
+        _ => Err(Fail::from("no reading")),
+    }
+}
+
+/// The same as a text.
+fn text_in(alloc: Global, folder: &mut MemoryFolder, name: &str) -> Result<String, Fail> {
+    let bytes = bytes_in(alloc, folder, name)?;
+    let text = std::str::from_utf8(bytes.as_slice()).or(Err("no text"))?;
+    Ok(String::from_str(alloc, text)?)
+}
+
+/// Fails, with the case, where a file has other bytes.
+pub(crate) fn holds(
+    alloc: Global,
+    folder: &mut MemoryFolder,
+    name: &str,
+    bytes: &[u8],
+    case: &str,
+) -> Result<(), Fail> {
+    if bytes_in(alloc, folder, name)?.as_slice() == bytes {
         return Ok(());
     }
-    for (line, other) in found.lines().zip(wanted.lines()) {
-        if line != other {
-            return Err(Fail::new(line));
-        }
-    }
-    Err(Fail::new("another number of lines"))
+    Err(Fail::new(case))
 }
 
-/// What a run tells of a line of words.
-pub(crate) fn told(alloc: Global, folder: &mut MemoryFolder, line: &str) -> Result<String, Fail> {
-    told_with(alloc, folder, line, "", NEVER)
-}
-
-/// Fails where a run of a line of words tells another text.
-pub(crate) fn tells(
+/// What a run tells of a line of words and a script of short lines. The word `file` and a name
+/// stand for no run, and what that file has is told.
+pub(crate) fn told(
     alloc: Global,
     folder: &mut MemoryFolder,
     line: &str,
-    wanted: &str,
+    lines: &str,
+    calls: &str,
+) -> Result<String, Fail> {
+    if let Some(name) = line.strip_prefix("file ") {
+        return text_in(alloc, folder, name);
+    }
+    let script = script_of(alloc, lines)?;
+    let mut out = sink_of(alloc, calls, 2)?;
+    let (status, err) = ended(alloc, folder, line, script.as_str(), &mut out, calls)?;
+    told_of(alloc, status, out.bytes(), err.bytes())
+}
+
+/// What a run with status 0 tells after the first mark.
+pub(crate) fn after_mark(told: &str) -> Option<&str> {
+    let (before, after) = told.split_once("0 gone\n")?;
+    if before.starts_with("0 ") {
+        Some(after)
+    } else {
+        None
+    }
+}
+
+/// Whether a text is the wanted one, in which two dots stand for whatever is there.
+pub(crate) fn fits(found: &str, wanted: &str) -> bool {
+    match wanted.split_once("..") {
+        Some((front, end)) => found.starts_with(front) && found.ends_with(end),
+        None => found == wanted,
+    }
+}
+
+/// The first line that is found in the place of another, where a text isn't the wanted one.
+fn other_line<'a>(found: &'a str, wanted: &str) -> Option<&'a str> {
+    if fits(found, wanted) {
+        return None;
+    }
+    for (line, other) in found.lines().zip(wanted.lines()) {
+        if line != other {
+            return Some(line);
+        }
+    }
+    Some("another number of lines")
+}
+
+/// Fails, with that line and the case, where these texts differ.
+pub(crate) fn agree(alloc: Global, found: &str, wanted: &str, case: &str) -> Result<(), Fail> {
+    match other_line(found, wanted) {
+        Some(line) => Err(Fail::new(format!(in alloc; "{line} | {case}")?)),
+        None => Ok(()),
+    }
+}
+
+/// The same of what a run tells. Where a mark is wanted first, what is told after the first mark of
+/// a run with status 0 has to be the rest.
+fn agree_from(alloc: Global, told: &str, wanted: &str, case: &str) -> Result<(), Fail> {
+    match wanted.strip_prefix("mark\n") {
+        Some(rest) => agree(alloc, after_mark(told).unwrap_or("no mark"), rest, case),
+        None => agree(alloc, told, wanted, case),
+    }
+}
+
+/// Fails where a run, in whose texts a case's parts have their places, tells another text.
+fn run_tells(
+    alloc: Global,
+    folder: &mut MemoryFolder,
+    calls: &str,
+    run: &Run<'_>,
+    case: &str,
 ) -> Result<(), Fail> {
-    agree(told(alloc, folder, line)?.as_str(), wanted)
+    let line = filled(alloc, run.0, " | ", case)?;
+    let lines = filled(alloc, run.1, " | ", case)?;
+    let wanted = filled(alloc, run.2, " | ", case)?;
+    let told = told(alloc, folder, line.as_str(), lines.as_str(), calls)?;
+    agree_from(alloc, told.as_str(), wanted.as_str(), case)
+}
+
+/// The same of runs, one after the other.
+pub(crate) fn runs_tell(
+    alloc: Global,
+    folder: &mut MemoryFolder,
+    calls: &str,
+    runs: &[Run<'_>],
+    case: &str,
+) -> Result<(), Fail> {
+    for run in runs {
+        run_tells(alloc, folder, calls, run, case)?;
+    }
+    Ok(())
+}
+
+/// The same on a folder of files, where calls fail. Their numbers may be parts of the case too.
+pub(crate) fn case_tells(
+    alloc: Global,
+    files: &[File<'_>],
+    calls: &str,
+    runs: &[Run<'_>],
+    case: &str,
+) -> Result<(), Fail> {
+    let calls = filled(alloc, calls, " | ", case)?;
+    let mut folder = folder_of(alloc, files, calls.as_str(), case)?;
+    runs_tell(alloc, &mut folder, calls.as_str(), runs, case)
+}
+
+/// The same of each line of a table, which is a case.
+pub(crate) fn cases_tell(
+    alloc: Global,
+    files: &[File<'_>],
+    calls: &str,
+    runs: &[Run<'_>],
+    cases: &str,
+) -> Result<(), Fail> {
+    for case in cases.split('\n') {
+        case_tells(alloc, files, calls, runs, case)?;
+    }
+    Ok(())
 }

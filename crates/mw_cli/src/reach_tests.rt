@@ -1,11 +1,10 @@
-use crate::harness::{NEVER, add_file, bytes_of, faults, outcome_of, tells, words_of};
-use mw_base::{Bytes, List, Text};
-use mw_edges::MemoryFolder;
+use crate::harness::{File, Run, case_tells, cases_tell};
 use std::alloc::Global;
 use std::test::Fail;
 
 /// One player, Ann, whose world is `w.json`.
-const ANN: &str = r#"{"format":"mw-players-1","players":[{"names":["Ann"],"world":"w.json"}]}"#;
+pub(crate) const ANN: &str =
+    r#"{"format":"mw-players-1","players":[{"names":["Ann"],"world":"w.json"}]}"#;
 
 /// Two players whose worlds are one file.
 const BOTH: &str =
@@ -20,7 +19,7 @@ const SHIELD: &str =
     r#"{"format":"mw-players-1","players":[{"names":["Ann"],"world":"w.json","options":{"local_items":["Sword","Shield"]}}]}"#;
 
 /// First is free, Second wants the Sword.
-const ONE_SWORD: &str =
+pub(crate) const ONE_SWORD: &str =
     r#"{"format":"mw-world-1","game":"G","regions":["Menu"],"items":[{"name":"Sword","id":1,"class":"progression"},{"name":"Coin","id":2,"class":"filler"}],"entrances":[],"locations":[{"name":"First","id":1,"region":"Menu","rule":true},{"name":"Second","id":2,"region":"Menu","rule":{"has":"Sword"}}],"pool":[{"item":"Sword","count":1}],"filler":"Coin","goal":{"has":"Sword"}}"#;
 
 /// Second wants what is no progression item.
@@ -39,25 +38,19 @@ const LATE: &str =
 const EVENT: &str =
     r#"{"format":"mw-world-1","game":"G","regions":["Menu"],"items":[{"name":"Sword","id":1,"class":"progression"},{"name":"Won","id":null,"class":"progression"},{"name":"Coin","id":2,"class":"filler"}],"entrances":[],"locations":[{"name":"First","id":1,"region":"Menu","rule":{"has":"Won"}},{"name":"Fight","id":null,"region":"Menu","rule":{"has":"Sword"},"event":"Won"}],"pool":[{"item":"Sword","count":1}],"filler":"Coin","goal":{"has":"Won"}}"#;
 
-/// A folder with the players file `p.json` and the worlds `w.json` and `v.json`, whose call of this number fails.
-fn folder_of(
-    alloc: Global,
-    players: &str,
-    world: Bytes,
-    failing: u64,
-) -> Result<MemoryFolder, Fail> {
-    let mut files = List::new(alloc);
-    add_file(alloc, &mut files, "p.json", players.as_bytes())?;
-    files.push((Text::of(alloc, "w.json")?, world))?;
-    add_file(alloc, &mut files, "v.json", ONE_SWORD.as_bytes())?;
-    Ok(MemoryFolder::new(files, faults(alloc, failing)?))
-}
-
 /// Fails where `reach p.json` of this players file and the world `w.json` tells another text.
-fn reach_tells(alloc: Global, players: &str, world: &str, wanted: &str) -> Result<(), Fail> {
-    let world = bytes_of(alloc, world.as_bytes())?;
-    let mut folder = folder_of(alloc, players, world, NEVER)?;
-    tells(alloc, &mut folder, "reach p.json", wanted)
+fn reach_tells<'a>(
+    alloc: Global,
+    players: &'a str,
+    world: &'a str,
+    wanted: &str,
+) -> Result<(), Fail> {
+    let files = [
+        ("p.json", players),
+        ("w.json", world),
+        ("v.json", ONE_SWORD),
+    ];
+    case_tells(alloc, &files, "", &[("reach p.json", "", wanted)], wanted)
 }
 
 /// The players file, the world file, and what is told.
@@ -91,43 +84,38 @@ const REACHED: [(&str, &str, &str); 9] = [
 
 #[test]
 fn what_reach_says(rt: HostRuntime) -> Result<(), Fail> {
-    for (players, world, wanted) in REACHED {
+    for (players, world, wanted) in &REACHED {
         reach_tells(rt.alloc(), players, world, wanted)?;
     }
     Ok(())
 }
 
-/// Whether `reach p.json` ends with 5 and this error line where these calls of the folder and of
-/// the two sinks fail.
-fn fails_so(alloc: Global, failing: [u64; 3], error: &str) -> Result<bool, Fail> {
-    let world = bytes_of(alloc, ONE_SWORD.as_bytes())?;
-    let mut folder = folder_of(alloc, ANN, world, failing[0])?;
-    let words = words_of(alloc, "reach p.json")?;
-    let others = [NEVER, failing[1], failing[2]];
-    let outcome = outcome_of(alloc, &words, &mut folder, b"", others)?;
-    Ok(outcome.status == 5 && outcome.err.bytes() == error.as_bytes())
-}
-
-/// The calls that fail, and the error line.
-const FAULTS: [([u64; 3], &str); 4] = [
-    ([0, NEVER, NEVER], "device failed\n"),
-    ([1, NEVER, NEVER], "device failed\n"),
-    ([NEVER, 0, NEVER], "device failed\n"),
-    ([NEVER, 0, 0], ""),
+const FILES: [File<'static>; 3] = [
+    ("p.json", ANN),
+    ("w.json", ONE_SWORD),
+    ("v.json", ONE_SWORD),
 ];
+
+const FAILED: [Run<'static>; 1] = [("reach p.json", "", "5 device failed\n")];
+
+/// What is told where the error sink fails too.
+const FAILED_UNTOLD: [Run<'static>; 1] = [("reach p.json", "", "5 ")];
 
 #[test]
 fn reach_tells_of_faults(rt: HostRuntime) -> Result<(), Fail> {
-    for (failing, error) in FAULTS {
-        assert!(rt; fails_so(rt.alloc(), failing, error)?);
-    }
-    Ok(())
+    cases_tell(
+        rt.alloc(),
+        &FILES,
+        "$0",
+        &FAILED,
+        "0 - - -\n1 - - -\n- - 0 -",
+    )?;
+    case_tells(rt.alloc(), &FILES, "- - 0 0", &FAILED_UNTOLD, "")
 }
 
 #[test]
 fn a_world_file_over_its_limit(rt: HostRuntime) -> Result<(), Fail> {
-    let world = Bytes::from_vec(vec![in rt.alloc(); b' '; 16_777_217]?);
-    let mut folder = folder_of(rt.alloc(), ANN, world, NEVER)?;
+    let world = " ".repeat(rt.alloc(), 16_777_217)?;
     let wanted = "3 refused: w.json TooLong /\n";
-    tells(rt.alloc(), &mut folder, "reach p.json", wanted)
+    reach_tells(rt.alloc(), ANN, world.as_str(), wanted)
 }

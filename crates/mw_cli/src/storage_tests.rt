@@ -1,15 +1,16 @@
-use crate::session_harness::{add_parts, marks};
+use crate::session_harness::marks;
 use crate::tests::ROOM_A;
 use std::alloc::Global;
 use std::test::Fail;
 
+/// Ann connects, sends a message, and takes.
+const SENDS: &str = "open\nconnect 1 Ann 7\ntake 1\nmark\ntext 1 $0\ntake 1\n";
+
 /// Fails where another text is printed once Ann, with session 1, sends the messages that these
 /// lines are, one after another, and takes after each.
 fn are_answered(alloc: Global, messages: &str, wanted: &str) -> Result<(), Fail> {
-    let mut lines = String::from_str(alloc, "open\nconnect 1 Ann 7\ntake 1\nmark\n")?;
-    for message in messages.lines() {
-        add_parts(&mut lines, &["text 1 ", message, "\ntake 1\n"])?;
-    }
+    let sent = messages.replace(alloc, "\n", "\ntake 1\ntext 1 ")?;
+    let lines = SENDS.replace(alloc, "$0", sent.as_str())?;
     marks(alloc, ROOM_A, lines.as_str(), wanted)
 }
 
@@ -100,17 +101,20 @@ fn hints_and_statuses_are_read(rt: HostRuntime) -> Result<(), Fail> {
     are_answered(rt.alloc(), messages, expected)
 }
 
-/// Ann's Connect with the tag of a death link.
-const DEATH_LINK: &str =
-    r#"text 1 [{"cmd":"Connect","game":"G","items_handling":7,"name":"Ann","password":null,"slot_data":true,"tags":["NoText","DeathLink"],"uuid":"u1","version":{"build":0,"class":"Version","major":0,"minor":6}}]
-"#;
+/// Ann connects with a death link, and Bob without.
+const LINKED: &str = r#"open
+open
+connect 2 Bob 7
+text 1 [{"cmd":"Connect","game":"G","items_handling":7,"name":"Ann","password":null,"slot_data":true,"tags":["NoText","DeathLink"],"uuid":"u1","version":{"build":0,"class":"Version","major":0,"minor":6}}]
+take 1
+take 2
+mark
+$0"#;
 
-/// Fails where another text is printed after Ann has connected with a death link, and Bob without.
+/// Fails where another text is printed after that.
 fn are_linked(alloc: Global, lines: &str, wanted: &str) -> Result<(), Fail> {
-    let before = "open\nopen\nconnect 2 Bob 7\n";
-    let taken = "take 1\ntake 2\nmark\n";
-    let script = format!(in alloc; "{before}{DEATH_LINK}{taken}{lines}")?;
-    marks(alloc, ROOM_A, script.as_str(), wanted)
+    let lines = LINKED.replace(alloc, "$0", lines)?;
+    marks(alloc, ROOM_A, lines.as_str(), wanted)
 }
 
 #[test]
