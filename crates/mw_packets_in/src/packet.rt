@@ -7,7 +7,6 @@ use mw_base::{List, Text};
 use mw_json::SetPacket;
 
 /// What a client asks for, after Archipelago's network protocol. Numbers are from -2^63 to 2^64 - 1.
-#[derive(Drop)]
 pub enum Packet {
     /// The session wants to play a slot.
     Connect(Connect),
@@ -47,4 +46,25 @@ pub enum Packet {
         /// Their keys.
         keys: List<Text>,
     },
+}
+
+/// By hand, so that whoever lets it go calls this, and what it frees is listed once.
+impl Drop for Packet {
+    fn drop(self) {
+        match self {
+            Packet::Connect(_) => {}
+            Packet::ConnectUpdate(_) => {}
+            Packet::Sync => {}
+            Packet::LocationChecks { locations: _ } => {}
+            Packet::LocationScouts(_) => {}
+            Packet::UpdateHint(_) => {}
+            Packet::StatusUpdate(_) => {}
+            Packet::Say { text: _ } => {}
+            Packet::GetDataPackage { games: _ } => {}
+            Packet::Bounce(_) => {}
+            Packet::Get(_) => {}
+            Packet::Change(_) => {}
+            Packet::SetNotify { keys: _ } => {}
+        }
+    }
 }

@@ -138,8 +138,8 @@ fn a_bad_member_is_named(rt: HostRuntime) -> Result<(), Fail> {
 /// Whether these are a packet with bad locations, and a Sync.
 fn are_bad_and_sync(found: &List<Inbound>) -> bool {
     match found.as_slice() {
-        [Inbound::Wrong(bad), Inbound::Good(Packet::Sync)] => {
-            bad.why.as_str() == "arguments: locations"
+        [Inbound::Wrong(bad), Inbound::Good(packet)] => {
+            bad.why.as_str() == "arguments: locations" && matches!(packet, Packet::Sync)
         }
         _ => false,
     }
