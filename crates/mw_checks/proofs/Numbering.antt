@@ -4,7 +4,7 @@ use Rattle.std.specs.Prelude.{slice_get}
 use Rattle.std.specs.Option.{is_some, IfSome}
 use Rattle.std.specs.Ordering.{int_eq}
 use Rattle.std.proofs.lemmas.Bool.Decides.{Decides-and, Decides-eqb, Decides-int_eq}
-use Rattle.mw_model.specs.Seed.{Seed, Held, slot_of, held_among, held_at}
+use Rattle.mw_model.specs.Seed.{Seed, Held, held_among, held_at}
 use Rattle.mw_checks.specs.Numbers.{number_among, number_of, AllIds}
 
 -- what has this number

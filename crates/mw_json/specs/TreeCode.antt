@@ -1,7 +1,7 @@
 -- For proofs alone. How plain JSON is told apart: each value is what some `Tree` stands for.
 use Rattle.std.specs.Coded.{Coded, code_by}
 use mathlib.Core.Path.{◌≡◌, refl, ap, sym, ◌∙◌}
-use Rattle.std.specs.Prelude.{ℕ, ℤ, Bool, List, [], ◌∷◌}
+use Rattle.std.specs.Prelude.{ℕ, List, [], ◌∷◌}
 use Rattle.mw_model.specs.Json.{Json, null, flag, whole, not_whole, words, many, members, Items, no_items, item, Members, no_members, member}
 use Rattle.mw_json.specs.View.{view, member_view, items_view, members_view, tree_step, member_step}
 use Rattle.mw_json.specs.contracts.tree.Tree as row

@@ -1,5 +1,5 @@
 -- Where two ascending lists of entries first differ.
-use Rattle.std.proofs.Common.{◌≡◌, ◌≢◌, ◌==◌, ◌&&◌, ℕ, ℤ, zero, suc, List, [], ◌∷◌, Bool, true, false, Option, Some, None, int_eq, is_lt, length, get_or, inl, inr, ◌<◌, ◌+◌, Ordering, Less, Equal, Greater, pos, refl, sym, ap, subst, ◌∙◌, arith, All}
+use Rattle.std.proofs.Common.{◌≡◌, ◌≢◌, ◌==◌, ◌&&◌, ℕ, ℤ, zero, suc, List, [], ◌∷◌, Bool, true, false, Option, Some, None, int_eq, is_lt, length, get_or, inl, inr, ◌<◌, ◌+◌, Ordering, Less, Equal, Greater, refl, sym, ap, subst, ◌∙◌, arith, All}
 use Rattle.std.specs.Prelude.{if◌then◌else◌, Contains}
 use Rattle.std.specs.Ordering.{ordering_reverse, ordering_index}
 use Rattle.std.specs.List.{HoldsAt}

@@ -1,6 +1,6 @@
 -- What the entries of a seed file put is a placement of the joint.
 use Rattle.std.proofs.Common.{◌≡◌, ◌≤◌, ◌<◌, ◌+◌, ◌==◌, ℕ, ℤ, zero, suc, List, [], ◌∷◌, ◌++◌, Bool, true, false, cond, Option, Some, None, map, option_map, option_and_then, refl, sym, ap, ap₂, subst, ◌∙◌, arith, All, slice_get}
-use Rattle.std.specs.Prelude.{Contains, Result, Ok, Err, IfOk, is_some, if◌then◌else◌}
+use Rattle.std.specs.Prelude.{Contains, is_some, if◌then◌else◌}
 use Rattle.std.specs.List.Sorted.{IsStrictlyIncreasing}
 use Rattle.std.proofs.lemmas.Bool.Decides.{Decides-eqb}
 use Rattle.std.proofs.lemmas.List.{map-append}

@@ -4,7 +4,7 @@ use Rattle.std.specs.Prelude.{All, Contains, is_some}
 use Rattle.std.specs.List.{IsDistinct, AllByRecursion}
 use Rattle.std.proofs.lemmas.List.{map-append}
 use Rattle.std.proofs.lemmas.List.Elements.{All-nil, All-cons, All-head, All-tail, All-append, All-map}
-use Rattle.std.proofs.lemmas.List.Sorted.{All-permutation, Contains-permutation, IsPermutation-map}
+use Rattle.std.proofs.lemmas.List.Sorted.{All-permutation, Contains-permutation}
 use Rattle.mw_model.specs.Seed.{Held, held_among}
 use Rattle.mw_multi.specs.World.{Location}
 use Rattle.mw_multi.specs.WorldKept.{location_id}

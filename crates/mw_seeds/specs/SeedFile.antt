@@ -1,6 +1,5 @@
 -- The seed of a joint, a seed's number, a placement and a sphere list.
-use Rattle.std.specs.Prelude.{◌≡◌, ◌++◌, ◌||◌, Bool, false, bytes_eq, ℕ, ℤ, List, [], ◌∷◌, Option, Some, None, All, Contains, decimal, flat_map, map, replicate, slice_get}
-use Rattle.std.specs.Bool.{MatchBool}
+use Rattle.std.specs.Prelude.{◌≡◌, ℕ, ℤ, List, [], ◌∷◌, Option, Some, None, All, Contains, decimal, flat_map, map, replicate, slice_get}
 use Rattle.std.specs.Ordering.{nat_cmp, int_cmp, ordering_then}
 use Rattle.std.specs.declared.cmp.Ordering.{Ordering}
 use Rattle.std.specs.Cmp.Lexicographic.{slice_cmp}
@@ -8,7 +7,6 @@ use Rattle.std.specs.List.Sorted.{IsPermutation}
 use Rattle.mw_model.specs.Seed.{Seed, Slot, StartItem, Game, NamedId, Held, Spot}
 use Rattle.mw_multi.specs.World.{World, Item, Location, PoolEntry}
 use Rattle.mw_multi.specs.Joint as joined
-use Rattle.mw_multi.specs.Names.{NamesDiffer}
 use Rattle.mw_multi.specs.Steps.{location_place}
 use Rattle.mw_multi.specs.Placement.{Put, item_at, what_stands}
 use Rattle.mw_multi.specs.declared.item.Class.{Class}

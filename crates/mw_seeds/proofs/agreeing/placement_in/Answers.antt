@@ -2,8 +2,7 @@ use Rattle.std.proofs.Common.{◌≡◌, ◌∙◌, None, Some, map, ap, rules, 
 use Rattle.mw_model.specs.Seed.{Seed}
 use Rattle.mw_multi.specs.Joint.{Joint, IsJoint}
 use Rattle.mw_multi.specs.Numbered.{each_numbered}
-use Rattle.mw_multidata.specs.Ascending.{Ascend}
-use Rattle.mw_multidata.specs.SeedKept.{IsSeed, held_cmp}
+use Rattle.mw_multidata.specs.SeedKept.{IsSeed}
 use Rattle.mw_seeds.specs.Agreeing.{slot_items, IsFirstDifference}
 use Rattle.mw_seeds.specs.FilePuts.{slot_puts}
 use Rattle.mw_seeds.specs.Judging.{IsPlacementIn}

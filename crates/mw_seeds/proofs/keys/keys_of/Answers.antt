@@ -1,4 +1,4 @@
-use Rattle.std.proofs.Common.{is_lt, rules, ap, sym, subst, ◌∙◌}
+use Rattle.std.proofs.Common.{is_lt, rules, sym, subst}
 use Rattle.std.proofs.lemmas.List.Sorted.{answers_always, ranks_by}
 use Rattle.mw_multi.specs.Joint.{IsJoint}
 use Rattle.mw_multidata.specs.SeedKept.{held_cmp}
