@@ -6,9 +6,9 @@ ghost use Rattle.mw_json.specs.View.{view, members_view};
 ghost use Rattle.mw_packets_out.specs.View.{packet_view};
 ghost use Rattle.mw_chat.specs.Kept.{AreSound, CanPrint};
 
-use crate::parts::part_text;
+use crate::parts::{Piece, print_parts};
 use mw_base::{List, Memory, SlotId, TeamId, Text};
-use mw_json::{Member, Tree, put, put_number, put_words};
+use mw_json::{Field, Member, Tree, members};
 use mw_packets_out::{PrintJson, ServerPacket, texts_tree};
 use std::alloc::Global;
 
@@ -51,13 +51,11 @@ pub(crate) fn of_text(
       content = map part_json (one_text (string_bytes text));
     })) }
 {
-    let mut content = List::new(alloc);
-    content.push(part_text(alloc, &Text::from_string(text))?)?;
+    let content = print_parts(alloc, &[Piece::Text(text.as_str())])?;
     of_parts(alloc, kind, further, content)
 }
 
 /// The members that tell a player.
-#[tactic(auto, using(crate::proofs::Kept::player_prints))]
 pub(crate) fn player_members(
     alloc: Global,
     team: TeamId,
@@ -66,14 +64,17 @@ pub(crate) fn player_members(
     ensures value { IfOk result (λ ms. members_view ms ≡ of_player team slot) }
     ensures prints { IfOk result (λ ms. (kind : List ℕ) → CanPrint kind (members_view ms)) }
 {
-    let mut parts = List::new(alloc);
-    put_number(alloc, &mut parts, "slot", u64::from(slot.get()))?;
-    put_number(alloc, &mut parts, "team", u64::from(team.get()))?;
-    Ok(parts)
+    let further = members(
+        alloc,
+        &mut [
+            ("slot", Field::Number(u64::from(slot.get()))),
+            ("team", Field::Number(u64::from(team.get()))),
+        ],
+    )?;
+    Ok(further)
 }
 
 /// The members that tell a player and its tags.
-#[tactic(auto, using(crate::proofs::Kept::tagged_prints))]
 pub(crate) fn tagged_members(
     alloc: Global,
     team: TeamId,
@@ -83,16 +84,18 @@ pub(crate) fn tagged_members(
     ensures value { IfOk result (λ ms. members_view ms ≡ of_tagged team slot tags.now) }
     ensures prints { IfOk result (λ ms. (kind : List ℕ) → CanPrint kind (members_view ms)) }
 {
-    let tags = texts_tree(alloc, tags)?;
-    let mut parts = List::new(alloc);
-    put_number(alloc, &mut parts, "slot", u64::from(slot.get()))?;
-    put(alloc, &mut parts, "tags", tags)?;
-    put_number(alloc, &mut parts, "team", u64::from(team.get()))?;
-    Ok(parts)
+    let further = members(
+        alloc,
+        &mut [
+            ("slot", Field::Number(u64::from(slot.get()))),
+            ("tags", Field::Built(texts_tree(alloc, tags))),
+            ("team", Field::Number(u64::from(team.get()))),
+        ],
+    )?;
+    Ok(further)
 }
 
 /// The members that tell a player and what it says.
-#[tactic(auto, using(crate::proofs::Kept::message_prints))]
 pub(crate) fn message_members(
     alloc: Global,
     team: TeamId,
@@ -103,9 +106,13 @@ pub(crate) fn message_members(
         ≡ member (codes "message") (words message.now) (of_player team slot)) }
     ensures prints { IfOk result (λ ms. (kind : List ℕ) → CanPrint kind (members_view ms)) }
 {
-    let mut parts = List::new(alloc);
-    put_words(alloc, &mut parts, "message", message)?;
-    put_number(alloc, &mut parts, "slot", u64::from(slot.get()))?;
-    put_number(alloc, &mut parts, "team", u64::from(team.get()))?;
-    Ok(parts)
+    let further = members(
+        alloc,
+        &mut [
+            ("message", Field::Words(message)),
+            ("slot", Field::Number(u64::from(slot.get()))),
+            ("team", Field::Number(u64::from(team.get()))),
+        ],
+    )?;
+    Ok(further)
 }

@@ -8,8 +8,8 @@ ghost use Rattle.mw_datapack.specs.Played.{game_played};
 
 use crate::names::checksum_of_game;
 use crate::played::played;
-use mw_base::{List, Memory, Text};
-use mw_json::{Tree, object_tree, put, put_words};
+use mw_base::{Memory, Text};
+use mw_json::{Field, Tree, object};
 use mw_multidata::{Game, RoomTables, ids_tree};
 use std::alloc::Global;
 
@@ -19,13 +19,20 @@ pub(crate) fn data_tree(alloc: Global, game: &Game) -> Result<Tree, Memory>
     ensures writable { IfOk result (λ t. IsWritable (view t)) }
 {
     let checksum = checksum_of_game(alloc, game)?;
-    let items = ids_tree(alloc, game.item_name_to_id.as_slice())?;
-    let locations = ids_tree(alloc, game.location_name_to_id.as_slice())?;
-    let mut parts = List::new(alloc);
-    put_words(alloc, &mut parts, "checksum", checksum.as_str())?;
-    put(alloc, &mut parts, "item_name_to_id", items)?;
-    put(alloc, &mut parts, "location_name_to_id", locations)?;
-    Ok(object_tree(parts))
+    object(
+        alloc,
+        &mut [
+            ("checksum", Field::Words(checksum.as_str())),
+            (
+                "item_name_to_id",
+                Field::Built(ids_tree(alloc, game.item_name_to_id.as_slice())),
+            ),
+            (
+                "location_name_to_id",
+                Field::Built(ids_tree(alloc, game.location_name_to_id.as_slice())),
+            ),
+        ],
+    )
 }
 
 /// A game's entry in the data package: its names with their ids, and their checksum. None exactly

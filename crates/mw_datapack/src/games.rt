@@ -8,7 +8,7 @@ use crate::game::data_tree;
 use crate::played::is_played;
 use crate::wanted::Wanted;
 use mw_base::{List, Memory, Text};
-use mw_json::{Member, Tree, object_tree, put};
+use mw_json::{Field, Member, Tree, object, object_tree, put};
 use mw_multidata::{Game, Multidata, RoomTables, Slot};
 use std::alloc::Global;
 
@@ -33,7 +33,6 @@ fn games_in(
 }
 
 /// The data package of a seed, as an object.
-#[tactic(auto, using(crate::proofs::Packaged::same_members))]
 fn package_tree(
     alloc: Global,
     seed: &Multidata,
@@ -43,9 +42,10 @@ fn package_tree(
 {
     let wanted = Wanted::of(alloc, wanted)?;
     let games = games_in(alloc, seed.slots.as_slice(), &wanted, seed.games.as_slice())?;
-    let mut parts = List::new(alloc);
-    put(alloc, &mut parts, "games", object_tree(games))?;
-    Ok(object_tree(parts))
+    object(
+        alloc,
+        &mut [("games", Field::Built(Ok(object_tree(games))))],
+    )
 }
 
 /// The data package: the games of these names that a slot plays, or all that a slot plays, in byte

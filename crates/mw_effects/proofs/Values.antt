@@ -9,18 +9,13 @@ use Rattle.std.proofs.lemmas.Fmt.{digits_value-decimal, parse-decimal}
 use Rattle.std.proofs.lemmas.Str.Parse.{IsNumeralModel, numerals_by_value, tells_digits}
 use Rattle.std.proofs.lemmas.Slice.Eq.{bytes_eq-Decides}
 use Rattle.std.proofs.lemmas.List.{take_at, take-append-drop}
-use Rattle.mw_model.specs.Json.{Json, item, many, IsWritable, IsOrdered, ItemsAreOrdered}
+use Rattle.mw_model.specs.Json.{Json, many, IsWritable, IsOrdered, ItemsAreOrdered}
 use Rattle.mw_model.specs.Trees.{items_of}
 use Rattle.mw_protocol.specs.Hints.{ToldHint}
 use Rattle.mw_protocol.specs.Reading.{hint_json, numbered}
-use Rattle.mw_json.specs.View as seen
 use Rattle.mw_packets_out.specs.Kept.{IsSound}
 
 -- ---- hints
-
-pub same_items : (js : List Json) → seen.items_of js ≡ items_of js
-same_items [] = refl
-same_items (j ∷ js) = ap (item j) (same_items js)
 
 hint_ordered : (h : ToldHint) → IsOrdered (hint_json h)
 hint_ordered h =

@@ -15,10 +15,7 @@ use crate::player::Player;
 use crate::standing::Standing;
 use mw_base::{List, Memory, SlotId, TeamId, Text};
 use mw_hints::Hint;
-use mw_json::{
-    Member as Field, Tree, copy, copy_members, find, id_tree, number_tree, push_tree, put,
-    put_number, put_words,
-};
+use mw_json::{Field, Member, Tree, copy, copy_members, find, number_tree, object, push_tree};
 use mw_multidata::Multidata;
 use mw_packets_in::Get;
 use mw_packets_out::{Retrieved, ServerPacket};
@@ -81,31 +78,29 @@ fn hint_tree(alloc: Global, hint: &Hint) -> Result<Tree, Memory>
     ensures value { IfOk result (λ t. view t ≡ hint_json hint.now) }
     ensures writable { IfOk result (λ t. IsWritable (view t)) }
 {
-    let mut parts = List::new(alloc);
-    put_words(alloc, &mut parts, "class", "Hint")?;
-    put_words(alloc, &mut parts, "entrance", "")?;
-    put_number(
+    object(
         alloc,
-        &mut parts,
-        "finding_player",
-        u64::from(hint.finding_player.get()),
-    )?;
-    put(alloc, &mut parts, "found", Tree::Flag(hint.found))?;
-    put(alloc, &mut parts, "item", id_tree(hint.item.get()))?;
-    put_number(alloc, &mut parts, "item_flags", u64::from(hint.item_flags))?;
-    put(alloc, &mut parts, "location", id_tree(hint.location.get()))?;
-    put_number(
-        alloc,
-        &mut parts,
-        "receiving_player",
-        u64::from(hint.receiving_player),
-    )?;
-    put_number(alloc, &mut parts, "status", u64::from(hint.status))?;
-    Ok(Tree::Members(parts))
+        &mut [
+            ("class", Field::Words("Hint")),
+            ("entrance", Field::Words("")),
+            (
+                "finding_player",
+                Field::Number(u64::from(hint.finding_player.get())),
+            ),
+            ("found", Field::Flag(hint.found)),
+            ("item", Field::Id(hint.item.get())),
+            ("item_flags", Field::Number(u64::from(hint.item_flags))),
+            ("location", Field::Id(hint.location.get())),
+            (
+                "receiving_player",
+                Field::Number(u64::from(hint.receiving_player)),
+            ),
+            ("status", Field::Number(u64::from(hint.status))),
+        ],
+    )
 }
 
 /// Hints as a list.
-#[tactic(auto, using(crate::proofs::Values::same_items))]
 fn hints_tree(alloc: Global, hints: &[Hint]) -> Result<Tree, Memory>
     ensures value { IfOk result (λ t. view t ≡ many (items_of (map hint_json hints.now))) }
     ensures writable { IfOk result (λ t. IsWritable (view t)) }
@@ -197,9 +192,9 @@ fn read_value(alloc: Global, standing: &Standing, key: &Text) -> Result<Tree, Me
 fn with_value(
     alloc: Global,
     standing: &Standing,
-    values: List<Field>,
+    values: List<Member>,
     key: &Text,
-) -> Result<List<Field>, Memory>
+) -> Result<List<Member>, Memory>
     requires read { AreRead (read_value_lem standing.now.log.seed (standing_of standing.now))
         (members_view values) }
     requires sound { IsSound (members (members_view values)) }
@@ -220,7 +215,7 @@ fn with_value(
 }
 
 /// Each key with its value, in byte order.
-fn values_of(alloc: Global, standing: &Standing, keys: &[Text]) -> Result<List<Field>, Memory>
+fn values_of(alloc: Global, standing: &Standing, keys: &[Text]) -> Result<List<Member>, Memory>
     ensures value { IfOk result (λ ms. members_view ms ≡ with_values standing.now.log.seed
         (standing_of standing.now) no_members keys.now) }
     ensures sound { IfOk result (λ ms. IsSound (members (members_view ms))) }

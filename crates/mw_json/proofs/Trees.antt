@@ -4,7 +4,8 @@ use Rattle.serde_json.specs.View.{view as data_view, items_view as data_items, m
 use Rattle.serde_json.specs.declared.value.Value.{Value}
 use Rattle.mw_model.specs.Json.{Json, item, member, depth, items_depth, members_depth}
 use Rattle.mw_json.specs.Reading.{of_data, of_items, of_members}
-use Rattle.mw_json.specs.View.{view, member_view, items_of, members_of, items_view, members_view, tree_step, member_step}
+use Rattle.mw_model.specs.Trees.{items_of}
+use Rattle.mw_json.specs.View.{view, member_view, members_of, items_view, members_view, tree_step, member_step}
 use Rattle.mw_json.specs.Grammar.{items_length}
 use Rattle.mw_json.specs.declared.tree.Tree.{Tree}
 use Rattle.mw_json.specs.declared.tree.Member.{Member, roll-Member, fold-roll-Member}

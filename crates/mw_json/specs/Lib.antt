@@ -1,3 +1,4 @@
+pub mod Building
 pub mod Files
 pub mod Grammar
 pub mod Parts

@@ -1,13 +1,10 @@
 -- The meaning of a `Tree`.
 use Rattle.std.specs.Prelude.{ℕ, List, [], ◌∷◌, map}
-use Rattle.mw_model.specs.Json.{Json, null, flag, whole, not_whole, words, many, members, Items, no_items, item, Members, no_members, member}
+use Rattle.mw_model.specs.Json.{Json, null, flag, whole, not_whole, words, many, members, Items, Members, no_members, member}
+use Rattle.mw_model.specs.Trees.{items_of}
 use Rattle.mw_json.specs.declared.tree.Tree.{Tree, fold-Tree}
 use Rattle.mw_json.specs.declared.tree.Member.{Member, fold-Member}
 use Rattle.mw_json.specs.declared.tree.Tree.TheOpen.{Tree-F, Member-F}
-
-abbrev pub items_of : List Json → Items
-items_of [] = no_items
-items_of (j ∷ js) = item j (items_of js)
 
 abbrev pub members_of : List (List ℕ × Json) → Members
 members_of [] = no_members

@@ -1,10 +1,12 @@
 ghost use Rattle.std.specs.Prelude.{◌≡◌, ◌++◌, ◌∷◌, [], IfOk, OnOk, map, pos};
-ghost use Rattle.mw_model.specs.Json.{members, whole, words, IsInRange, IsWritable, ItemsAreWritable};
+ghost use Rattle.mw_model.specs.Json.{Json, Members, many, members as object_json, whole, words, IsWritable, ItemsAreWritable, MembersAreWritable};
 ghost use Rattle.mw_json.specs.View.{view, member_view, items_view, members_view};
+ghost use Rattle.mw_json.specs.Building.{FieldHolds, FieldsHold, FieldIsWritable, FieldsAreWritable};
 
 use crate::tree::{Member, Tree};
 use mw_base::{List, Memory, Text};
 use std::alloc::Global;
+use std::mem::replace;
 
 /// A number that isn't negative.
 pub fn number_tree(n: u64) -> Tree
@@ -45,33 +47,6 @@ pub fn put(alloc: Global, members: &mut List<Member>, name: &str, value: Tree) -
     members.push(named(name, value))
 }
 
-/// A number's member more, at the end.
-pub fn put_number(
-    alloc: Global,
-    members: &mut List<Member>,
-    name: &str,
-    value: u64,
-) -> Result<(), Memory>
-    ensures value { OnOk result (map member_view members.new
-        ≡ map member_view members.old ++ (name.now, whole (pos value)) ∷ []) }
-    ensures range { OnOk result (IsInRange (pos value)) }
-{
-    put(alloc, members, name, number_tree(value))
-}
-
-/// A text's member more, at the end.
-pub fn put_words(
-    alloc: Global,
-    members: &mut List<Member>,
-    name: &str,
-    value: &str,
-) -> Result<(), Memory>
-    ensures { OnOk result (map member_view members.new
-        ≡ map member_view members.old ++ (name.now, words value.now) ∷ []) }
-{
-    put(alloc, members, name, words_tree(alloc, value)?)
-}
-
 /// One element more, at the end.
 #[tactic(auto, using(crate::proofs::Writable::one_more))]
 pub fn push_tree(trees: &mut List<Tree>, tree: Tree) -> Result<(), Memory>
@@ -83,9 +58,72 @@ pub fn push_tree(trees: &mut List<Tree>, tree: Tree) -> Result<(), Memory>
     trees.push(tree)
 }
 
+/// The array of these elements.
+pub fn array_tree(elements: List<Tree>) -> Tree
+    ensures { view result ≡ many (items_view elements) }
+{
+    Tree::Many(elements)
+}
+
 /// The object of these members.
 pub fn object_tree(parts: List<Member>) -> Tree
-    ensures { view result ≡ members (members_view parts) }
+    ensures { view result ≡ object_json (members_view parts) }
 {
     Tree::Members(parts)
+}
+
+/// What a field of a new object holds.
+#[derive(Drop)]
+pub enum Field<'a> {
+    /// True or false.
+    Flag(bool),
+    /// An item's or a location's number.
+    Id(i64),
+    /// A number that isn't negative.
+    Number(u64),
+    /// A text.
+    Words(&'a str),
+    /// A value that was built, where memory was enough.
+    Built(Result<Tree, Memory>),
+}
+
+/// Makes a field's value, which takes one that was built out of it.
+fn field_tree(alloc: Global, field: &mut Field) -> Result<Tree, Memory>
+    ensures value { (j : Json) → FieldHolds field.old j → IfOk result (λ t. view t ≡ j) }
+    ensures writable { FieldIsWritable field.old → IfOk result (λ t. IsWritable (view t)) }
+{
+    match field {
+        Field::Flag(flag) => Ok(Tree::Flag(*flag)),
+        Field::Id(id) => Ok(id_tree(*id)),
+        Field::Number(number) => Ok(number_tree(*number)),
+        Field::Words(text) => words_tree(alloc, text),
+        Field::Built(made) => replace(made, Ok(Tree::Null)),
+    }
+}
+
+/// The members of a new object, by their names and what they hold; a value that was built is taken
+/// out of its field. `Memory` is its only error, and comes too where a field has none.
+pub fn members(alloc: Global, fields: &mut [(&str, Field)]) -> Result<List<Member>, Memory>
+    ensures value { (ms : Members) → FieldsHold (map (λ f. (f.0.now, f.1)) fields.old) ms
+        → IfOk result (λ r. members_view r ≡ ms) }
+    ensures writable { FieldsAreWritable (map (λ f. f.1) fields.old)
+        → IfOk result (λ r. MembersAreWritable (members_view r)) }
+{
+    let mut members = List::with_capacity(alloc, fields.len())?;
+    for (name, field) in fields.iter_mut() {
+        let value = field_tree(alloc, field)?;
+        put(alloc, &mut members, name, value)?;
+    }
+    Ok(members)
+}
+
+/// A new object, by its members' names and what they hold; a value that was built is taken out of
+/// its field. `Memory` is its only error, and comes too where a field has none.
+pub fn object(alloc: Global, fields: &mut [(&str, Field)]) -> Result<Tree, Memory>
+    ensures value { (ms : Members) → FieldsHold (map (λ f. (f.0.now, f.1)) fields.old) ms
+        → IfOk result (λ t. view t ≡ object_json ms) }
+    ensures writable { FieldsAreWritable (map (λ f. f.1) fields.old)
+        → IfOk result (λ t. IsWritable (view t)) }
+{
+    Ok(object_tree(members(alloc, fields)?))
 }

@@ -6,13 +6,13 @@ use Rattle.std.proofs.lemmas.Int.{ints}
 use Rattle.std.proofs.lemmas.List.Elements.{All-head, All-tail}
 use Rattle.mw_model.specs.Json.{Json, whole, words, many, members, Items, no_items, item, Members, no_members, find_member}
 use Rattle.mw_model.specs.Games.{game_json, ids_members}
-use Rattle.mw_model.specs.Trees.{text_json}
+use Rattle.mw_model.specs.Trees.{items_of, text_json}
 use Rattle.mw_model.specs.Seed.{Slot, StartItem, Game, NamedId, Held, RoomOptions, Spot}
 use Rattle.mw_json.specs.Grammar.{Breach, number_at, has_control, short_text, name_of, name_at, items_length, list_up_to, field_at}
 use Rattle.mw_json.specs.Parts.{id_at, item_at, list_of_length, element_at, not_empty}
 use Rattle.mw_json.specs.Readers.{each_from, list_of_at, each_member_at}
 use Rattle.mw_json.specs.Settings.{password_at, permission_at, remaining_at}
-use Rattle.mw_json.specs.View.{items_of, members_of}
+use Rattle.mw_json.specs.View.{members_of}
 use Rattle.mw_multidata.specs.Parts.{slot_number_at, flags_at}
 use Rattle.mw_multidata.specs.SeedKept.{IsName, IsId, is_class, is_remaining, is_permission, ServerKept, EntryKept, GameKept}
 use Rattle.mw_multidata.specs.Shape.{server_at, named_id_at, ids_at, game_at, games_at, names_at, start_item_at, slot_at, slots_at, held_at, spot_at, sphere_at, spheres_at}

@@ -2,9 +2,9 @@
 use Rattle.std.proofs.Common.{◌≤◌, ℕ, List, [], ◌∷◌, map, arith, refl}
 use Rattle.mw_model.specs.Json.{Json, Members, no_members, member, depth, items_depth, members_depth, IsOrdered, ItemsAreOrdered}
 use Rattle.mw_model.specs.Games.{game_json, ids_members}
-use Rattle.mw_model.specs.Trees.{text_json}
+use Rattle.mw_model.specs.Trees.{items_of, text_json}
 use Rattle.mw_model.specs.Seed.{Seed, Slot, Game, NamedId, Held, Spot}
-use Rattle.mw_json.specs.View.{items_of, members_of}
+use Rattle.mw_json.specs.View.{members_of}
 use Rattle.mw_multidata.specs.Written.{game_member, games_json, server_json, start_json, slot_json, held_json, spot_json, sphere_json, seed_json}
 use Rattle.mw_multidata.proofs.Again.{members_in}
 

@@ -2,7 +2,8 @@
 use Rattle.std.proofs.Common.{◌≡◌, ◌<◌, ◌≤◌, ◌+◌, ℕ, List, [], ◌∷◌, ◌++◌, length, get_or, take, map, ap, sym, subst, ◌∙◌}
 use Rattle.std.proofs.lemmas.List.{map_more, take_all}
 use Rattle.mw_model.specs.Json.{Json, many, IsWritable, ItemsAreWritable}
-use Rattle.mw_json.specs.View.{view, items_of, items_view, tree_step, member_step}
+use Rattle.mw_model.specs.Trees.{items_of}
+use Rattle.mw_json.specs.View.{view, items_view, tree_step, member_step}
 use Rattle.mw_json.specs.declared.tree.Tree.{Tree, fold-roll-Tree}
 use Rattle.mw_json.specs.declared.tree.Tree.TheOpen.{Tree-F}
 use Rattle.mw_json.specs.declared.tree.Tree.TheVariants.{Many, rolls-Many}

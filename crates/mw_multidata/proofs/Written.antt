@@ -11,7 +11,8 @@ use Rattle.mw_model.specs.Seed.{Seed, Slot, Game, NamedId, Held, Spot, slot_of}
 use Rattle.mw_json.specs.Grammar.{number_at, field_at}
 use Rattle.mw_json.specs.Reading.{reading, max_depth}
 use Rattle.mw_json.specs.Readers.{list_of_at}
-use Rattle.mw_json.specs.View.{items_of, members_of}
+use Rattle.mw_model.specs.Trees.{items_of}
+use Rattle.mw_json.specs.View.{members_of}
 use Rattle.mw_json.proofs.Again.{reads_back}
 use Rattle.mw_multidata.specs.Ascending.{ComesBefore, NamesAscend}
 use Rattle.mw_multidata.specs.Names.{has_id, find_game, played_by, names_named}

@@ -2,10 +2,10 @@
 use Rattle.std.specs.Prelude.{ℕ, pos, ◌==◌, List, [], ◌∷◌, codes, map, if◌then◌else◌}
 use Rattle.mw_model.specs.Json.{Json, whole, words, many, members, no_members, member}
 use Rattle.mw_model.specs.Games.{game_json}
-use Rattle.mw_model.specs.Trees.{text_json}
+use Rattle.mw_model.specs.Trees.{items_of, text_json}
 use Rattle.mw_model.specs.Seed.{Seed, Slot, StartItem, Game, Held, RoomOptions, Spot}
 use Rattle.mw_model.specs.Spelling.{spelling}
-use Rattle.mw_json.specs.View.{items_of, members_of}
+use Rattle.mw_json.specs.View.{members_of}
 
 abbrev pub number_json : ℕ → Json
 number_json n = whole (pos n)

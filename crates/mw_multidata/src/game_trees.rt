@@ -5,7 +5,7 @@ ghost use Rattle.mw_json.specs.View.{view, member_view, members_view};
 
 use crate::seed::{Game, NamedId};
 use mw_base::{List, Memory};
-use mw_json::{Member, Tree, id_tree, object_tree, put};
+use mw_json::{Field, Member, Tree, id_tree, object, object_tree, put};
 use std::alloc::Global;
 
 /// An id under its name, after the others.
@@ -36,10 +36,17 @@ pub fn game_tree(alloc: Global, game: &Game) -> Result<Tree, Memory>
     ensures value { IfOk result (λ t. view t ≡ game_json game.now) }
     ensures writable { IfOk result (λ t. IsWritable (view t)) }
 {
-    let mut parts = List::new(alloc);
-    let items = ids_tree(alloc, game.item_name_to_id.as_slice())?;
-    put(alloc, &mut parts, "item_name_to_id", items)?;
-    let locations = ids_tree(alloc, game.location_name_to_id.as_slice())?;
-    put(alloc, &mut parts, "location_name_to_id", locations)?;
-    Ok(object_tree(parts))
+    object(
+        alloc,
+        &mut [
+            (
+                "item_name_to_id",
+                Field::Built(ids_tree(alloc, game.item_name_to_id.as_slice())),
+            ),
+            (
+                "location_name_to_id",
+                Field::Built(ids_tree(alloc, game.location_name_to_id.as_slice())),
+            ),
+        ],
+    )
 }

@@ -4,8 +4,8 @@ ghost use Rattle.mw_model.specs.Json.{IsWritable};
 ghost use Rattle.mw_json.specs.View.{view};
 ghost use Rattle.mw_multidata.specs.Written.{permission_word, server_json};
 
-use mw_base::{List, Memory, Permission, RoomOptions};
-use mw_json::{Tree, object_tree, put_number, put_words};
+use mw_base::{Memory, Permission, RoomOptions};
+use mw_json::{Field, Tree, object};
 use std::alloc::Global;
 
 /// A permission's word.
@@ -28,12 +28,15 @@ pub(crate) fn server_tree(alloc: Global, server: &RoomOptions) -> Result<Tree, M
 {
     let cost = u64::from(server.hint_cost);
     let points = u64::from(server.location_check_points);
-    let mut parts = List::new(alloc);
-    put_words(alloc, &mut parts, "collect", word_of(server.collect))?;
-    put_number(alloc, &mut parts, "hint_cost", cost)?;
-    put_number(alloc, &mut parts, "location_check_points", points)?;
-    put_words(alloc, &mut parts, "password", server.password.as_str())?;
-    put_words(alloc, &mut parts, "release", word_of(server.release))?;
-    put_words(alloc, &mut parts, "remaining", word_of(server.remaining))?;
-    Ok(object_tree(parts))
+    object(
+        alloc,
+        &mut [
+            ("collect", Field::Words(word_of(server.collect))),
+            ("hint_cost", Field::Number(cost)),
+            ("location_check_points", Field::Number(points)),
+            ("password", Field::Words(server.password.as_str())),
+            ("release", Field::Words(word_of(server.release))),
+            ("remaining", Field::Words(word_of(server.remaining))),
+        ],
+    )
 }

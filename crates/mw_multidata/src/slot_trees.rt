@@ -1,12 +1,12 @@
 ghost use Rattle.std.specs.Prelude.{◌≡◌, IfOk, map};
 ghost use Rattle.mw_model.specs.Json.{IsWritable, many};
-ghost use Rattle.mw_model.specs.Trees.{text_json};
-ghost use Rattle.mw_json.specs.View.{view, items_of};
+ghost use Rattle.mw_model.specs.Trees.{items_of, text_json};
+ghost use Rattle.mw_json.specs.View.{view};
 ghost use Rattle.mw_multidata.specs.Written.{slot_json, start_json};
 
 use crate::seed::{Slot, StartItem};
 use mw_base::{List, Memory, Text};
-use mw_json::{Tree, id_tree, number_tree, object_tree, push_tree, put, put_words, words_tree};
+use mw_json::{Field, Tree, id_tree, number_tree, object, push_tree, words_tree};
 use std::alloc::Global;
 
 /// Texts, as a list.
@@ -49,13 +49,20 @@ fn slot_tree(alloc: Global, slot: &Slot) -> Result<Tree, Memory>
     ensures value { IfOk result (λ t. view t ≡ slot_json slot.now) }
     ensures writable { IfOk result (λ t. IsWritable (view t)) }
 {
-    let mut parts = List::new(alloc);
-    put_words(alloc, &mut parts, "game", slot.game.as_str())?;
-    let names = texts_tree(alloc, slot.names.as_slice())?;
-    put(alloc, &mut parts, "names", names)?;
-    let start = start_tree(alloc, slot.start.as_slice())?;
-    put(alloc, &mut parts, "start", start)?;
-    Ok(object_tree(parts))
+    object(
+        alloc,
+        &mut [
+            ("game", Field::Words(slot.game.as_str())),
+            (
+                "names",
+                Field::Built(texts_tree(alloc, slot.names.as_slice())),
+            ),
+            (
+                "start",
+                Field::Built(start_tree(alloc, slot.start.as_slice())),
+            ),
+        ],
+    )
 }
 
 /// The slots, as a list.

@@ -1,6 +1,7 @@
 ghost use Rattle.std.specs.Prelude.{◌≡◌, IfOk, map};
 ghost use Rattle.mw_model.specs.Json.{IsWritable, many};
-ghost use Rattle.mw_json.specs.View.{view, items_of};
+ghost use Rattle.mw_model.specs.Trees.{items_of};
+ghost use Rattle.mw_json.specs.View.{view};
 ghost use Rattle.mw_multidata.specs.Written.{sphere_json, spot_json};
 
 use mw_base::{List, Memory, Spot};

@@ -13,7 +13,7 @@ use crate::server_tree::server_tree;
 use crate::slot_trees::slots_tree;
 use crate::sphere_trees::spheres_tree;
 use mw_base::{Bytes, List, Memory};
-use mw_json::{Member, Tree, compact, object_tree, put, put_number, put_words};
+use mw_json::{Field, Member, Tree, compact, object, object_tree, put};
 use std::alloc::Global;
 
 /// A game's names under its name, after the others.
@@ -45,21 +45,31 @@ fn seed_tree(alloc: Global, seed: &Multidata) -> Result<Tree, Memory>
     ensures value { IfOk result (λ t. view t ≡ seed_json seed.now) }
     ensures writable { IfOk result (λ t. IsWritable (view t)) }
 {
-    let mut parts = List::new(alloc);
-    put_words(alloc, &mut parts, "format", "mw-multidata-1")?;
-    let games = games_tree(alloc, seed.games.as_slice())?;
-    put(alloc, &mut parts, "games", games)?;
-    let locations = locations_tree(alloc, seed.locations.as_slice())?;
-    put(alloc, &mut parts, "locations", locations)?;
-    put_words(alloc, &mut parts, "seed_name", seed.seed_name.as_str())?;
-    let server = server_tree(alloc, &seed.server)?;
-    put(alloc, &mut parts, "server", server)?;
-    let slots = slots_tree(alloc, seed.slots.as_slice())?;
-    put(alloc, &mut parts, "slots", slots)?;
-    let spheres = spheres_tree(alloc, seed.spheres.as_slice())?;
-    put(alloc, &mut parts, "spheres", spheres)?;
-    put_number(alloc, &mut parts, "teams", u64::from(seed.teams))?;
-    Ok(object_tree(parts))
+    object(
+        alloc,
+        &mut [
+            ("format", Field::Words("mw-multidata-1")),
+            (
+                "games",
+                Field::Built(games_tree(alloc, seed.games.as_slice())),
+            ),
+            (
+                "locations",
+                Field::Built(locations_tree(alloc, seed.locations.as_slice())),
+            ),
+            ("seed_name", Field::Words(seed.seed_name.as_str())),
+            ("server", Field::Built(server_tree(alloc, &seed.server))),
+            (
+                "slots",
+                Field::Built(slots_tree(alloc, seed.slots.as_slice())),
+            ),
+            (
+                "spheres",
+                Field::Built(spheres_tree(alloc, seed.spheres.as_slice())),
+            ),
+            ("teams", Field::Number(u64::from(seed.teams))),
+        ],
+    )
 }
 
 /// The seed file of a seed: compact, the members of each object in ascending byte order of their names. Read again

@@ -1,14 +1,8 @@
 -- Trees that can be written, one after another.
 use Rattle.std.proofs.Common.{◌≡◌, ℕ, List, [], ◌∷◌, ◌++◌, map, refl, ap, append-nil}
-use Rattle.mw_model.specs.Json.{Json, words, item, member, MembersAreWritable}
-use Rattle.mw_model.specs.Trees.{items_of}
+use Rattle.mw_model.specs.Json.{Json, words, member, MembersAreWritable}
 use Rattle.mw_protocol.specs.Messages.{ServerPacket, GameSum, checksum_members, message_text}
-use Rattle.mw_json.specs.View as seen
 use Rattle.mw_json.specs.View.{members_of}
-
-pub same_items : (js : List Json) → seen.items_of js ≡ items_of js
-same_items [] = refl
-same_items (j ∷ js) = ap (item j) (same_items js)
 
 pub nothing_more : (ps : List ServerPacket) → message_text (ps ++ []) ≡ message_text ps
 nothing_more ps = ap message_text (append-nil ps)

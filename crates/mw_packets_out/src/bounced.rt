@@ -52,7 +52,6 @@ impl Model for Bounced {
 }
 
 /// Whole numbers as a list.
-#[tactic(auto, using(crate::proofs::Writable::same_items))]
 fn wholes_tree(alloc: Global, numbers: &[i128]) -> Result<Tree, Memory>
     requires { All IsInRange numbers.now }
     ensures value { IfOk result (λ t. view t ≡ ids_json numbers.now) }

@@ -8,7 +8,7 @@ use crate::lists::ids_tree;
 use crate::people::{Connected, NetworkPlayer};
 use crate::slot_info::slot_info_tree;
 use mw_base::{List, Memory};
-use mw_json::{Tree, push_tree, put, put_number, put_words};
+use mw_json::{Field, Tree, object, object_tree, push_tree};
 use std::alloc::Global;
 
 /// A player as an object.
@@ -16,17 +16,19 @@ fn player_tree(alloc: Global, player: &NetworkPlayer) -> Result<Tree, Memory>
     ensures value { IfOk result (λ t. view t ≡ player_json player.now) }
     ensures writable { IfOk result (λ t. IsWritable (view t)) }
 {
-    let mut parts = List::new(alloc);
-    put_words(alloc, &mut parts, "alias", player.name.as_str())?;
-    put_words(alloc, &mut parts, "class", "NetworkPlayer")?;
-    put_words(alloc, &mut parts, "name", player.name.as_str())?;
-    put_number(alloc, &mut parts, "slot", u64::from(player.slot.get()))?;
-    put_number(alloc, &mut parts, "team", u64::from(player.team.get()))?;
-    Ok(Tree::Members(parts))
+    object(
+        alloc,
+        &mut [
+            ("alias", Field::Words(player.name.as_str())),
+            ("class", Field::Words("NetworkPlayer")),
+            ("name", Field::Words(player.name.as_str())),
+            ("slot", Field::Number(u64::from(player.slot.get()))),
+            ("team", Field::Number(u64::from(player.team.get()))),
+        ],
+    )
 }
 
 /// The players as a list.
-#[tactic(auto, using(crate::proofs::Writable::same_items))]
 fn players_tree(alloc: Global, players: &[NetworkPlayer]) -> Result<Tree, Memory>
     ensures value { IfOk result (λ t. view t ≡ many (items_of (map player_json players.now))) }
     ensures writable { IfOk result (λ t. IsWritable (view t)) }
@@ -43,24 +45,30 @@ pub(crate) fn connected_tree(alloc: Global, it: &Connected) -> Result<Tree, Memo
     ensures value { IfOk result (λ t. view t ≡ connected_json it.now) }
     ensures writable { IfOk result (λ t. IsWritable (view t)) }
 {
-    let mut parts = List::new(alloc);
-    let checked = ids_tree(alloc, it.checked_locations.as_slice())?;
-    put(alloc, &mut parts, "checked_locations", checked)?;
-    put_words(alloc, &mut parts, "cmd", "Connected")?;
-    put_number(alloc, &mut parts, "hint_points", it.hint_points)?;
-    let missing = ids_tree(alloc, it.missing_locations.as_slice())?;
-    put(alloc, &mut parts, "missing_locations", missing)?;
-    let players = players_tree(alloc, it.players.as_slice())?;
-    put(alloc, &mut parts, "players", players)?;
-    put_number(alloc, &mut parts, "slot", u64::from(it.slot.get()))?;
-    put(
+    object(
         alloc,
-        &mut parts,
-        "slot_data",
-        Tree::Members(List::new(alloc)),
-    )?;
-    let slot_info = slot_info_tree(alloc, it.slot_info.as_slice())?;
-    put(alloc, &mut parts, "slot_info", slot_info)?;
-    put_number(alloc, &mut parts, "team", u64::from(it.team.get()))?;
-    Ok(Tree::Members(parts))
+        &mut [
+            (
+                "checked_locations",
+                Field::Built(ids_tree(alloc, it.checked_locations.as_slice())),
+            ),
+            ("cmd", Field::Words("Connected")),
+            ("hint_points", Field::Number(it.hint_points)),
+            (
+                "missing_locations",
+                Field::Built(ids_tree(alloc, it.missing_locations.as_slice())),
+            ),
+            (
+                "players",
+                Field::Built(players_tree(alloc, it.players.as_slice())),
+            ),
+            ("slot", Field::Number(u64::from(it.slot.get()))),
+            ("slot_data", Field::Built(Ok(object_tree(List::new(alloc))))),
+            (
+                "slot_info",
+                Field::Built(slot_info_tree(alloc, it.slot_info.as_slice())),
+            ),
+            ("team", Field::Number(u64::from(it.team.get()))),
+        ],
+    )
 }

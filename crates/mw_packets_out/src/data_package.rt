@@ -3,8 +3,8 @@ ghost use Rattle.mw_model.specs.Json.{IsWritable};
 ghost use Rattle.mw_protocol.specs.Messages.{data_package_json};
 ghost use Rattle.mw_json.specs.View.{view};
 
-use mw_base::{List, Memory};
-use mw_json::{Tree, copy, put, put_words};
+use mw_base::Memory;
+use mw_json::{Field, Tree, copy, object};
 use std::alloc::Global;
 use std::marker::Model;
 
@@ -36,9 +36,11 @@ pub(crate) fn data_package_tree(alloc: Global, it: &DataPackage) -> Result<Tree,
     ensures value { IfOk result (λ t. view t ≡ data_package_json (view it.now)) }
     ensures writable { IfOk result (λ t. IsWritable (view t)) }
 {
-    let content = copy(alloc, &it.content)?;
-    let mut parts = List::new(alloc);
-    put_words(alloc, &mut parts, "cmd", "DataPackage")?;
-    put(alloc, &mut parts, "data", content)?;
-    Ok(Tree::Members(parts))
+    object(
+        alloc,
+        &mut [
+            ("cmd", Field::Words("DataPackage")),
+            ("data", Field::Built(copy(alloc, &it.content))),
+        ],
+    )
 }

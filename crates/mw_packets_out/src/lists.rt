@@ -5,11 +5,10 @@ ghost use Rattle.mw_protocol.specs.Messages.{item_json};
 ghost use Rattle.mw_json.specs.View.{view};
 
 use mw_base::{List, Memory, NetItem, Text};
-use mw_json::{Tree, id_tree, push_tree, put, put_number, put_words, words_tree};
+use mw_json::{Field, Tree, id_tree, object, push_tree, words_tree};
 use std::alloc::Global;
 
 /// Numbers of items or locations, as a list.
-#[tactic(auto, using(crate::proofs::Writable::same_items))]
 pub(crate) fn ids_tree(alloc: Global, ids: &[i64]) -> Result<Tree, Memory>
     ensures value { IfOk result (λ t. view t ≡ many (items_of (map id_json ids.now))) }
     ensures writable { IfOk result (λ t. IsWritable (view t)) }
@@ -26,17 +25,19 @@ pub fn item_tree(alloc: Global, item: &NetItem) -> Result<Tree, Memory>
     ensures value { IfOk result (λ t. view t ≡ item_json item.now) }
     ensures writable { IfOk result (λ t. IsWritable (view t)) }
 {
-    let mut parts = List::new(alloc);
-    put_words(alloc, &mut parts, "class", "NetworkItem")?;
-    put_number(alloc, &mut parts, "flags", u64::from(item.flags))?;
-    put(alloc, &mut parts, "item", id_tree(item.item))?;
-    put(alloc, &mut parts, "location", id_tree(item.location))?;
-    put_number(alloc, &mut parts, "player", u64::from(item.player))?;
-    Ok(Tree::Members(parts))
+    object(
+        alloc,
+        &mut [
+            ("class", Field::Words("NetworkItem")),
+            ("flags", Field::Number(u64::from(item.flags))),
+            ("item", Field::Id(item.item)),
+            ("location", Field::Id(item.location)),
+            ("player", Field::Number(u64::from(item.player))),
+        ],
+    )
 }
 
 /// Items as a list.
-#[tactic(auto, using(crate::proofs::Writable::same_items))]
 pub(crate) fn items_tree(alloc: Global, items: &[NetItem]) -> Result<Tree, Memory>
     ensures value { IfOk result (λ t. view t ≡ many (items_of (map item_json items.now))) }
     ensures writable { IfOk result (λ t. IsWritable (view t)) }
@@ -49,7 +50,6 @@ pub(crate) fn items_tree(alloc: Global, items: &[NetItem]) -> Result<Tree, Memor
 }
 
 /// Texts as a list. Memory is its only error.
-#[tactic(auto, using(crate::proofs::Writable::same_items))]
 pub fn texts_tree(alloc: Global, texts: &[Text]) -> Result<Tree, Memory>
     ensures value { IfOk result (λ t. view t ≡ many (items_of (map text_json texts.now))) }
     ensures writable { IfOk result (λ t. IsWritable (view t)) }

@@ -104,7 +104,6 @@ pub(crate) fn further_of(alloc: Global, further: &[Member]) -> Result<Vec<Member
 }
 
 /// A copy of values, as a list.
-#[tactic(auto, using(crate::proofs::Writable::same_items))]
 pub(crate) fn copied_list(alloc: Global, trees: &[Tree]) -> Result<Tree, Memory>
     ensures { IfOk result (λ t. view t ≡ many (items_of (map view trees.now))) }
 {

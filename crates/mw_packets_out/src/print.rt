@@ -5,7 +5,7 @@ ghost use Rattle.mw_json.specs.View.{view};
 
 use crate::placing::{copied_list, put_copies};
 use mw_base::{List, Memory, Text};
-use mw_json::{Member, Tree, object_tree, put, put_words};
+use mw_json::{Field, Member, Tree, members, object_tree, put, words_tree};
 use std::alloc::Global;
 use std::marker::Model;
 
@@ -51,11 +51,18 @@ pub(crate) fn print_tree(alloc: Global, it: &PrintJson) -> Result<Tree, Memory>
     ensures value { IfOk result (λ t. view t ≡ print_json it.now) }
     ensures writable { IfOk result (λ t. IsWritable (view t)) }
 {
-    let content = copied_list(alloc, it.content.as_slice())?;
-    let mut parts = List::new(alloc);
-    put_words(alloc, &mut parts, "cmd", "PrintJSON")?;
-    put(alloc, &mut parts, "data", content)?;
+    let mut parts = members(
+        alloc,
+        &mut [
+            ("cmd", Field::Words("PrintJSON")),
+            (
+                "data",
+                Field::Built(copied_list(alloc, it.content.as_slice())),
+            ),
+        ],
+    )?;
     put_copies(alloc, &mut parts, it.further.as_slice())?;
-    put_words(alloc, &mut parts, "type", it.kind.as_str())?;
+    let kind = words_tree(alloc, it.kind.as_str())?;
+    put(alloc, &mut parts, "type", kind)?;
     Ok(object_tree(parts))
 }

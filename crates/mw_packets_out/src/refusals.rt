@@ -6,8 +6,8 @@ ghost use Rattle.mw_packets_out.specs.View.{kind_view};
 
 use crate::lists::texts_tree;
 use crate::packet::InvalidKind;
-use mw_base::{List, Memory, Text};
-use mw_json::{Tree, put, put_words, words_tree};
+use mw_base::{Memory, Text};
+use mw_json::{Field, Tree, object, words_tree};
 use std::alloc::Global;
 
 /// Why a Connect is refused, as an object.
@@ -15,11 +15,13 @@ pub(crate) fn connection_refused_tree(alloc: Global, errors: &[Text]) -> Result<
     ensures value { IfOk result (λ t. view t ≡ connection_refused_json errors.now) }
     ensures writable { IfOk result (λ t. IsWritable (view t)) }
 {
-    let errors = texts_tree(alloc, errors)?;
-    let mut parts = List::new(alloc);
-    put_words(alloc, &mut parts, "cmd", "ConnectionRefused")?;
-    put(alloc, &mut parts, "errors", errors)?;
-    Ok(Tree::Members(parts))
+    object(
+        alloc,
+        &mut [
+            ("cmd", Field::Words("ConnectionRefused")),
+            ("errors", Field::Built(texts_tree(alloc, errors))),
+        ],
+    )
 }
 
 /// A text, or null where there is none.
@@ -58,11 +60,16 @@ pub(crate) fn invalid_packet_tree(
         }) }
     ensures writable { IfOk result (λ t. IsWritable (view t)) }
 {
-    let original_cmd = text_or_null_tree(alloc, original_cmd)?;
-    let mut parts = List::new(alloc);
-    put_words(alloc, &mut parts, "cmd", "InvalidPacket")?;
-    put(alloc, &mut parts, "original_cmd", original_cmd)?;
-    put_words(alloc, &mut parts, "text", text.as_str())?;
-    put_words(alloc, &mut parts, "type", kind_word(kind))?;
-    Ok(Tree::Members(parts))
+    object(
+        alloc,
+        &mut [
+            ("cmd", Field::Words("InvalidPacket")),
+            (
+                "original_cmd",
+                Field::Built(text_or_null_tree(alloc, original_cmd)),
+            ),
+            ("text", Field::Words(text.as_str())),
+            ("type", Field::Words(kind_word(kind))),
+        ],
+    )
 }

@@ -6,7 +6,7 @@ ghost use Rattle.mw_json.specs.View.{view, members_view};
 use crate::people::NetworkSlot;
 use crate::placing::insert;
 use mw_base::{List, Memory, SlotId, Text};
-use mw_json::{Tree, put, put_number, put_words};
+use mw_json::{Field, Tree, array_tree, object};
 use std::alloc::Global;
 
 /// What is played in a slot, as an object.
@@ -14,14 +14,19 @@ fn slot_tree(alloc: Global, slot: &NetworkSlot) -> Result<Tree, Memory>
     ensures value { IfOk result (λ t. view t ≡ slot_json slot.now) }
     ensures writable { IfOk result (λ t. IsWritable (view t)) }
 {
-    let mut parts = List::new(alloc);
-    let group_members = Tree::Many(List::new(alloc));
-    put_words(alloc, &mut parts, "class", "NetworkSlot")?;
-    put_words(alloc, &mut parts, "game", slot.game.as_str())?;
-    put(alloc, &mut parts, "group_members", group_members)?;
-    put_words(alloc, &mut parts, "name", slot.name.as_str())?;
-    put_number(alloc, &mut parts, "type", 1)?;
-    Ok(Tree::Members(parts))
+    object(
+        alloc,
+        &mut [
+            ("class", Field::Words("NetworkSlot")),
+            ("game", Field::Words(slot.game.as_str())),
+            (
+                "group_members",
+                Field::Built(Ok(array_tree(List::new(alloc)))),
+            ),
+            ("name", Field::Words(slot.name.as_str())),
+            ("type", Field::Number(1)),
+        ],
+    )
 }
 
 /// A slot's number in decimal.

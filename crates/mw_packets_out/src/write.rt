@@ -13,8 +13,8 @@ use crate::print::print_tree;
 use crate::refusals::{connection_refused_tree, invalid_packet_tree};
 use crate::room_info::room_info_tree;
 use crate::values::{retrieved_tree, set_reply_tree};
-use mw_base::{List, Memory, NetItem, Text};
-use mw_json::{Tree, compact_text, put, put_number, put_words};
+use mw_base::{Memory, NetItem, Text};
+use mw_json::{Field, Tree, compact_text, object};
 use std::alloc::Global;
 
 /// Items from a place in the session's list on, as an object.
@@ -22,12 +22,14 @@ fn received_items_tree(alloc: Global, index: u64, items: &[NetItem]) -> Result<T
     ensures value { IfOk result (λ t. view t ≡ received_items_json index items.now) }
     ensures writable { IfOk result (λ t. IsWritable (view t)) }
 {
-    let items = items_tree(alloc, items)?;
-    let mut parts = List::new(alloc);
-    put_words(alloc, &mut parts, "cmd", "ReceivedItems")?;
-    put_number(alloc, &mut parts, "index", index)?;
-    put(alloc, &mut parts, "items", items)?;
-    Ok(Tree::Members(parts))
+    object(
+        alloc,
+        &mut [
+            ("cmd", Field::Words("ReceivedItems")),
+            ("index", Field::Number(index)),
+            ("items", Field::Built(items_tree(alloc, items))),
+        ],
+    )
 }
 
 /// Locations that were checked, and the slot's points, as an object.
@@ -35,12 +37,17 @@ fn room_update_tree(alloc: Global, locations: &[i64], points: u64) -> Result<Tre
     ensures value { IfOk result (λ t. view t ≡ room_update_json locations.now points) }
     ensures writable { IfOk result (λ t. IsWritable (view t)) }
 {
-    let checked = ids_tree(alloc, locations)?;
-    let mut parts = List::new(alloc);
-    put(alloc, &mut parts, "checked_locations", checked)?;
-    put_words(alloc, &mut parts, "cmd", "RoomUpdate")?;
-    put_number(alloc, &mut parts, "hint_points", points)?;
-    Ok(Tree::Members(parts))
+    object(
+        alloc,
+        &mut [
+            (
+                "checked_locations",
+                Field::Built(ids_tree(alloc, locations)),
+            ),
+            ("cmd", Field::Words("RoomUpdate")),
+            ("hint_points", Field::Number(points)),
+        ],
+    )
 }
 
 /// What stands at locations, as an object.
@@ -48,11 +55,13 @@ fn location_info_tree(alloc: Global, items: &[NetItem]) -> Result<Tree, Memory>
     ensures value { IfOk result (λ t. view t ≡ location_info_json items.now) }
     ensures writable { IfOk result (λ t. IsWritable (view t)) }
 {
-    let locations = items_tree(alloc, items)?;
-    let mut parts = List::new(alloc);
-    put_words(alloc, &mut parts, "cmd", "LocationInfo")?;
-    put(alloc, &mut parts, "locations", locations)?;
-    Ok(Tree::Members(parts))
+    object(
+        alloc,
+        &mut [
+            ("cmd", Field::Words("LocationInfo")),
+            ("locations", Field::Built(items_tree(alloc, items))),
+        ],
+    )
 }
 
 /// A packet as an object.

@@ -3,7 +3,8 @@ use Rattle.std.proofs.lemmas.List.{map-append, nil_from_length}
 use Rattle.std.specs.Vec.Iter.{into_iter_items}
 use Rattle.mw_model.specs.Json.{depth, items_depth, members_depth}
 use Rattle.mw_json.specs.Reading.{of_items, of_members}
-use Rattle.mw_json.specs.View.{view, member_view, items_of, members_of}
+use Rattle.mw_model.specs.Trees.{items_of}
+use Rattle.mw_json.specs.View.{view, member_view, members_of}
 use Rattle.mw_json.specs.declared.tree.Member.{roll-Member}
 use Rattle.serde_json.specs.View.{items_view as data_items, members_view as data_members}
 use Rattle.mw_json.proofs.Trees.{Entry, meaning, named, of_items-list, of_members-list, depth_of_item, depth_of_member, member_view-made, shallow_item, shallow_member}

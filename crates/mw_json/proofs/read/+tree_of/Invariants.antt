@@ -2,7 +2,8 @@ use Rattle.std.proofs.Common.{◌≡◌, ◌≤◌, List, ◌++◌, length, map}
 use Rattle.std.specs.Vec.Iter.{into_iter_items, into_iter_len}
 use Rattle.serde_json.specs.declared.value.Value.{Value}
 use Rattle.mw_model.specs.Json.{items_depth, members_depth}
-use Rattle.mw_json.specs.View.{view, member_view, items_of, members_of}
+use Rattle.mw_model.specs.Trees.{items_of}
+use Rattle.mw_json.specs.View.{view, member_view, members_of}
 use Rattle.mw_json.proofs.Trees.{Entry, meaning, named}
 use Rattle.mw_json.proofs.read.+tree_of.Given as goal
 

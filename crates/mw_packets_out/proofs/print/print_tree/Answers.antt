@@ -1,6 +1,5 @@
-use Rattle.std.proofs.Common.{map, ap, ◌∙◌, subst}
-use Rattle.mw_model.specs.Json.{IsWritable, many}
-use Rattle.mw_model.specs.Trees.{items_of}
+use Rattle.std.proofs.Common.{map, ap, refl, ◌∙◌, subst}
+use Rattle.mw_model.specs.Json.{IsWritable, words}
 use Rattle.mw_protocol.specs.Messages.{PrintJson, print_json}
 use Rattle.mw_json.specs.View.{view, member_view}
 use Rattle.mw_packets_out.proofs.Prints.{print_made}
@@ -9,11 +8,11 @@ use Rattle.mw_packets_out.proofs.print.print_tree.Goals as goal
 pub returns-clause-value : goal.returns-clause-value
 returns-clause-value c =
     c.object_tree.ensures
-    ∙ print_made (map member_view c.new-parts.result) (map member_view c.put_words.new.members) (map member_view c.put.new.members) (map member_view c.put_copies.new.members)
-    (map member_view c.put_words-2.new.members) (map member_view c.it.inside.further) (map member_view c.as_slice-2.result.now) (map view c.it.inside.content)
-    (view c.in_ok-content.content) c.as_str.result.now c.it.inside.kind c.args.it.now (ap (map member_view) c.new-parts.ensures) c.in_ok-put_words.ensures c.in_ok-put.ensures
-    c.in_ok-put_copies.ensures c.in_ok-put_words-2.ensures (ap (map member_view) c.as_slice-2.ensures)
-    (c.in_ok-content.ensures ∙ ap (λ ts. many (items_of (map view ts))) c.as_slice.ensures) c.as_str.ensures c.it.view_is
+    ∙ print_made (map member_view c.put.new.members) (map member_view c.in_ok-parts.parts) (map member_view c.as_slice-2.result.now)
+    (map member_view c.it.inside.further) (map view c.it.inside.content) (view c.in_ok-kind.kind) c.it.inside.kind c.args.it.now
+    (c.in_ok-parts.ensures.value _ (refl, refl, (refl, rw c.as_slice.ensures at c.copied_list.ensures, tt)))
+    (rw c.in_ok-put_copies.ensures at c.in_ok-put.ensures) (ap (map member_view) c.as_slice-2.ensures)
+    (c.in_ok-kind.ensures ∙ ap words c.as_str.ensures) c.it.view_is
 
 pub returns-clause-writable : goal.returns-clause-writable
 returns-clause-writable c =

@@ -1,0 +1,11 @@
+use Rattle.std.proofs.Common.{◌∙◌, ap, pos, refl}
+use Rattle.mw_model.specs.Json.{whole}
+use Rattle.mw_chat.proofs.Kept.{player_prints}
+use Rattle.mw_chat.proofs.print.player_members.Goals as goal
+
+pub returns-clause-value : goal.returns-clause-value
+returns-clause-value c = c.in_ok-further.ensures.value _ (refl, ap (λ n. whole (pos n)) (c.from.ensures ∙ c.get.ensures.value), (refl, ap (λ n. whole (pos n)) (c.from-2.ensures ∙ c.get-2.ensures.value), tt))
+
+pub returns-clause-prints : goal.returns-clause-prints
+returns-clause-prints c kind =
+    player_prints kind c.args.team c.args.slot _ (returns-clause-value c) (c.in_ok-further.ensures.writable (tt, (tt, tt)))
