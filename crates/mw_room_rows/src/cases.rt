@@ -9,11 +9,12 @@ pub(crate) trait Theme {
     fn answer(alloc: Global, case: &str) -> Result<Text, Fail>;
 }
 
-/// What a case wants: what stands behind its last mark, nothing where it has none.
+/// What a case wants: what stands behind its last mark. A case without one, as where a blank at the
+/// end of its line is lost, wants what is never answered.
 fn wanted(case: &str) -> &str {
     match case.rsplit_once(" | ") {
         Some((_, wanted)) => wanted,
-        None => "",
+        None => "no mark",
     }
 }
 

@@ -60,7 +60,7 @@ fn room_of(alloc: Global, is_bought: bool, slot: SlotId) -> Result<Hinted, Fail>
     Ok(Hinted { book, log })
 }
 
-/// What is wanted by its words, `item NAME` or `location NAME`.
+/// What is wanted by its words, `location NAME` or the name of an item.
 fn wanted(alloc: Global, words: &str) -> Result<Wanted, Memory> {
     match words.split_once("location ") {
         Some((_, name)) => Ok(Wanted::Location(Text::of(alloc, name)?)),

@@ -65,7 +65,7 @@ fn state(room: &Room) -> &'static str {
     }
 }
 
-/// How many messages the session takes, none where it isn't open.
+/// How many messages the session takes, `shut` where it isn't open.
 fn taken(room: &mut Room) -> &'static str {
     if room.state(session()) == SessionState::Shut {
         return "shut";
