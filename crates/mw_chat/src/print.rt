@@ -37,7 +37,6 @@ pub(crate) fn of_parts(
 }
 
 /// A print of one text.
-#[tactic(auto, using(crate::proofs::Kept::parts_sound))]
 pub(crate) fn of_text(
     alloc: Global,
     kind: &str,

@@ -55,6 +55,6 @@ from_here fs i d y within =
     rw later (drop-cons fs i d within ∙ rw add-one)
 
 -- one member more that can be written
-pub one_member_more : (ms : List (List ℕ × Json)) (k : List ℕ) (j : Json) → MembersAreWritable (members_of ms) → IsWritable j → MembersAreWritable (members_of (ms ++ (k, j) ∷ []))
-one_member_more [] k j all one = (one, tt)
-one_member_more (m ∷ ms) k j all one = (all.0, one_member_more ms k j all.1 one)
+pub one_member_more : (ms : List (List ℕ × Json)) (m : List ℕ × Json) → MembersAreWritable (members_of ms) → IsWritable m.1 → MembersAreWritable (members_of (ms ++ m ∷ []))
+one_member_more [] m all one = (one, tt)
+one_member_more (n ∷ ms) m all one = (all.0, one_member_more ms m all.1 one)

@@ -1,6 +1,6 @@
 -- Names with their ids as members.
-use Rattle.std.proofs.Common.{◌≡◌, ℕ, List, [], ◌∷◌, ◌++◌, map, refl, ap}
-use Rattle.mw_model.specs.Json.{IsWritable, Json, MembersAreWritable, member, whole}
+use Rattle.std.proofs.Common.{◌≡◌, ℕ, List, [], ◌∷◌, map, refl, ap}
+use Rattle.mw_model.specs.Json.{Json, member, whole}
 use Rattle.mw_model.specs.Games.{ids_members}
 use Rattle.mw_model.specs.Seed.{NamedId}
 use Rattle.mw_json.specs.View.{members_of}
@@ -12,7 +12,3 @@ id_member n = (n.name, whole n.id)
 pub same_ids : (ns : List NamedId) → members_of (map id_member ns) ≡ ids_members ns
 same_ids [] = refl
 same_ids (n ∷ ns) = ap (member n.name (whole n.id)) (same_ids ns)
-
-pub one_more : (ms : List (List ℕ × Json)) (m : List ℕ × Json) → MembersAreWritable (members_of ms) → IsWritable m.1 → MembersAreWritable (members_of (ms ++ m ∷ []))
-one_more [] m all one = (one, tt)
-one_more (l ∷ ms) m all one = (all.0, one_more ms m all.1 one)

@@ -9,7 +9,7 @@ use mw_json::{Field, Member, Tree, id_tree, object, object_tree, put};
 use std::alloc::Global;
 
 /// An id under its name, after the others.
-#[tactic(auto, using(crate::proofs::Entries::one_more))]
+#[tactic(auto, using(mw_json::proofs::Built::one_member_more))]
 fn put_id(alloc: Global, ids: &mut List<Member>, named: &NamedId) -> Result<(), Memory>
     requires { MembersAreWritable (members_view ids.old) }
     ensures value { OnOk result (map member_view ids.new

@@ -17,7 +17,7 @@ use mw_json::{Field, Member, Tree, compact, object, object_tree, put};
 use std::alloc::Global;
 
 /// A game's names under its name, after the others.
-#[tactic(auto, using(crate::proofs::Entries::one_more))]
+#[tactic(auto, using(mw_json::proofs::Built::one_member_more))]
 fn put_game(alloc: Global, games: &mut List<Member>, game: &Game) -> Result<(), Memory>
     requires { MembersAreWritable (members_view games.old) }
     ensures value { OnOk result (map member_view games.new

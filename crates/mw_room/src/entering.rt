@@ -2,8 +2,11 @@ ghost use Rattle.std.specs.Prelude.{◌≡◌, ◌∷◌, [], IfOk, map};
 ghost use Rattle.std.specs.Option.{option_copied};
 ghost use Rattle.mw_protocol.specs.Effects.{stranger_effect};
 ghost use Rattle.mw_protocol.specs.Entering.{name_of as name_of_lem, parting as parting_lem, same_texts as same_texts_lem, tags_told as tags_told_lem, to_team as to_team_lem, updating as updating_lem};
+ghost use Rattle.mw_protocol.specs.Messages as plain_answer;
 ghost use Rattle.mw_protocol.specs.Packets as plain;
+ghost use Rattle.mw_protocol.specs.Players.{connected_of};
 ghost use Rattle.mw_protocol.specs.Prints as prints;
+ghost use Rattle.mw_packets_out.specs.View.{packet_view};
 ghost use Rattle.mw_effects.specs.Parts.{IsQuiet, standing_of};
 ghost use Rattle.mw_effects.specs.Views.{announced_view, effect_view};
 
@@ -13,7 +16,8 @@ use mw_answers::name_of;
 use mw_base::{List, Memory, Text};
 use mw_chat::{changed_tags, joined, left};
 use mw_effects::{
-    Announced, Audience, Effect, Member, Standing, announcing, nothing, one_told, quiet, updated,
+    Announced, Audience, Effect, Member, Standing, announcing, answering, nothing, one_told, quiet,
+    updated,
 };
 use mw_multidata::RoomTables;
 use mw_packets_in::{Connect, ConnectUpdate};
@@ -36,6 +40,20 @@ fn joined_told(
     one_told(alloc, Audience::Team(member.team), print)
 }
 
+/// The answer to a session that becomes a member.
+fn welcome(
+    alloc: Global,
+    standing: &Standing,
+    member: &Member,
+) -> Result<List<ServerPacket>, Memory>
+    ensures { IfOk result (λ ps. map packet_view ps ≡ plain_answer.connected
+        (connected_of standing.now.log.seed (standing_of standing.now) member.now) ∷ []) }
+{
+    let mut answers = List::new(alloc);
+    answers.push(ServerPacket::Connected(connected(alloc, standing, member)?))?;
+    Ok(answers)
+}
+
 /// The effect of a Connect of a session that plays no slot.
 pub fn joining(alloc: Global, standing: &Standing, fields: &Connect) -> Result<Effect, Memory>
     ensures quiet { IfOk result (λ e. IsQuiet e) }
@@ -43,18 +61,14 @@ pub fn joining(alloc: Global, standing: &Standing, fields: &Connect) -> Result<E
         (standing_of standing.now) (plain.connect fields.now)) }
 {
     let seed = standing.seed();
-    let mut answers = List::new(alloc);
-    match member_by(alloc, seed, fields)? {
-        None => {
-            let errors = connect_errors(alloc, seed, fields)?;
-            answers.push(ServerPacket::ConnectionRefused { errors })?;
-            Ok(quiet(alloc, answers, false, None, List::new(alloc)))
-        }
-        Some(member) => {
-            let prints = joined_told(alloc, standing.log.tables(), &member)?;
-            answers.push(ServerPacket::Connected(connected(alloc, standing, &member)?))?;
-            Ok(quiet(alloc, answers, true, Some(member), prints))
-        }
+    let Some(member) = member_by(alloc, seed, fields)? else {
+        let errors = connect_errors(alloc, seed, fields)?;
+        return answering(alloc, ServerPacket::ConnectionRefused { errors });
+    };
+    let prints = joined_told(alloc, standing.log.tables(), &member);
+    match (prints, welcome(alloc, standing, &member)) {
+        (Ok(prints), Ok(answers)) => Ok(quiet(alloc, answers, true, Some(member), prints)),
+        _ => Err(Memory),
     }
 }
 

@@ -25,17 +25,20 @@ impl Room {
         ensures { IfOk result (HasGrowths self.now effect.now new) }
     {
         let alloc = self.alloc;
-        let log = self.standing.log.room_for(effect.new.len() as u64)?;
-        let hints = self.standing.hints.room_for(effect.hints.len() as u64)?;
-        let statuses = Growth::of(alloc, &self.standing.statuses, 1)?;
-        let store = self.standing.store.room_for(keys_in(&effect.stored))?;
-        let sessions = Growth::of(alloc, &self.sessions, new)?;
-        Ok(Growths {
-            log,
-            hints,
-            statuses,
-            store,
-            sessions,
-        })
+        let log = self.standing.log.room_for(effect.new.len() as u64);
+        let hints = self.standing.hints.room_for(effect.hints.len() as u64);
+        let statuses = Growth::of(alloc, &self.standing.statuses, 1);
+        let store = self.standing.store.room_for(keys_in(&effect.stored));
+        let sessions = Growth::of(alloc, &self.sessions, new);
+        match (log, hints, statuses, store, sessions) {
+            (Ok(log), Ok(hints), Ok(statuses), Ok(store), Ok(sessions)) => Ok(Growths {
+                log,
+                hints,
+                statuses,
+                store,
+                sessions,
+            }),
+            _ => Err(Memory),
+        }
     }
 }

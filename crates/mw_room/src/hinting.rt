@@ -2,7 +2,8 @@ ghost use Rattle.std.specs.Prelude.{◌≡◌, ◌++◌, ◌∷◌, [], ℤ, Non
 ghost use Rattle.std.specs.Option.{option_to_list};
 ghost use Rattle.mw_model.specs.Seed.{held_at};
 ghost use Rattle.mw_protocol.specs.Locating.{hint_told, mark_record, marking as marking_lem, scouting as scouting_lem, slot_number};
-ghost use Rattle.mw_protocol.specs.Locations.{known_checks};
+ghost use Rattle.mw_protocol.specs.Locations.{known_checks, scouted_at};
+ghost use Rattle.mw_protocol.specs.Messages.{location_info};
 ghost use Rattle.mw_protocol.specs.Records.{Hint, hint};
 ghost use Rattle.mw_protocol.specs.Speaking.{wanting as wanting_lem};
 ghost use Rattle.mw_hints.specs.Answers.{Answers, wanted_view};
@@ -222,6 +223,22 @@ fn known_of(log: &CheckLog, member: &Member, numbers: &[i128]) -> Result<List<Pa
     log.known_of(member.team, member.slot, numbers)
 }
 
+/// The answer that tells what stands at a slot's locations.
+fn located(
+    alloc: Global,
+    log: &CheckLog,
+    member: &Member,
+    known: &[Pair],
+) -> Result<List<ServerPacket>, Memory>
+    ensures { IfOk result (λ ps. map packet_view ps ≡ location_info
+        (scouted_at log.now.seed member.now.slot (checks_of member.now.team known.now)) ∷ []) }
+{
+    let locations = scouts_of(alloc, log, member, known)?;
+    let mut answers = List::new(alloc);
+    answers.push(ServerPacket::LocationInfo { locations })?;
+    Ok(answers)
+}
+
 /// The effect of a question for what stands at locations, which may make hints of them.
 pub fn scouting(
     alloc: Global,
@@ -236,12 +253,15 @@ pub fn scouting(
     let as_hint = scouts.create_as_hint;
     let known = known_of(log, member, scouts.locations.as_slice())?;
     let hints = hints_scouted(alloc, standing, member, known.as_slice(), as_hint)?;
-    let records = hint_records(alloc, hints.as_slice())?;
-    let prints = prints_scouted(alloc, standing, member, known.as_slice(), as_hint)?;
-    let locations = scouts_of(alloc, log, member, known.as_slice())?;
-    let mut answers = List::new(alloc);
-    answers.push(ServerPacket::LocationInfo { locations })?;
-    Ok(hinted(alloc, member, records, hints, None, answers, prints))
+    let records = hint_records(alloc, hints.as_slice());
+    let prints = prints_scouted(alloc, standing, member, known.as_slice(), as_hint);
+    let answers = located(alloc, log, member, known.as_slice());
+    match (records, prints, answers) {
+        (Ok(records), Ok(prints), Ok(answers)) => {
+            Ok(hinted(alloc, member, records, hints, None, answers, prints))
+        }
+        _ => Err(Memory),
+    }
 }
 
 /// The slot of a number, if it is one; else nothing stands at a location of it.

@@ -167,13 +167,27 @@ pub fn connected(alloc: Global, standing: &Standing, member: &Member) -> Result<
     playable(seed);
     let slots = seed.slots.as_slice();
     let locations = seed.locations_of(member.slot);
-    Ok(Connected {
-        team: member.team,
-        slot: member.slot,
-        players: players_of(alloc, seed.teams, slots)?,
-        missing_locations: missing_locations(alloc, locations, standing, member)?,
-        checked_locations: checked_locations(alloc, locations, standing, member)?,
-        slot_info: slot_infos(alloc, member.team.get(), slots)?,
-        hint_points: points_of(standing, member)?,
-    })
+    let players = players_of(alloc, seed.teams, slots);
+    let missing = missing_locations(alloc, locations, standing, member);
+    let checked = checked_locations(alloc, locations, standing, member);
+    let infos = slot_infos(alloc, member.team.get(), slots);
+    let points = points_of(standing, member);
+    match (players, missing, checked, infos, points) {
+        (
+            Ok(players),
+            Ok(missing_locations),
+            Ok(checked_locations),
+            Ok(slot_info),
+            Ok(hint_points),
+        ) => Ok(Connected {
+            team: member.team,
+            slot: member.slot,
+            players,
+            missing_locations,
+            checked_locations,
+            slot_info,
+            hint_points,
+        }),
+        _ => Err(Memory),
+    }
 }

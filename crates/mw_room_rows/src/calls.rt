@@ -1,7 +1,7 @@
 //! Kept rooms by scripts: lines `CALL | ANSWER`, of which each is what is asked of a room, and in a
 //! word what is answered. Its one session is the first.
 use crate::cases::check;
-use crate::messages::{last_in, message_of};
+use crate::messages::last_in;
 use crate::rooms::session;
 use mw_base::{SessionId, Text};
 use mw_cases::part;
@@ -44,7 +44,7 @@ fn named(alloc: Global, asked: &str) -> Result<Call, Fail> {
         "take of another" => Ok(Call::Take {
             session: SessionId::new(2).unwrap(),
         }),
-        sent => Ok(call_of(session, last_in(alloc, message_of(sent))?)),
+        sent => Ok(call_of(session, last_in(alloc, sent)?)),
     }
 }
 

@@ -3,12 +3,12 @@ ghost use Rattle.mw_model.specs.Json.{IsWritable};
 ghost use Rattle.mw_json.specs.View.{view};
 
 use crate::cases::{Theme, agree, each};
-use crate::logs::{ann, bob, new_log, tables_of, team};
+use crate::logs::{COIN, MAP, SWORD, ann, bob, new_log, tables_of, team};
 use mw_answers::{
     checked_text, help_text, missing_text, name_of, no_such_name, nothing_to_hint, players_text,
     points_text, remaining_text, too_dear_text,
 };
-use mw_base::{ItemId, LocId, Memory, NetItem, Text};
+use mw_base::{ItemId, LocId, Memory, Text};
 use mw_cases::part;
 use mw_chat::{
     Said, changed_tags, chatted, collected, command_result, hint_print, item_send, joined, left,
@@ -87,30 +87,6 @@ fn print_of_ann(alloc: Global, words: &str) -> Result<ServerPacket, Memory> {
         _ => collected(alloc, team(), ann(), "Ann"),
     }
 }
-
-/// Ann's item, which Bob has.
-const MAP: NetItem = NetItem {
-    item: 9,
-    location: 201,
-    player: 2,
-    flags: 2,
-};
-
-/// Bob's item, which Ann has.
-const SWORD: NetItem = NetItem {
-    item: 7,
-    location: 101,
-    player: 1,
-    flags: 1,
-};
-
-/// Ann's item, which she has herself.
-const COIN: NetItem = NetItem {
-    item: 8,
-    location: 102,
-    player: 1,
-    flags: 0,
-};
 
 /// Another print by its name.
 fn print_named(alloc: Global, name: &str) -> Result<ServerPacket, Memory> {

@@ -1,5 +1,5 @@
 use crate::cases::fine;
-use crate::logs::{NUMBERS, ann, b1, bob, new_log, played_log, team};
+use crate::logs::{COIN, MAP, NUMBERS, SWORD, ann, b1, bob, new_log, played_log, team};
 use mw_base::{List, LocId, Memory, NetItem, SlotId, TeamId};
 use mw_checks::CheckLog;
 use std::test::Fail;
@@ -9,27 +9,6 @@ const BOOTS: NetItem = NetItem {
     location: -2,
     player: 0,
     flags: 0,
-};
-
-const SWORD: NetItem = NetItem {
-    item: 7,
-    location: 101,
-    player: 1,
-    flags: 1,
-};
-
-const COIN: NetItem = NetItem {
-    item: 8,
-    location: 102,
-    player: 1,
-    flags: 0,
-};
-
-const MAP: NetItem = NetItem {
-    item: 9,
-    location: 201,
-    player: 2,
-    flags: 2,
 };
 
 fn other() -> TeamId {

@@ -1,5 +1,5 @@
 //! The room that rows play, and the log of its checks.
-use mw_base::{LocId, Memory, SlotId, TeamId};
+use mw_base::{LocId, Memory, NetItem, SlotId, TeamId};
 use mw_checks::CheckLog;
 use mw_multidata::{RoomTables, read};
 use mw_room_a::ROOM_A;
@@ -25,6 +25,30 @@ pub(crate) fn bob() -> SlotId {
 pub(crate) fn b1() -> LocId {
     LocId::new(201).unwrap()
 }
+
+/// Bob's item, which Ann has.
+pub(crate) const SWORD: NetItem = NetItem {
+    item: 7,
+    location: 101,
+    player: 1,
+    flags: 1,
+};
+
+/// Ann's item, which she has herself.
+pub(crate) const COIN: NetItem = NetItem {
+    item: 8,
+    location: 102,
+    player: 1,
+    flags: 0,
+};
+
+/// Ann's item, which Bob has.
+pub(crate) const MAP: NetItem = NetItem {
+    item: 9,
+    location: 201,
+    player: 2,
+    flags: 2,
+};
 
 /// The tables of a seed file.
 pub(crate) fn tables_of(alloc: Global, file: &str) -> Result<RoomTables, Fail> {

@@ -2,7 +2,7 @@
 //! and what that answers. Its one session is the first.
 use crate::cases::check;
 use crate::logs::{ann, bob, tables_of, team};
-use crate::messages::{last_in, message_of};
+use crate::messages::last_in;
 use mw_base::{SessionId, SlotId, TeamId};
 use mw_cases::part;
 use mw_packets_in::Inbound;
@@ -42,7 +42,7 @@ fn event(alloc: Global, step: &str) -> Result<Event, Fail> {
     match step {
         "open" => Ok(Event::Open { time: 7 }),
         "lost" => Ok(Event::Lost { session }),
-        sent => Ok(event_of(session, last_in(alloc, message_of(sent))?)),
+        sent => Ok(event_of(session, last_in(alloc, sent)?)),
     }
 }
 

@@ -28,15 +28,26 @@ fn piece(line: &str, place: usize) -> &str {
     line.split(" => ").nth(place).unwrap_or("")
 }
 
+/// How often a unit stands; none does where the word is empty.
+fn count_of(word: &str) -> Result<usize, Fail> {
+    if word.is_empty() {
+        return Ok(0);
+    }
+    Ok(word.parse::<usize>()?)
+}
+
 /// A file that is changed as a line says.
 pub(crate) fn changed(alloc: Global, file: &str, line: &str) -> Result<String, Fail> {
-    let new = piece(line, 1);
-    let count = part(new, 2).parse::<usize>().unwrap_or(0);
+    let (old, new) = (piece(line, 0), piece(line, 1));
+    if old.is_empty() || !file.contains(old) {
+        return Err(Fail::new(line));
+    }
+    let count = count_of(part(new, 2))?;
     let opened = part(new, 1).repeat(alloc, count)?;
     let closed = part(new, 3).repeat(alloc, count)?;
     let (front, back) = (part(new, 0), part(new, 4));
     let new = format!(in alloc; "{front}{opened}{closed}{back}")?;
-    Ok(file.replace(alloc, piece(line, 0), new.as_str())?)
+    Ok(file.replace(alloc, old, new.as_str())?)
 }
 
 /// Whether a refusal is the wanted one.

@@ -52,7 +52,11 @@ cut | 2 |  | done
 read | 0 | 2 | \0b\0\0";
 
 /// A disk of these bytes whose calls fail as planned.
-fn disk_of(alloc: Global, bytes: &[u8], failing: &[(u64, DiskError)]) -> Result<MemDisk, Memory> {
+pub(crate) fn disk_of(
+    alloc: Global,
+    bytes: &[u8],
+    failing: &[(u64, DiskError)],
+) -> Result<MemDisk, Memory> {
     let start = Bytes::from_vec(Vec::from_slice(alloc, bytes)?);
     let failing = List::from_vec(Vec::from_slice(alloc, failing)?);
     MemDisk::new(alloc, start, failing)
@@ -62,7 +66,9 @@ fn disk_of(alloc: Global, bytes: &[u8], failing: &[(u64, DiskError)]) -> Result<
 fn is_read<D: Disk>(disk: &mut D, at: u64, count: &str, wanted: &[u8]) -> bool {
     let mut into = [0u8; 4];
     let room = wanted.len().min(4);
-    let count = count.parse::<usize>().unwrap_or(room + 1);
+    let Ok(count) = count.parse::<usize>() else {
+        return false;
+    };
     disk.read(at, &mut into[..room]) == Ok(count) && &into[..room] == wanted
 }
 
@@ -77,13 +83,16 @@ fn told(answer: Result<(), DiskError>) -> &'static str {
 
 /// Whether the call of a case is answered so.
 fn is_answered<D: Disk>(disk: &mut D, case: &str) -> bool {
-    let at = part(case, 1).parse::<u64>().unwrap_or(u64::MAX);
+    let Ok(at) = part(case, 1).parse::<u64>() else {
+        return false;
+    };
     let (given, wanted) = (part(case, 2), part(case, 3));
     let answer = match part(case, 0) {
         "read" => return is_read(disk, at, given, wanted.as_bytes()),
         "write" => disk.write_at(at, given.as_bytes()),
         "cut" => disk.cut(at),
-        _ => disk.sync(),
+        "sync" => disk.sync(),
+        _ => return false,
     };
     told(answer) == wanted
 }
@@ -137,9 +146,12 @@ fn is_left(disk: &MemDisk, case: &str) -> bool {
     let tear = match part(case, 1) {
         "done" => Tear::Done,
         "lost" => Tear::Lost,
-        _ => Tear::Filled(b'!'),
+        "filled" => Tear::Filled(b'!'),
+        _ => return false,
     };
-    let moment = part(case, 0).parse::<usize>().unwrap_or(usize::MAX);
+    let Ok(moment) = part(case, 0).parse::<usize>() else {
+        return false;
+    };
     match disk.image_at(moment, tear) {
         Ok(image) => image.as_slice() == part(case, 2).as_bytes(),
         Err(_) => false,

@@ -75,8 +75,8 @@ fn bytes_of(alloc: Global, bytes: &[u8]) -> Result<Bytes, Memory> {
 }
 
 /// A plan by which the call of a case's number fails.
-fn failing_at(alloc: Global, case: &str) -> Result<Faults, Memory> {
-    let call = part(case, 0).parse::<u64>().unwrap_or(u64::MAX);
+fn failing_at(alloc: Global, case: &str) -> Result<Faults, Fail> {
+    let call = part(case, 0).parse::<u64>()?;
     Ok(Faults::at(List::from_vec(vec![in alloc; call]?)))
 }
 
@@ -170,11 +170,10 @@ fn is_written(written: Result<(), FolderError>, wanted: &str) -> bool {
 fn is_answered<F: Folder>(alloc: Global, folder: &mut F, case: &str) -> Result<bool, Memory> {
     let name = Text::of(alloc, part(case, 1))?;
     let (given, wanted) = (part(case, 2), part(case, 3));
-    let is_so = if part(case, 0) == "write" {
-        is_written(folder.write_file(alloc, &name, given.as_bytes()), wanted)
-    } else {
-        let limit = given.parse::<u64>().unwrap_or(0);
-        is_read(folder.read_file(alloc, &name, limit), wanted)
+    let is_so = match (part(case, 0), given.parse::<u64>()) {
+        ("write", _) => is_written(folder.write_file(alloc, &name, given.as_bytes()), wanted),
+        ("read", Ok(limit)) => is_read(folder.read_file(alloc, &name, limit), wanted),
+        _ => false,
     };
     Ok(is_so)
 }

@@ -1,5 +1,6 @@
 use crate::cases::each;
-use mw_base::{Bytes, List, Memory};
+use crate::disks::disk_of;
+use mw_base::{Bytes, Memory};
 use mw_cases::part;
 use mw_disk::{DiskCall, DiskError, MadeCall, MemDisk};
 use mw_journal::{AppendError, Journal, JournalState, OpenError, create, open};
@@ -62,13 +63,6 @@ struct Case<'a> {
 /// A number that no call on a disk has.
 const NONE: u64 = u64::MAX;
 
-/// A disk of these bytes of whose calls this one fails.
-fn disk_of(alloc: Global, bytes: &[u8], failing: u64) -> Result<MemDisk, Memory> {
-    let start = Bytes::from_vec(Vec::from_slice(alloc, bytes)?);
-    let plan = vec![in alloc; (failing, DiskError::Failed)]?;
-    MemDisk::new(alloc, start, List::from_vec(plan))
-}
-
 /// A journal that is created on a disk, with no text, or the one that is opened, with its text; or why there is none.
 fn begun(
     alloc: Global,
@@ -96,7 +90,7 @@ fn refusal(
     digest: &[u8; 32],
     is_new: bool,
 ) -> Result<Option<OpenError>, Memory> {
-    let disk = disk_of(alloc, bytes, NONE)?;
+    let disk = disk_of(alloc, bytes, &[])?;
     Ok(begun(alloc, disk, digest, is_new).err())
 }
 
@@ -153,7 +147,7 @@ fn is_left(journal: Journal<MemDisk>, case: &Case) -> bool {
 
 /// Fails where a case isn't so.
 fn holds(alloc: Global, case: &Case) -> Result<(), Fail> {
-    let disk = disk_of(alloc, case.start, case.failing)?;
+    let disk = disk_of(alloc, case.start, &[(case.failing, DiskError::Failed)])?;
     let (mut journal, text) = begun(alloc, disk, &EMPTY, case.is_new)?;
     let is_appended = is_appended(alloc, &mut journal, case.appends) == Ok(true);
     let is_left = is_left(journal, case);

@@ -175,33 +175,43 @@ fn put(
     })
 }
 
-/// One less of an item, where there is one; none of `u32::MAX`, which is no item's number.
-fn take(bag: &mut Bag, number: u32)
+/// One more of an item, where that is an item's number.
+fn add(bag: &mut Bag, number: u32)
     ensures { length bag.new ≡ length bag.old }
 {
-    if (number as usize) < bag.as_slice().len() && bag.count(number) > 0 {
-        bag.take_one(number);
+    if (number as usize) < bag.as_slice().len() && bag.count(number) < 1_000_000 {
+        bag.add(number, 1);
     }
 }
 
-/// Takes out what lies at places that aren't in the list.
-fn take_unreached(bag: &mut Bag, openings: &[Opening], reached: &Reached)
+/// Adds copies.
+fn add_pieces(bag: &mut Bag, pieces: &[Piece])
+    ensures { length bag.new ≡ length bag.old }
+{
+    for piece in pieces {
+        add(bag, piece.number);
+    }
+}
+
+/// Adds the copies that lie at places of the list.
+fn add_reached(bag: &mut Bag, openings: &[Opening], reached: &Reached)
     ensures { length bag.new ≡ length bag.old }
 {
     for opening in openings {
         if let Some(number) = opening.number {
-            if !reached.has(opening.stands.place) {
-                take(bag, number);
+            if reached.has(opening.stands.place) {
+                add(bag, number);
             }
         }
     }
 }
 
-/// Makes the list anew with everything but a copy of an item, and what lies at places that aren't in it yet.
+/// Makes the list anew with the starting items, the copies that are still to be put, and those that lie at places of
+/// the list.
 fn collect(
     alloc: Global,
     joint: &Joint,
-    but: u32,
+    later: &[Piece],
     openings: &[Opening],
     reached: &mut Reached,
 ) -> Result<(), Memory>
@@ -213,19 +223,19 @@ fn collect(
     // Reading the joint makes known what its type keeps.
     let _ = &joint.slots;
     let placed = Placed::events(alloc, joint)?;
-    let mut bag = Bag::everything(alloc, joint)?;
-    take_unreached(&mut bag, openings, reached);
-    take(&mut bag, but);
+    let mut bag = Bag::starting(alloc, joint)?;
+    add_pieces(&mut bag, later);
+    add_reached(&mut bag, openings, reached);
     reach(joint, &bag, &placed, reached);
     Ok(())
 }
 
-/// The least list with everything but a copy of an item, and with what is put where it lies: that is collected until
-/// nothing more is found, which takes at most a round for each copy that is put, and one more.
+/// The least list with these copies in hand, and with what is put where it lies: that is collected until nothing more is
+/// found, which takes at most a round for each copy that is put, and one more.
 fn reached_with(
     alloc: Global,
     joint: &Joint,
-    but: u32,
+    later: &[Piece],
     openings: &[Opening],
     put: usize,
 ) -> Result<Reached, Memory>
@@ -234,7 +244,7 @@ fn reached_with(
 {
     let mut reached = Reached::new(alloc, joint)?;
     for _ in 0..=put {
-        collect(alloc, joint, but, openings, &mut reached)?;
+        collect(alloc, joint, later, openings, &mut reached)?;
     }
     Ok(reached)
 }
@@ -249,7 +259,8 @@ fn place_all(
     for (index, piece) in pieces.iter().enumerate() {
         let reached = match piece.class {
             Class::Progression => {
-                Some(reached_with(alloc, joint, piece.number, openings, index)?)
+                let later = &pieces[index + 1..];
+                Some(reached_with(alloc, joint, later, openings, index)?)
             }
             _ => None,
         };
@@ -294,16 +305,16 @@ pub(crate) fn plain_try(
     Ok(placement_of(alloc, joint, openings.as_slice()))
 }
 
-/// The first slot whose goal doesn't hold with everything in hand.
-fn unmet(alloc: Global, joint: &Joint) -> Result<Option<u16>, Memory> {
-    Ok(unmet_goal(joint, &reached_with(alloc, joint, u32::MAX, &[], 0)?))
-}
-
-/// How many copies the pools have.
-fn copies(alloc: Global, joint: &Joint) -> u64 {
+/// The copies of all pools.
+fn copies_of(alloc: Global, joint: &Joint) -> Vec<Piece> {
     let mut pieces = Vec::new(alloc);
     push_shuffled(&mut pieces, joint, &mut Words::new(0, 0), &CLASSES);
-    pieces.len() as u64
+    pieces
+}
+
+/// The first slot whose goal doesn't hold with these copies in hand.
+fn unmet(alloc: Global, joint: &Joint, copies: &[Piece]) -> Result<Option<u16>, Memory> {
+    Ok(unmet_goal(joint, &reached_with(alloc, joint, copies, &[], 0)?))
 }
 
 /// The first try's placement, or why there is none: a goal that isn't met, then too little room.
@@ -313,10 +324,11 @@ pub(crate) fn plain_seed(
     seed: u64,
     tries: u64,
 ) -> Result<Seed, GenerateError> {
-    if let Some(slot) = unmet(alloc, joint)? {
+    let copies = copies_of(alloc, joint);
+    if let Some(slot) = unmet(alloc, joint, copies.as_slice())? {
         return Err(GenerateError::NotBeatable { slot });
     }
-    let have = copies(alloc, joint);
+    let have = copies.len() as u64;
     let room = openings_of(alloc, joint).len() as u64;
     if room < have {
         return Err(GenerateError::TooManyItems { have, room });

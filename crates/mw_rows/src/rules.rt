@@ -1,4 +1,4 @@
-ghost use Rattle.std.specs.Prelude.{◌≡◌, ◌<◌, [], ◌∷◌, All};
+ghost use Rattle.std.specs.Prelude.{◌≡◌, ◌<◌, [], ◌∷◌, All, IfOk};
 ghost use Rattle.mw_rules.specs.Rule.{IsWithin, AreWithin};
 ghost use Rattle.mw_rules.specs.Names.{AreNames};
 ghost use Rattle.mw_rules.specs.View.{view, rules_view};
@@ -31,66 +31,66 @@ fn forms_without_lists_answer_at_their_edges(rt: HostRuntime) {
     );
 }
 
-/// A list of two of the items; it has none where memory runs out, and so has that of two rules.
-fn two(alloc: Global, first: u32, second: u32) -> List<u32>
+/// A list of two of the items.
+fn two(alloc: Global, first: u32, second: u32) -> Result<List<u32>, Memory>
     requires { (first < 3) × (second < 3) }
-    ensures { All (λ i. i < 3) result }
+    ensures { IfOk result (All (λ i. i < 3)) }
 {
-    match vec![in alloc; first, second] {
-        Ok(items) => List::from_vec(items),
-        Err(_) => List::new(alloc),
-    }
+    Ok(List::from_vec(vec![in alloc; first, second]?))
 }
 
 /// A list of two rules.
-fn both(alloc: Global, first: Rule, second: Rule) -> List<Rule>
+fn both(alloc: Global, first: Rule, second: Rule) -> Result<List<Rule>, Memory>
     requires { IsWithin 3 2 (view first) × IsWithin 3 2 (view second) }
-    ensures { AreWithin 3 2 (rules_view result) }
+    ensures { IfOk result (λ rules. AreWithin 3 2 (rules_view rules)) }
 {
-    match vec![in alloc; first, second] {
-        Ok(rules) => List::from_vec(rules),
-        Err(_) => List::new(alloc),
-    }
+    Ok(List::from_vec(vec![in alloc; first, second]?))
 }
 
 /// Whether the rules of no items and of two items answer so.
 #[tactic(auto, using(mw_rules::proofs::Views::view_of_has_all, mw_rules::proofs::Views::view_of_has_any, mw_rules::proofs::Views::view_of_count))]
-fn forms_of_items_answer(alloc: Global) -> bool {
-    holds(Rule::HasAll(List::new(alloc)))
-        && !holds(Rule::HasAny(List::new(alloc)))
-        && holds(Rule::HasAll(two(alloc, 1, 2)))
-        && !holds(Rule::HasAll(two(alloc, 1, 0)))
-        && holds(Rule::HasAny(two(alloc, 0, 1)))
-        && !holds(Rule::HasAny(two(alloc, 0, 0)))
-        && holds(Rule::Count {
-            items: two(alloc, 1, 2),
-            at_least: 3,
-        })
-        && !holds(Rule::Count {
-            items: two(alloc, 1, 2),
-            at_least: 4,
-        })
+fn forms_of_items_answer(alloc: Global) -> Result<bool, Memory> {
+    Ok(
+        holds(Rule::HasAll(List::new(alloc)))
+            && !holds(Rule::HasAny(List::new(alloc)))
+            && holds(Rule::HasAll(two(alloc, 1, 2)?))
+            && !holds(Rule::HasAll(two(alloc, 1, 0)?))
+            && holds(Rule::HasAny(two(alloc, 0, 1)?))
+            && !holds(Rule::HasAny(two(alloc, 0, 0)?))
+            && holds(Rule::Count {
+                items: two(alloc, 1, 2)?,
+                at_least: 3,
+            })
+            && !holds(Rule::Count {
+                items: two(alloc, 1, 2)?,
+                at_least: 4,
+            }),
+    )
 }
 
 #[test]
-fn forms_of_items_answer_at_their_edges(rt: HostRuntime) {
-    assert!(rt; forms_of_items_answer(rt.alloc()));
+fn forms_of_items_answer_at_their_edges(rt: HostRuntime) -> Result<(), Fail> {
+    assert!(rt; forms_of_items_answer(rt.alloc())?);
+    Ok(())
 }
 
 /// Whether the rules of no rules and of two rules do.
 #[tactic(auto, using(mw_rules::proofs::Views::view_of_and, mw_rules::proofs::Views::view_of_or, mw_rules::proofs::Views::view_of_always, mw_rules::proofs::Views::view_of_never))]
-fn forms_of_rules_answer(alloc: Global) -> bool {
-    holds(Rule::And(List::new(alloc)))
-        && !holds(Rule::Or(List::new(alloc)))
-        && !holds(Rule::And(both(alloc, Rule::Always, Rule::Never)))
-        && holds(Rule::And(both(alloc, Rule::Always, Rule::Always)))
-        && holds(Rule::Or(both(alloc, Rule::Never, Rule::Always)))
-        && !holds(Rule::Or(both(alloc, Rule::Never, Rule::Never)))
+fn forms_of_rules_answer(alloc: Global) -> Result<bool, Memory> {
+    Ok(
+        holds(Rule::And(List::new(alloc)))
+            && !holds(Rule::Or(List::new(alloc)))
+            && !holds(Rule::And(both(alloc, Rule::Always, Rule::Never)?))
+            && holds(Rule::And(both(alloc, Rule::Always, Rule::Always)?))
+            && holds(Rule::Or(both(alloc, Rule::Never, Rule::Always)?))
+            && !holds(Rule::Or(both(alloc, Rule::Never, Rule::Never)?)),
+    )
 }
 
 #[test]
-fn forms_of_rules_answer_at_their_edges(rt: HostRuntime) {
-    assert!(rt; forms_of_rules_answer(rt.alloc()));
+fn forms_of_rules_answer_at_their_edges(rt: HostRuntime) -> Result<(), Fail> {
+    assert!(rt; forms_of_rules_answer(rt.alloc())?);
+    Ok(())
 }
 
 /// Whether the rule holds where there is nothing, counted.
@@ -148,16 +148,16 @@ impl Ruling for OneRule {
 
 /// A rule that names items 2 and 0, item 2 again, and place 1.
 #[tactic(auto, using(mw_rules::proofs::Views::view_of_has_all, mw_rules::proofs::Views::view_of_has, mw_rules::proofs::Views::view_of_can_reach, mw_rules::proofs::Views::view_of_and))]
-fn naming_rule(alloc: Global) -> Rule {
-    let all = Rule::HasAll(two(alloc, 2, 0));
+fn naming_rule(alloc: Global) -> Result<Rule, Memory> {
+    let all = Rule::HasAll(two(alloc, 2, 0)?);
     let has = Rule::Has { item: 2, count: 3 };
-    let inner = Rule::And(both(alloc, has, Rule::CanReach { place: 1 }));
-    Rule::Or(both(alloc, all, inner))
+    let inner = Rule::And(both(alloc, has, Rule::CanReach { place: 1 })?);
+    Ok(Rule::Or(both(alloc, all, inner)?))
 }
 
 /// That rule with what it names.
 fn one_rule(alloc: Global) -> Result<OneRule, Memory> {
-    let rule = naming_rule(alloc);
+    let rule = naming_rule(alloc)?;
     let named = Named::of(alloc, &rule)?;
     Ok(OneRule { rule, named })
 }

@@ -23,7 +23,7 @@ loop-name-preserved c =
       writable = λ can.
           let so_far = c.loop-name.invariant.writable can in
           let rest = subst (λ fs. FieldsAreWritable (map (λ f. f.1) fs)) front so_far.1 in
-          (rw c.in_ok-put.ensures (one_member_more _ _ _ so_far.0 (c.in_ok-value.ensures.writable rest.0)), rest.1);
+          (rw c.in_ok-put.ensures (one_member_more _ _ so_far.0 (c.in_ok-value.ensures.writable rest.0)), rest.1);
     }
 
 pub returns-clause-value : goal.returns-clause-value

@@ -3,13 +3,13 @@ use Rattle.mw_records.specs.Records.{record_view, hint_view}
 use Rattle.mw_room.proofs.HintEffects.{scouts_effect}
 use Rattle.mw_room.proofs.hinting.scouting.Goals as goal
 
-pub returns : goal.returns
-returns c =
+pub returns-in-Ok-Ok-Ok : goal.returns-in-Ok-Ok-Ok
+returns-in-Ok-Ok-Ok c =
     let s = c.args.standing.now in
     let m = c.args.member.now in
     let e = c.hinted.result in
     let known = c.in_ok-known.known in
-    let records : map record_view c.in_ok-records.records ≡ map hint_view c.in_ok-hints.hints = c.in_ok-records.ensures ∙ ap (map hint_view) c.as_slice-3.ensures in
+    let records : map record_view c.in-Ok-Ok-Ok.records ≡ map hint_view c.in_ok-hints.hints = c.in-Ok-Ok-Ok.ensures-1 ∙ ap (map hint_view) c.as_slice-3.ensures in
     scouts_effect e s m c.args.scouts.now.locations c.args.scouts.now.create_as_hint known
     (search rules)
     (ap (map record_view) c.hinted.ensures.records ∙ records ∙ ap (map hint_view) (sym c.hinted.ensures.hints))
