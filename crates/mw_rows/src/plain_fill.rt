@@ -206,20 +206,32 @@ fn add_reached(bag: &mut Bag, openings: &[Opening], reached: &Reached)
     }
 }
 
+/// How many of the copies that are put lie at places of the list.
+fn found_in(openings: &[Opening], reached: &Reached) -> usize {
+    let mut found = 0usize;
+    for opening in openings {
+        if opening.number.is_some() && reached.has(opening.stands.place) {
+            found = found.saturating_add(1);
+        }
+    }
+    found
+}
+
 /// Makes the list anew with the starting items, the copies that are still to be put, and those that lie at places of
-/// the list.
+/// the list, and answers whether more lie there then.
 fn collect(
     alloc: Global,
     joint: &Joint,
     later: &[Piece],
     openings: &[Opening],
     reached: &mut Reached,
-) -> Result<(), Memory>
+) -> Result<bool, Memory>
     requires made { IsMadeFor joint.now reached.old }
     requires rules { KeepsRules joint.now reached.old }
     ensures made { IsMadeFor joint.now reached.new }
     ensures rules { KeepsRules joint.now reached.new }
 {
+    let before = found_in(openings, reached);
     // Reading the joint makes known what its type keeps.
     let _ = &joint.slots;
     let placed = Placed::events(alloc, joint)?;
@@ -227,7 +239,7 @@ fn collect(
     add_pieces(&mut bag, later);
     add_reached(&mut bag, openings, reached);
     reach(joint, &bag, &placed, reached);
-    Ok(())
+    Ok(found_in(openings, reached) > before)
 }
 
 /// The least list with these copies in hand, and with what is put where it lies: that is collected until nothing more is
@@ -243,8 +255,11 @@ fn reached_with(
     ensures rules { IfOk result (KeepsRules joint.now) }
 {
     let mut reached = Reached::new(alloc, joint)?;
+    let mut more = true;
     for _ in 0..=put {
-        collect(alloc, joint, later, openings, &mut reached)?;
+        if more {
+            more = collect(alloc, joint, later, openings, &mut reached)?;
+        }
     }
     Ok(reached)
 }

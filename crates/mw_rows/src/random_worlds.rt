@@ -49,10 +49,18 @@ const WORLD: &str =
 
 const PLAYERS: &str = r#"{"format":"mw-players-1","players":[~players~]}"#;
 
+/// Whether a line's first part is this name.
+fn names(line: &str, name: &str) -> bool {
+    match line.strip_prefix(name) {
+        Some(rest) => rest.starts_with(" | "),
+        None => false,
+    }
+}
+
 /// One of a name's alternatives, by the next word.
 fn chosen(words: &mut Words, name: &str) -> &'static str {
     for line in GRAMMAR.split('\n') {
-        if part(line, 0) == name {
+        if names(line, name) {
             let count = line.split(" | ").count().saturating_sub(1).max(1);
             return part(line, words.next() as usize % count + 1);
         }
