@@ -1,6 +1,6 @@
 -- The asks of a fill, half by half.
 use Rattle.std.proofs.Common.{◌≡◌, ℕ, zero, suc, ◌+◌, ◌-◌, ◌*◌, ◌^◌, ◌≤◌, Bool, false, List, [], ◌∷◌, ◌++◌, All, length, map, take, drop, refl, sym, ap, subst, ◌∙◌, inl, inr, arith, append-nil, take-append-drop}
-use Rattle.std.specs.Prelude.{sum_by}
+use Rattle.std.specs.Prelude.{Result, Ok, Err, IsErrAnd, sum_by}
 use Rattle.std.proofs.Math.Nat.{add-mul, mul-add, mul-div-le}
 use Rattle.std.proofs.lemmas.Bool.{cases_Bool}
 use Rattle.std.proofs.lemmas.List.{drop-drop, drop-map, drop-take, ext_get_or, length-map, length-take, take-map, take-take, take_all}
@@ -17,10 +17,14 @@ use Rattle.mw_reach.specs.declared.reached.Reached.{Reached}
 use Rattle.mw_fill.specs.Copies.{ItemCopy}
 use Rattle.mw_fill.specs.Openings.{Opening}
 use Rattle.mw_fill.specs.Fill.{in_hand, is_reached, FillRun}
-use Rattle.mw_fill.specs.Asks.{AreRun, AreLists, half_way, asks_of_levels, AsksWithin}
+use Rattle.mw_fill.specs.Asks.{AreRun, AreLists, half_way, asks_of_levels, FindsNone, EndsWith, AnswersAt, AsksWhere, AsksWithin}
 use Rattle.mw_fill.specs.Laying.{copy_number, laid_put, laid_number, puts_of, numbers_found, numbers_between, IsLaid, RunsOn, asks_more, asks_of_range, RangeWithin}
 use Rattle.mw_fill.specs.declared.laid.Laid.{Laid}
+use Rattle.mw_fill.specs.Answer.{OnStuck}
+use Rattle.mw_fill.specs.declared.error.FillError.{FillError}
+use Rattle.mw_fill.specs.declared.error.FillError.TheVariants.{Stuck, Memory}
 use Rattle.mw_fill.proofs.Keeping.{least_alike}
+use Rattle.mw_fill.proofs.Trying.{on_stuck, passed_on}
 use Rattle.mw_fill.proofs.Determined.{same_places}
 use Rattle.mw_fill.proofs.Existing.{tables_of, lists_of, there_are_lists}
 
@@ -180,10 +184,10 @@ are_run : (joint : Joint) (openings : List Opening) (copies : List ItemCopy) (la
 are_run joint openings copies laid runs = λ out rest. runs out (subst (λ k. FillRun is_reached joint openings (drop k copies) (puts_of laid) out) (length-map laid laid_put) rest)
 
 -- the asks for the first list, and then those within the whole
-pub whole_within : (joint : Joint) (openings : List Opening) (copies : List ItemCopy) (begin laid : List Laid) (table : Placed) (reached : Reached) (before begun last : ℕ) → begin ≡ [] → IsPlaced joint.slots (events_of joint ++ puts_of begin) table
+pub whole_within : {X : Type 0} (joint : Joint) (openings : List Opening) (copies : List ItemCopy) (begin laid : List Laid) (table : Placed) (reached : Reached) (before begun last : ℕ) → begin ≡ [] → IsPlaced joint.slots (events_of joint ++ puts_of begin) table
     → IsMadeFor joint reached → IsLeast (steps_of joint) (in_hand joint (drop (length copies) copies)) table (places_in reached) → begun ≤ before + asks_allowed (steps_of joint) table (flags_in reached)
-    → All (IsLaid joint.slots) laid → RunsOn joint openings copies laid → RangeWithin joint copies laid (length begin) (length copies) begun last → AsksWithin joint openings copies before last
-whole_within joint openings copies begin laid table reached before begun last none placed made least first each runs within =
+    → All (IsLaid joint.slots) laid → RunsOn joint openings copies laid → RangeWithin joint copies laid (length begin) (length copies) begun last → (result : Result X FillError) → AnswersAt joint openings copies result (puts_of laid) → AsksWithin joint openings copies result before last
+whole_within joint openings copies begin laid table reached before begun last none placed made least first each runs within result ends =
     let events : IsPlaced joint.slots (events_of joint) table = subst (λ ps. IsPlaced joint.slots ps table) (append-nil (events_of joint)) (rw none at placed) in
     let tables = tables_of joint copies laid table reached.work made in
     let lists = lists_of joint copies laid table reached.work made in
@@ -195,10 +199,11 @@ whole_within joint openings copies begin laid table reached before begun last no
       tables,
       lists,
       are_run joint openings copies laid runs,
+      ends,
       are,
       λ levels few.
           let nothing : List Laid = [] in
-          let list = list_there joint copies puts nothing 0 (length copies) table w refl refl (rw none at placed) made.done least in
+          let list = list_there joint copies puts nothing 0 (length copies) table w refl refl (rw none at placed) made.tally.done least in
           let first_list : asks_allowed (steps_of joint) table w ≡ asks_allowed (steps_of joint) (tables 0) (lists 0 (length copies)) =
           first_is joint copies puts tables lists are (length copies) table w list in
           let all : numbers_between copies 0 (length copies) ≡ map copy_number copies = take_all (length copies - 0) (map copy_number copies) (omega (arith, length-map copies copy_number)) in
@@ -207,3 +212,41 @@ whole_within joint openings copies begin laid table reached before begun last no
           subst (λ (ls : List Laid). last ≤ begun + asks_of_range joint copies tables lists levels (length ls) (length copies)) none (within levels puts tables lists (omega (arith, few)) same are) in
           omega (arith, first, first_list, rest, ap (λ ns. levels * asks_naming (steps_of joint) ns) all),
     )
+
+-- ---- answers that are passed on
+
+-- what is known of how a fill ended may be said in other words
+pub asks_where : (P Q : List Put → Type 0) (joint : Joint) (openings : List Opening) (copies : List ItemCopy) (before after : ℕ) → ((puts : List Put) → P puts → Q puts) → AsksWhere P joint openings copies before after → AsksWhere Q joint openings copies before after
+asks_where P Q joint openings copies before after h (inl none) = inl none
+asks_where P Q joint openings copies before after h (inr some) = inr (some.0, some.1, some.2, some.3, h some.0 some.4, some.5, some.6)
+
+-- where each copy was put, whatever is answered
+all_put : {X : Type 0} (joint : Joint) (openings : List Opening) (copies : List ItemCopy) (result : Result X FillError) (puts : List Put) → length puts ≡ length copies → AnswersAt joint openings copies result puts
+all_put joint openings copies (Ok x) puts all = all
+all_put joint openings copies (Err (Stuck slot item)) puts all = inl all
+all_put joint openings copies (Err Memory) puts all = tt
+
+pub asks_all : {X : Type 0} (joint : Joint) (openings : List Opening) (copies : List ItemCopy) (result : Result X FillError) (before after : ℕ) → AsksWhere (λ puts. length puts ≡ length copies) joint openings copies before after → AsksWithin joint openings copies result before after
+asks_all joint openings copies result before after = asks_where (λ puts. length puts ≡ length copies) (AnswersAt joint openings copies result) joint openings copies before after (all_put joint openings copies result)
+
+-- where the same error is answered
+pub asks_passed : {X : Type 0} (joint : Joint) (openings : List Opening) (copies : List ItemCopy) (e : FillError) (result : Result X FillError) (before after : ℕ) → AsksWhere (λ puts. OnStuck e (λ slot item. EndsWith joint openings copies puts)) joint openings copies before after
+    → IsErrAnd result (λ x. x ≡ e) → AsksWithin joint openings copies result before after
+asks_passed joint openings copies e result before after h is =
+    let Ends : List Put → FillError → Type 0 = λ puts x. OnStuck x (λ slot item. EndsWith joint openings copies puts) in
+    asks_where (λ puts. Ends puts e) (AnswersAt joint openings copies result) joint openings copies before after
+    (λ puts ends. passed_on result (λ x. length puts ≡ length copies) (Ends puts) e ends is) h
+
+-- where the next copy found no location, or memory ran out
+pub ends_there : {X : Type 0} (joint : Joint) (openings : List Opening) (copies : List ItemCopy) (laid : List Laid) (e : FillError) (result : Result X FillError) → OnStuck e (λ slot item. FindsNone joint openings (drop (length laid) copies) (puts_of laid))
+    → IsErrAnd result (λ x. x ≡ e) → AnswersAt joint openings copies result (puts_of laid)
+ends_there joint openings copies laid e result none is =
+    let there : OnStuck e (λ slot item. EndsWith joint openings copies (puts_of laid)) =
+    on_stuck e (λ slot item. FindsNone joint openings (drop (length laid) copies) (puts_of laid)) (λ slot item. EndsWith joint openings copies (puts_of laid))
+    (λ slot item found. inr (subst (λ n. FindsNone joint openings (drop n copies) (puts_of laid)) (sym (length-map laid laid_put)) found)) none in
+    passed_on result (λ x. length (puts_of laid) ≡ length copies) (λ x. OnStuck x (λ slot item. EndsWith joint openings copies (puts_of laid))) e there is
+
+-- of lists that are the same
+pub asks_alike : {X : Type 0} (joint : Joint) (openings other : List Opening) (copies more : List ItemCopy) (result : Result X FillError) (before after : ℕ) → openings ≡ other → copies ≡ more → AsksWithin joint openings copies result before after → AsksWithin joint other more result before after
+asks_alike joint openings other copies more result before after s c h =
+    subst (λ os. AsksWithin joint os more result before after) s (subst (λ cs. AsksWithin joint openings cs result before after) c h)

@@ -13,7 +13,7 @@ use Rattle.mw_multi.specs.Events.{events_of}
 use Rattle.mw_multi.proofs.Counts.{start_bound}
 use Rattle.mw_multi.proofs.Few.{events_are_few}
 use Rattle.mw_reach.specs.Reach.{Placed, IsLeast}
-use Rattle.mw_reach.specs.GoingOn.{IsSettled}
+use Rattle.mw_reach.specs.GoingOn.{IsFinished}
 use Rattle.mw_reach.specs.Reached.{IsPlacedFor}
 use Rattle.mw_reach.proofs.Found.{found-le}
 use Rattle.mw_reach.proofs.Placing.{placed_for, placed-le}
@@ -22,6 +22,7 @@ use Rattle.mw_fill.specs.Copies.{ItemCopy, has_number}
 use Rattle.mw_fill.specs.Openings.{Opening, accepts}
 use Rattle.mw_fill.specs.Fill.{filled, stuck_with, put_of, first_fit, in_hand, is_reached, FillRun}
 use Rattle.mw_fill.specs.Kept.{CopyKept, IsCounted, OpeningKept, IsHeldFor}
+use Rattle.mw_fill.specs.Asks.{FindsNone}
 use Rattle.mw_fill.specs.Laying.{copy_number, laid_put, laid_number, puts_of, IsLaid, AreLaid}
 use Rattle.mw_fill.specs.declared.laid.Laid.{Laid}
 use Rattle.mw_fill.proofs.Fitting.{find_all}
@@ -35,7 +36,7 @@ none_in_hand joint copies bag to h start i = let none : drop to copies ≡ [] = 
 
 -- the list that a fill begins with
 pub first_list : (joint : Joint) (copies : List ItemCopy) (bag : List ℕ) (table : Placed) (done : List Bool) (counts : List ℕ) → IsBagOf joint.slots (start_count joint.slots) bag
-    → IsSettled (steps_of joint) (bag_of bag) table done counts → IsSettled (steps_of joint) (in_hand joint (drop (length copies) copies)) table done counts
+    → IsFinished (steps_of joint) (bag_of bag) table done counts → IsFinished (steps_of joint) (in_hand joint (drop (length copies) copies)) table done counts
 first_list joint copies bag table done counts start settled =
     settled_alike (steps_of joint) (bag_of bag) (in_hand joint (drop (length copies) copies)) table table done counts (λ v i. omega (arith, none_in_hand joint copies bag (length copies) (omega arith) start i)) settled
 
@@ -44,7 +45,7 @@ module _ (joint : Joint) (kept : IsJoint joint) (puts : List Put) (table : Place
   table_few = omega (arith, placed-le joint.slots (events_of joint ++ puts) table placed, length-append (events_of joint) puts, events_are_few joint kept)
 
   -- no item is in hand and at the places of the list more often than there are items
-  pub counts_few : (copies : List ItemCopy) (to : ℕ) (done : List Bool) (counts : List ℕ) → IsSettled (steps_of joint) (in_hand joint (drop to copies)) table done counts
+  pub counts_few : (copies : List ItemCopy) (to : ℕ) (done : List Bool) (counts : List ℕ) → IsFinished (steps_of joint) (in_hand joint (drop to copies)) table done counts
       → (i : ℕ) → bag_of counts i ≤ 462144 + length copies + length puts
   counts_few copies to done counts settled i =
       omega (
@@ -91,6 +92,10 @@ module _ (joint : Joint) (kept : IsJoint joint) (openings : List Opening) (copie
     pub stuck_here : first_fit (λ s. accepts copy s && w s.place) (puts_of laid) openings ≡ None → FillRun is_reached joint openings copies [] (stuck_with copy)
     stuck_here e = so_far.runs (stuck_with copy) (rw rest_is (table, w, so_far.table_is, least, rw e refl))
 
+    -- the next copy finds no location
+    pub none_here : first_fit (λ s. accepts copy s && w s.place) (puts_of laid) openings ≡ None → FindsNone joint openings (drop (length laid) copies) (puts_of laid)
+    none_here e = (copy, drop (length laid + 1) copies, table, w, rest_is, so_far.table_is, least, e)
+
     pub one_placed : CopyKept joint.slots copy → IsCounted joint.slots copy → All (OpeningKept joint.slots) openings → (opening : Opening) (next : Placed)
         → first_fit (λ s. accepts copy s && w s.place) (puts_of laid) openings ≡ Some opening
         → IsPlaced joint.slots ((events_of joint ++ puts_of laid) ++ put_of copy opening ∷ []) next
@@ -124,9 +129,9 @@ rest_of later slice k from same at = rw (same, at) (take_all (length later - k) 
 -- the list of the second half: where it is one for the copies after it once more is put, it is one after what was put since
 pub half_least : (joint : Joint) (base : Bag) (laid later slice : List Laid) (placed after : Placed) (old back new : List Bool) (old_counts back_counts new_counts : List ℕ)
     → take (length laid) later ≡ laid → slice ≡ drop (length laid) later → old ≡ back → old_counts ≡ back_counts
-    → IsPlaced joint.slots (events_of joint ++ puts_of laid) placed → IsPlaced joint.slots (events_of joint ++ puts_of later) after → IsSettled (steps_of joint) base placed old old_counts
-    → ((base : Bag) (puts : List Put) (before : Placed) → IsPlaced joint.slots puts before → IsPlaced joint.slots (puts ++ puts_of slice) after → IsSettled (steps_of joint) base before back back_counts → IsSettled (steps_of joint) base after new new_counts)
-    → IsSettled (steps_of joint) base after new new_counts
+    → IsPlaced joint.slots (events_of joint ++ puts_of laid) placed → IsPlaced joint.slots (events_of joint ++ puts_of later) after → IsFinished (steps_of joint) base placed old old_counts
+    → ((base : Bag) (puts : List Put) (before : Placed) → IsPlaced joint.slots puts before → IsPlaced joint.slots (puts ++ puts_of slice) after → IsFinished (steps_of joint) base before back back_counts → IsFinished (steps_of joint) base after new new_counts)
+    → IsFinished (steps_of joint) base after new new_counts
 half_least joint base laid later slice placed after old back new old_counts back_counts new_counts front rest flags counts first then settled go_on =
     go_on base (events_of joint ++ puts_of laid) placed first
     (subst (λ ls. IsPlaced joint.slots ((events_of joint ++ puts_of laid) ++ puts_of ls) after) (sym rest) (since joint laid later after front then))

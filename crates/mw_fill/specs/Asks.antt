@@ -1,16 +1,18 @@
 -- How often rules are asked while copies are put by halves.
-use Rattle.std.specs.Prelude.{ℕ, zero, suc, ◌≡◌, ◌+◌, ◌-◌, ◌*◌, ◌/◌, ◌^◌, ◌≤◌, ◌⊎◌, List, [], ◌++◌, Bool, drop, length, map, take}
-use Rattle.mw_rules.specs.Holds.{places_of}
+use Rattle.std.specs.Prelude.{ℕ, zero, suc, ◌≡◌, ◌+◌, ◌-◌, ◌*◌, ◌/◌, ◌^◌, ◌≤◌, ◌⊎◌, List, [], ◌∷◌, ◌++◌, None, Bool, Result, MatchResult, drop, length, map, take}
+use Rattle.mw_rules.specs.Holds.{Places, places_of}
 use Rattle.mw_multi.specs.Joint.{Joint, place_total}
 use Rattle.mw_multi.specs.Steps.{steps_of}
 use Rattle.mw_multi.specs.Placement.{Put, IsPlaced}
 use Rattle.mw_multi.specs.Events.{events_of}
-use Rattle.mw_reach.specs.Reach.{Placed, IsLeast}
+use Rattle.mw_reach.specs.Reach.{Placed, bag_with, IsLeast}
 use Rattle.mw_reach.specs.Bound.{asks_allowed, asks_naming, asks_at, new_in}
 use Rattle.mw_fill.specs.Copies.{ItemCopy}
 use Rattle.mw_fill.specs.Openings.{Opening, regular}
-use Rattle.mw_fill.specs.Fill.{Outcome, in_hand, is_reached, FillRun}
+use Rattle.mw_fill.specs.Fill.{Outcome, first_fit, in_hand, is_reached, FillRun}
+use Rattle.mw_fill.specs.Answer.{OnStuck}
 use Rattle.mw_fill.specs.Try.{lists_of}
+use Rattle.mw_fill.specs.declared.error.FillError.{FillError}
 
 -- the first copies were put where the run puts them: what it gives from there on, the whole run gives
 abbrev pub AreRun : Joint → List Opening → List ItemCopy → List Put → Type 0
@@ -60,17 +62,45 @@ asks_of_fill joint copies tables lists levels =
     + (levels * asks_naming (steps_of joint) (all_numbers copies)
     + asks_of_levels joint tables lists levels 0 (length copies))
 
--- no rule was asked between two counts, or no more than in a fill, by as few levels as have room for the copies
-abbrev pub AsksWithin : Joint → List Opening → List ItemCopy → ℕ → ℕ → Type 0
-AsksWithin joint openings copies before after =
+-- the next of these copies finds no location: with the later ones in hand, none that is free and accepts it is reached
+abbrev pub FindsNone : Joint → List Opening → List ItemCopy → List Put → Type 0
+FindsNone joint openings rest puts =
+    (copy : ItemCopy) × (later : List ItemCopy) × (table : Placed) × (w : Places)
+    × (rest ≡ copy ∷ later) × IsPlaced joint.slots (events_of joint ++ puts) table
+    × IsLeast (steps_of joint) (in_hand joint later) table w
+    × (first_fit (is_reached (bag_with (in_hand joint later) table w) w copy) puts openings ≡ None)
+
+-- the run ends with these puts: each copy was put, or the next one finds no location
+abbrev pub EndsWith : Joint → List Opening → List ItemCopy → List Put → Type 0
+EndsWith joint openings copies puts =
+    (length puts ≡ length copies) ⊎ FindsNone joint openings (drop (length puts) copies) puts
+
+-- by what is answered: each copy was put; or, where a copy found no location, the run ends with these puts; where memory ran
+-- out it may end later
+abbrev pub AnswersAt : {X : Type 0} → Joint → List Opening → List ItemCopy → Result X FillError
+    → List Put → Type 0
+AnswersAt joint openings copies result puts = MatchResult result
+    (λ x. length puts ≡ length copies)
+    (λ e. OnStuck e (λ slot item. EndsWith joint openings copies puts))
+
+-- no rule was asked between two counts, or no more than in a fill whose first copies were put so, by as few levels as have
+-- room for the copies
+abbrev pub AsksWhere : (List Put → Type 0) → Joint → List Opening → List ItemCopy → ℕ → ℕ → Type 0
+AsksWhere Ends joint openings copies before after =
     (after ≡ before)
     ⊎ ((puts : List Put) × (tables : ℕ → Placed) × (lists : ℕ → ℕ → List Bool)
-    × AreRun joint openings copies puts × AreLists joint copies puts tables lists
+    × AreRun joint openings copies puts × Ends puts × AreLists joint copies puts tables lists
     × ((levels : ℕ) → length copies ≤ 2 ^ levels
     → after ≤ before + asks_of_fill joint copies tables lists levels))
 
+-- no more than in a fill that ends as the answer says
+abbrev pub AsksWithin : {X : Type 0} → Joint → List Opening → List ItemCopy → Result X FillError
+    → ℕ → ℕ → Type 0
+AsksWithin joint openings copies result before after =
+    AsksWhere (AnswersAt joint openings copies result) joint openings copies before after
+
 -- the same for the try with this number
-abbrev pub TryAsksWithin : Joint → ℕ → ℕ → ℕ → ℕ → Type 0
-TryAsksWithin joint seed stream before after =
+abbrev pub TryAsksWithin : {X : Type 0} → Joint → ℕ → ℕ → Result X FillError → ℕ → ℕ → Type 0
+TryAsksWithin joint seed stream result before after =
     AsksWithin joint (regular (lists_of joint seed stream).openings)
-    (lists_of joint seed stream).asked before after
+    (lists_of joint seed stream).asked result before after

@@ -1,11 +1,11 @@
-ghost use Rattle.std.specs.Prelude.{◌≡◌, ◌≤◌, [], List, All, IfOk, OnOk, MatchResult, drop, length, map, take};
+ghost use Rattle.std.specs.Prelude.{◌≡◌, ◌≤◌, [], List, All, IfOk, IfErr, OnOk, MatchResult, drop, length, map, take};
 ghost use Rattle.mw_multi.specs.Placement as plain;
 ghost use Rattle.mw_multi.specs.Steps.{rule_list};
 ghost use Rattle.mw_reach.specs.Reached.{IsMadeFor, HasLeast};
 ghost use Rattle.mw_fill.specs.Fill.{filled, stuck, in_hand, is_reached, FillRun};
-ghost use Rattle.mw_fill.specs.Asks.{AsksWithin};
+ghost use Rattle.mw_fill.specs.Asks.{AsksWithin, FindsNone};
 ghost use Rattle.mw_fill.specs.Kept.{CopyKept, IsCounted, OpeningKept, IsHeldFor};
-ghost use Rattle.mw_fill.specs.Laying.{copy_number, IsLaid, RunsOn, AreOrdered, IsLaying, IsPast, RangeWithin};
+ghost use Rattle.mw_fill.specs.Laying.{copy_number, IsLaid, RunsOn, AreOrdered, IsLaying, IsPast, RangeWithin, puts_of};
 ghost use Rattle.mw_fill.specs.Answer.{OnStuck};
 
 use crate::error::FillError;
@@ -54,6 +54,9 @@ fn place_range<R: Ruling, L: Ledger>(
         (λ _. IsLaying joint.now order.now.openings.now order.now.copies.now laying.new)
         (λ e. OnStuck e (λ slot item. FillRun is_reached joint.now order.now.openings.now
         order.now.copies.now [] (stuck slot item))) }
+    ensures none { IfErr result (λ e. OnStuck e (λ slot item. FindsNone joint.now
+        order.now.openings.now (drop (length laying.new.laid) order.now.copies.now)
+        (puts_of laying.new.laid))) }
     ensures steps { RangeWithin joint.now order.now.copies.now laying.new.laid
         (length laying.old.laid) to steps.old steps.new }
 {
@@ -109,7 +112,7 @@ pub(crate) fn place_asked<R: Ruling, L: Ledger>(
         × FillRun is_reached joint.now openings.now copies.now [] (filled puts))
         (λ e. OnStuck e (λ slot item. FillRun is_reached joint.now openings.now copies.now []
         (stuck slot item))) }
-    ensures steps { AsksWithin joint.now openings.now copies.now steps.old steps.new }
+    ensures steps { AsksWithin joint.now openings.now copies.now result steps.old steps.new }
 {
     // Reading the joint makes known what its type keeps.
     let _ = &joint.slots;

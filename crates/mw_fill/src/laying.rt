@@ -81,12 +81,13 @@ fn nothing_held(alloc: Global, joint: &Joint) -> Result<Vec<Option<Put>>, Memory
 }
 
 impl Laying {
-    ghost use Rattle.std.specs.Prelude.{◌≡◌, ◌+◌, ◌<◌, List, All, IfOk, OnOk, MatchResult, [], drop, length, take};
+    ghost use Rattle.std.specs.Prelude.{◌≡◌, ◌+◌, ◌<◌, List, All, IfOk, IfErr, OnOk, MatchResult, [], drop, length, take};
     ghost use Rattle.mw_reach.specs.Reached.{HasLeast};
     ghost use Rattle.mw_fill.specs.Copies.{ItemCopy};
     ghost use Rattle.mw_fill.specs.Openings.{Opening};
     ghost use Rattle.mw_fill.specs.Fill.{stuck, in_hand, is_reached, FillRun};
-    ghost use Rattle.mw_fill.specs.Laying.{IsLaid, RunsOn, AreOrdered, IsLaying, IsPast};
+    ghost use Rattle.mw_fill.specs.Asks.{FindsNone};
+    ghost use Rattle.mw_fill.specs.Laying.{puts_of, IsLaid, RunsOn, AreOrdered, IsLaying, IsPast};
     ghost use Rattle.mw_fill.specs.Answer.{OnStuck};
 
     /// The events alone; `Memory` where memory ran out.
@@ -132,6 +133,9 @@ impl Laying {
             (λ _. IsLaying joint.now order.now.openings.now order.now.copies.now self.new)
             (λ e. OnStuck e (λ slot item. FillRun is_reached joint.now order.now.openings.now
             order.now.copies.now [] (stuck slot item))) }
+        ensures none { IfErr result (λ e. OnStuck e (λ slot item. FindsNone joint.now
+            order.now.openings.now (drop (length self.new.laid) order.now.copies.now)
+            (puts_of self.new.laid))) }
     {
         // Reading the joint makes known what its type keeps.
         let _ = &joint.slots;

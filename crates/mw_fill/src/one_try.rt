@@ -66,8 +66,8 @@ fn place_all<R: Ruling, L: Ledger>(
         (λ held. (puts : List plain.Put) × IsHeldFor joint.now puts held.items
         × IsOutcome joint.now lists.now (filled puts))
         (λ e. OnStuck e (λ slot item. IsOutcome joint.now lists.now (stuck slot item))) }
-    ensures steps { AsksWithin joint.now (regular_of lists.now.openings) lists.now.asked steps.old
-        steps.new }
+    ensures steps { AsksWithin joint.now (regular_of lists.now.openings) lists.now.asked result
+        steps.old steps.new }
 {
     let places = regular(alloc, lists.openings.as_slice())?;
     let places = places.as_slice();
@@ -97,8 +97,8 @@ fn place_lists<R: Ruling, L: Ledger>(
         × (placement ≡ placement_of joint.now puts))
         (λ e. OnStuck e (λ slot item. IsOutcome joint.now lists.now (stuck slot item))) }
     ensures placement { IfOk result (IsPlacement joint.now) }
-    ensures steps { AsksWithin joint.now (regular_of lists.now.openings) lists.now.asked steps.old
-        steps.new }
+    ensures steps { AsksWithin joint.now (regular_of lists.now.openings) lists.now.asked result
+        steps.old steps.new }
 {
     // Reading the joint makes known what its type keeps.
     let _ = &joint.slots;
@@ -127,7 +127,7 @@ pub(crate) fn try_from_stock<R: Ruling, L: Ledger>(
     ensures answer { MatchResult result (IsFilled joint.now seed stream)
         (λ e. OnStuck e (IsStuck joint.now seed stream)) }
     ensures placement { IfOk result (IsPlacement joint.now) }
-    ensures steps { TryAsksWithin joint.now seed stream steps.old steps.new }
+    ensures steps { TryAsksWithin joint.now seed stream result steps.old steps.new }
 {
     let lists = lists_of(alloc, stock, seed, stream)?;
     let openings = stock.openings.as_slice();
@@ -149,7 +149,7 @@ pub fn fill_try_counted<R: Ruling, L: Ledger>(
     ensures answer { MatchResult result (IsFilled joint.now seed stream)
         (λ e. OnStuck e (IsStuck joint.now seed stream)) }
     ensures placement { IfOk result (IsPlacement joint.now) }
-    ensures steps { TryAsksWithin joint.now seed stream steps.old steps.new }
+    ensures steps { TryAsksWithin joint.now seed stream result steps.old steps.new }
 {
     let stock = lists::stock_of(alloc, joint)?;
     let mut reached = Reached::new_by(alloc, joint, rules)?;

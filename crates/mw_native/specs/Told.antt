@@ -16,7 +16,7 @@ abbrev pub Post : Type 1
 Post = ℕ → Bor (List ℕ) → Bor (List Bool) → Bool → Type 0
 
 -- it may be called with this number and any counts and flags that the rule is within, and returns whether the rule holds
-pub record Answers (pre : Pre) (post : Post) (number : ℕ) (rule : Rule) : Type 0 where
+pub record AnswersRule (pre : Pre) (post : Post) (number : ℕ) (rule : Rule) : Type 0 where
   pub callable : (counts : Bor (List ℕ)) (places : Bor (List Bool))
       → IsWithin (length counts.now) (length places.now) rule → pre number counts places
   pub answer : (counts : Bor (List ℕ)) (places : Bor (List Bool)) (answer : Bool)
@@ -26,7 +26,7 @@ pub record Answers (pre : Pre) (post : Post) (number : ℕ) (rule : Rule) : Type
 -- the same of each of these rules by its number, the first of which is this one
 abbrev pub AnswersFrom : Pre → Post → ℕ → List Rule → Type 0
 AnswersFrom pre post n [] = Unit {0}
-AnswersFrom pre post n (r ∷ rs) = Answers pre post n r × AnswersFrom pre post (suc n) rs
+AnswersFrom pre post n (r ∷ rs) = AnswersRule pre post n r × AnswersFrom pre post (suc n) rs
 
 -- these are the items and the places that the rule names
 abbrev pub IsNamed : Rule → Named → Type 0

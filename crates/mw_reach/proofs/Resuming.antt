@@ -10,7 +10,7 @@ use Rattle.mw_multi.specs.Steps.{Step}
 use Rattle.mw_multi.specs.Placement.{numbers_at}
 use Rattle.mw_reach.specs.Reach.{Placed, times_in, bag_with, starts_in, is_open}
 use Rattle.mw_reach.specs.Counts.{IsTally}
-use Rattle.mw_reach.specs.GoingOn.{IsSettled, HasMore, HasRoomFor}
+use Rattle.mw_reach.specs.GoingOn.{IsFinished, HasMore, CountsFitWith}
 use Rattle.mw_reach.specs.Tables.{IsWatched, step_at}
 use Rattle.mw_reach.specs.Worklist.{numbers_of, Wakes, IsGoing, IsWorking, steps_at}
 use Rattle.mw_reach.proofs.Among.{not_among_times, among_numbers_of, away_from_item, names_item_shifted}
@@ -20,7 +20,7 @@ use Rattle.mw_reach.proofs.Waking.{Lead-member, Lead-all}
 use Rattle.mw_reach.proofs.Working.{Closed-at}
 
 -- what the walk needs is there with the items more
-pub going_on : (placed : Placed) (done : List Bool) (counts later_counts more : List ℕ) → ((i : ℕ) → bag_of later_counts i ≡ bag_of counts i + times_in i more) → HasRoomFor more placed done counts
+pub going_on : (placed : Placed) (done : List Bool) (counts later_counts more : List ℕ) → ((i : ℕ) → bag_of later_counts i ≡ bag_of counts i + times_in i more) → CountsFitWith more placed done counts
     → (asked : List Step) (bag : Bag) (v : Places) (queue : List ℕ) (last : List Bool) (last_queue : List ℕ) (len : ℕ) → Wakes asked bag v done queue 0 last last_queue len → length last ≡ length done
     → IsGoing placed done later_counts last last_queue len
 going_on placed done counts later_counts more grows room asked bag v queue last last_queue len a same = record {
@@ -46,8 +46,8 @@ module _ (steps : List Step) (origins : List ℕ) (by_place by_item : List (List
       (λ q e. refl))
 
   -- only the steps that name the items are asked, and the work goes on from where it ended
-  pub resumed : (base later : Bag) (before placed : Placed) (queue : List ℕ) (last : List Bool) (last_queue : List ℕ) (len : ℕ) → IsSettled steps base before done counts → HasMore base later before placed (places_of done) more
-      → HasRoomFor more placed done counts → Wakes (steps_at steps (numbers_of by_item more)) (bag_of later_counts) (places_of done) done queue 0 last last_queue len → length last ≡ length done
+  pub resumed : (base later : Bag) (before placed : Placed) (queue : List ℕ) (last : List Bool) (last_queue : List ℕ) (len : ℕ) → IsFinished steps base before done counts → HasMore base later before placed (places_of done) more
+      → CountsFitWith more placed done counts → Wakes (steps_at steps (numbers_of by_item more)) (bag_of later_counts) (places_of done) done queue 0 last last_queue len → length last ≡ length done
       → IsWorking steps later placed done later_counts last last_queue 0 len
   resumed base later before placed queue last last_queue len old more_there room a same =
       let tally : IsTally later placed done later_counts = λ i. omega (arith, grows i, old.tally i, more_there.counts i) in

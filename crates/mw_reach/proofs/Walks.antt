@@ -8,7 +8,7 @@ use Rattle.mw_rules.specs.Laws.{HasNoLess, IsPartOf}
 use Rattle.mw_rules.proofs.Staying.{stays_true}
 use Rattle.mw_multi.specs.Steps.{Step}
 use Rattle.mw_reach.specs.Reach.{Placed, bag_with, starts_in, is_open}
-use Rattle.mw_reach.specs.Counts.{IsTally, HasRoom, outside}
+use Rattle.mw_reach.specs.Counts.{IsTally, CountsFit, outside}
 use Rattle.mw_reach.proofs.Found.{found_more, found_none, found-le}
 
 starts_more : (from : Option ℕ) (v w : Places) → IsPartOf v w → starts_in from v ≡ true → starts_in from w ≡ true
@@ -39,7 +39,7 @@ bag_of-below counts n i h a = elim (cases_lt i (length counts)) [
 -- with no place in the list
 pub record IsBegun (base : List ℕ) (placed : Placed) (places : List Bool) (counts : List ℕ) : Type 0 where
   pub tally : IsTally (bag_of base) placed places counts
-  pub room : HasRoom placed places counts
+  pub room : CountsFit placed places counts
 
 pub at_first : (placed : Placed) (n : ℕ) (base counts : List ℕ) (places : List Bool)
     → places ≡ replicate n false → counts ≡ base → sum_by length placed < 2 ^ 31 → All (λ c. c < 2 ^ 31) base

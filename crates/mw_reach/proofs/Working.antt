@@ -10,7 +10,7 @@ use Rattle.mw_rules.proofs.Naming.{hangs_on_names}
 use Rattle.mw_multi.specs.Steps.{Step}
 use Rattle.mw_reach.specs.Reach.{Placed, times_in, bag_with, starts_in, is_open, Closed, IsLeast}
 use Rattle.mw_reach.specs.Bound.{sum_at, is_at}
-use Rattle.mw_reach.specs.Counts.{IsTally, HasRoom, missing}
+use Rattle.mw_reach.specs.Counts.{IsTally, CountsFit, missing}
 use Rattle.mw_multi.specs.Placement.{numbers_at}
 use Rattle.mw_reach.specs.Tables.{no_step, IsWatched, step_at}
 use Rattle.mw_reach.specs.Split.{IsLeaf, HasTaken}
@@ -284,7 +284,7 @@ shut_at_first steps origins by_place by_item watched bag done none n apart = eli
 -- nothing is done yet, and the steps from nowhere were asked
 pub begun : (steps : List Step) (origins : List ℕ) (by_place by_item : List (List ℕ)) (watched : IsWatched steps origins by_place by_item)
     (base : Bag) (placed : Placed) (done : List Bool) (counts : List ℕ) (listed : List Bool) (queue : List ℕ) (later : List Bool) (later_queue : List ℕ) (len : ℕ)
-    → IsTally base placed done counts → HasRoom placed done counts
+    → IsTally base placed done counts → CountsFit placed done counts
     → ((p : ℕ) → places_of done p ≡ false) → ((p : ℕ) → places_of listed p ≡ false) → missing listed ≡ length later
     → Wakes (steps_at steps origins) (bag_of counts) (places_of done) listed queue 0 later later_queue len
     → IsWorking steps base placed done counts later later_queue 0 len

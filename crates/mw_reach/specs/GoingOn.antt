@@ -7,7 +7,7 @@ use Rattle.mw_reach.specs.Reach.{Placed, times_in, found, bag_with, IsLeast}
 use Rattle.mw_reach.specs.Counts.{IsTally, outside}
 
 -- the least list, and how many of each item there are in the base and at its places
-pub record IsSettled (steps : List Step) (base : Bag) (placed : Placed) (done : List Bool)
+pub record IsFinished (steps : List Step) (base : Bag) (placed : Placed) (done : List Bool)
     (counts : List ℕ) : Type 0 where
   pub least : IsLeast steps base placed (places_of done)
   pub tally : IsTally base placed done counts
@@ -19,6 +19,6 @@ pub record HasMore (base later : Bag) (before placed : Placed) (w : Places) (mor
     pub grows : (v : Places) → HasNoLess (bag_with base before v) (bag_with later placed v)
 
 -- no count gets too large with these items, however many of the other places are added
-abbrev pub HasRoomFor : List ℕ → Placed → List Bool → List ℕ → Type 0
-HasRoomFor more placed places counts =
+abbrev pub CountsFitWith : List ℕ → Placed → List Bool → List ℕ → Type 0
+CountsFitWith more placed places counts =
     (i : ℕ) → bag_of counts i + times_in i more + found placed (outside places) i < 2 ^ 32

@@ -10,3 +10,4 @@ pub mod Split
 pub mod Building
 pub mod Reached
 pub mod Goals
+pub mod Walking

@@ -6,7 +6,7 @@ use Rattle.mw_multi.specs.Joint.{Joint}
 use Rattle.mw_multi.specs.Steps.{Step}
 use Rattle.mw_reach.specs.Reach.{Placed, is_open, Closed}
 use Rattle.mw_reach.specs.Bound.{sum_at}
-use Rattle.mw_reach.specs.Counts.{IsTally, HasRoom, missing}
+use Rattle.mw_reach.specs.Counts.{IsTally, CountsFit, missing}
 use Rattle.mw_reach.specs.Rows.{RowFits, steps_in}
 use Rattle.mw_multi.specs.Placement.{numbers_at}
 use Rattle.mw_reach.specs.Tables.{IsWatched, step_at}
@@ -82,7 +82,7 @@ paid rows placed done = sum_at (cost_at rows placed) 0 done
 -- there is room for the counts and for each place that isn't listed
 pub record IsGoing (placed : Placed) (done : List Bool) (counts : List ℕ) (listed : List Bool)
     (queue : List ℕ) (len : ℕ) : Type 0 where
-  pub room : HasRoom placed done counts
+  pub room : CountsFit placed done counts
   pub entries : AreListed listed queue len
   pub space : len + missing listed ≤ length listed
 
@@ -90,7 +90,7 @@ pub record IsGoing (placed : Placed) (done : List Bool) (counts : List ℕ) (lis
 pub record IsWorking (steps : List Step) (base : Bag) (placed : Placed) (done : List Bool)
     (counts : List ℕ) (listed : List Bool) (queue : List ℕ) (head len : ℕ) : Type 0 where
   pub tally : IsTally base placed done counts
-  pub room : HasRoom placed done counts
+  pub room : CountsFit placed done counts
   pub inside : IsPartOf (places_of done) (places_of listed)
   pub settled : (n : ℕ) → is_open (step_at steps n) (bag_of counts) (places_of done) ≡ true
       → places_of listed (step_at steps n).to ≡ true

@@ -6,6 +6,7 @@ ghost use Rattle.mw_reach.specs.Reached.{IsMadeFor, KeepsRules, counts_in, place
 
 use crate::build::rule_count;
 use crate::reached::Reached;
+use crate::row::RuleOfSlot;
 use crate::worklist::holds;
 use mw_multi::Joint;
 use mw_rules::{Ruling, Steps};
@@ -26,15 +27,16 @@ pub fn unmet_goal_by<R: Ruling, L: Ledger>(
         (places_in reached.now) }
     ensures steps { steps.new ≤ steps.old + length joint.now.slots }
 {
-    let done = reached.work.done.as_slice();
-    let counts = reached.work.counts.as_slice();
     let mut first_rule = 0;
     for (index, slot) in joint.slots.as_slice().iter().enumerate() {
-        let goal = first_rule + rule_count(slot) - 1;
-        if !holds(joint, rules, index as u32, goal, done, counts, steps) {
+        let goal = RuleOfSlot {
+            slot: index as u32,
+            rule: first_rule + rule_count(slot) - 1,
+        };
+        if !holds(joint, rules, goal, &reached.work.tally, steps) {
             return Some(index as u16 + 1);
         }
-        first_rule = goal + 1;
+        first_rule = goal.rule + 1;
     }
     None
 }

@@ -2,102 +2,86 @@ ghost use Rattle.std.specs.Prelude.{◌≡◌, ◌<◌, ◌≤◌, ◌+◌, ℕ,
 ghost use Rattle.mw_rules.specs.Holds.{Bag, places_of};
 ghost use Rattle.mw_rules.specs.Names.{is_among};
 ghost use Rattle.mw_multi.specs.Steps.{rule_list};
-ghost use Rattle.mw_reach.specs.Counts.{LiesWithin};
-ghost use Rattle.mw_reach.specs.Rows.{steps_in};
-ghost use Rattle.mw_reach.specs.Worklist.{AreRows, paid, IsGoing, IsWorking};
-ghost use Rattle.mw_reach.specs.Split.{IsLeaf, HasTaken};
+ghost use Rattle.mw_reach.specs.Split.{IsLeaf};
+ghost use Rattle.mw_reach.specs.Reached.{IsTallyFor, IsFrontierFor};
+ghost use Rattle.mw_reach.specs.Walking.{IsTerrain, CanGoOn, IsWalking, HasLeaves, steps_on, paid_on};
 
-use crate::row::Rows;
-use crate::worklist::{add, wake_items};
-use mw_multi::{Joint, Placed};
+use crate::frontier::Frontier;
+use crate::tally::Tally;
+use crate::terrain::Terrain;
+use crate::worklist::wake_items;
 use mw_rules::{Ruling, Steps};
 use std::sync::ledger::Ledger;
 
 /// Marks a leaf as done where it isn't yet, with what lies there, and asks the steps that name these items.
 #[inline(always)]
 fn take_leaf<R: Ruling, L: Ledger>(
-    joint: &Joint,
-    rules: &R,
-    rows: &Rows,
-    placed: &Placed,
+    terrain: &Terrain<R>,
     leaf: u32,
-    done: &mut [bool],
-    counts: &mut [u32],
-    listed: &mut [bool],
-    queue: &mut [u32],
-    len: usize,
+    tally: &mut Tally,
+    frontier: &mut Frontier,
     steps: &mut Steps<L>,
-) -> usize
-    requires rules { R.stands_for rules.now (rule_list joint.now) }
-    requires rows { AreRows joint.now (length done.old) (length counts.old) rows.now }
-    requires tables { (length listed.old ≡ length done.old) × (length queue.old ≡ length done.old)
-        × (length placed.now ≡ length done.old) }
-    requires items { LiesWithin (length counts.old) placed.now }
-    requires leaf { leaf < length done.old }
-    requires going { IsGoing placed.now done.old counts.old listed.old queue.old len }
-    ensures going { IsGoing placed.now done.new counts.new listed.new queue.new result }
-    ensures longer { len ≤ result }
-    ensures front { (k : ℕ) → k < len → slice_index queue.new k ≡ slice_index queue.old k }
-    ensures steps { steps.new + paid rows.now placed.now done.old ≤ steps.old
-        + paid rows.now placed.now done.new }
-    ensures taken { (base : Bag) (head from : ℕ) → head ≤ len
-        → IsLeaf (steps_in joint.now rows.now) rows.now.by_place from leaf
-        → places_of listed.old from ≡ true → IsWorking (steps_in joint.now rows.now) base placed.now
-        done.old counts.old listed.old queue.old head len → HasTaken
-        (steps_in joint.now rows.now) base placed.now done.new counts.new listed.old listed.new
-        queue.new head result (leaf ∷ []) }
+)
+    requires rules { R.stands_for terrain.now.rules.now (rule_list terrain.now.joint.now) }
+    requires terrain { IsTerrain terrain.now }
+    requires tally { IsTallyFor terrain.now.joint.now tally.old }
+    requires frontier { IsFrontierFor terrain.now.joint.now frontier.old }
+    requires leaf { leaf < length tally.old.done.items }
+    requires going { CanGoOn terrain.now.placed.now tally.old frontier.old }
+    ensures tally { IsTallyFor terrain.now.joint.now tally.new }
+    ensures frontier { IsFrontierFor terrain.now.joint.now frontier.new }
+    ensures going { CanGoOn terrain.now.placed.now tally.new frontier.new }
+    ensures longer { frontier.old.len ≤ frontier.new.len }
+    ensures front { (k : ℕ) → k < frontier.old.len
+        → slice_index frontier.new.queue.items k ≡ slice_index frontier.old.queue.items k }
+    ensures steps { steps.new + paid_on terrain.now tally.old ≤ steps.old
+        + paid_on terrain.now tally.new }
+    ensures taken { (base : Bag) (head from : ℕ) → head ≤ frontier.old.len
+        → IsLeaf (steps_on terrain.now) terrain.now.rows.now.by_place from leaf
+        → places_of frontier.old.listed.items from ≡ true
+        → IsWalking terrain.now base tally.old frontier.old head
+        → HasLeaves terrain.now base tally.new frontier.old frontier.new head (leaf ∷ []) }
 {
-    if done[leaf as usize] {
-        return len;
+    if tally.has(leaf) {
+        return;
     }
-    listed[leaf as usize] = true;
-    add(leaf, placed, done, counts);
-    let items = placed.at(leaf);
-    wake_items(
-        joint, rules, rows, items, done, counts, listed, queue, len, steps,
-    )
+    frontier.listed[leaf as usize] = true;
+    tally.add(leaf, terrain.placed);
+    let items = terrain.placed.at(leaf);
+    wake_items(terrain, items, tally, frontier, steps);
 }
 
 /// Marks the leaves as done, with what lies there, and asks the steps that name these items.
 #[inline(always)]
 pub(crate) fn take_leaves<R: Ruling, L: Ledger>(
-    joint: &Joint,
-    rules: &R,
-    rows: &Rows,
-    placed: &Placed,
+    terrain: &Terrain<R>,
     leaves: &[u32],
-    done: &mut [bool],
-    counts: &mut [u32],
-    listed: &mut [bool],
-    queue: &mut [u32],
-    len: usize,
+    tally: &mut Tally,
+    frontier: &mut Frontier,
     steps: &mut Steps<L>,
-) -> usize
-    requires rules { R.stands_for rules.now (rule_list joint.now) }
-    requires rows { AreRows joint.now (length done.old) (length counts.old) rows.now }
-    requires tables { (length listed.old ≡ length done.old) × (length queue.old ≡ length done.old)
-        × (length placed.now ≡ length done.old) }
-    requires items { LiesWithin (length counts.old) placed.now }
-    requires leaves { All (λ t. t < length done.old) leaves.now }
-    requires going { IsGoing placed.now done.old counts.old listed.old queue.old len }
-    ensures going { IsGoing placed.now done.new counts.new listed.new queue.new result }
-    ensures longer { len ≤ result }
-    ensures front { (k : ℕ) → k < len → slice_index queue.new k ≡ slice_index queue.old k }
-    ensures steps { steps.new + paid rows.now placed.now done.old ≤ steps.old
-        + paid rows.now placed.now done.new }
-    ensures taken { (base : Bag) (head from : ℕ) → head ≤ len
+)
+    requires rules { R.stands_for terrain.now.rules.now (rule_list terrain.now.joint.now) }
+    requires terrain { IsTerrain terrain.now }
+    requires tally { IsTallyFor terrain.now.joint.now tally.old }
+    requires frontier { IsFrontierFor terrain.now.joint.now frontier.old }
+    requires leaves { All (λ t. t < length tally.old.done.items) leaves.now }
+    requires going { CanGoOn terrain.now.placed.now tally.old frontier.old }
+    ensures tally { IsTallyFor terrain.now.joint.now tally.new }
+    ensures frontier { IsFrontierFor terrain.now.joint.now frontier.new }
+    ensures going { CanGoOn terrain.now.placed.now tally.new frontier.new }
+    ensures longer { frontier.old.len ≤ frontier.new.len }
+    ensures front { (k : ℕ) → k < frontier.old.len
+        → slice_index frontier.new.queue.items k ≡ slice_index frontier.old.queue.items k }
+    ensures steps { steps.new + paid_on terrain.now tally.old ≤ steps.old
+        + paid_on terrain.now tally.new }
+    ensures taken { (base : Bag) (head from : ℕ) → head ≤ frontier.old.len
         → ((t : ℕ) → is_among leaves.now t ≡ true
-        → IsLeaf (steps_in joint.now rows.now) rows.now.by_place from t)
-        → places_of listed.old from ≡ true → IsWorking (steps_in joint.now rows.now) base placed.now
-        done.old counts.old listed.old queue.old head len → HasTaken
-        (steps_in joint.now rows.now) base placed.now done.new counts.new listed.old listed.new
-        queue.new head result leaves.now }
+        → IsLeaf (steps_on terrain.now) terrain.now.rows.now.by_place from t)
+        → places_of frontier.old.listed.items from ≡ true
+        → IsWalking terrain.now base tally.old frontier.old head
+        → HasLeaves terrain.now base tally.new frontier.old frontier.new head leaves.now }
 {
-    let mut len = len;
     for &leaf in leaves {
-        len = take_leaf(
-            joint, rules, rows, placed, leaf, done, counts, listed, queue, len, steps,
-        );
+        take_leaf(terrain, leaf, tally, frontier, steps);
     }
-    len
 }

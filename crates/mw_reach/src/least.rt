@@ -6,10 +6,11 @@ ghost use Rattle.mw_multi.specs.Steps.{steps_of, rule_list};
 ghost use Rattle.mw_reach.specs.Reach as plain;
 ghost use Rattle.mw_reach.specs.Reach.{bag_with, IsLeast};
 ghost use Rattle.mw_reach.specs.Bound.{asks_allowed, asks_naming, asks_at, new_in};
-ghost use Rattle.mw_reach.specs.GoingOn.{IsSettled, HasMore, HasRoomFor};
+ghost use Rattle.mw_reach.specs.GoingOn.{IsFinished, HasMore, CountsFitWith};
 ghost use Rattle.mw_reach.specs.Reached.{IsBagFor, IsPlacedFor, IsWorkFor, IsMadeFor, HasLeast, KeepsRules, counts_in, flags_in, places_in};
 
 use crate::reached::Reached;
+use crate::terrain::Terrain;
 use crate::walk::{go_on_rows, reach_rows};
 use crate::work::Work;
 use mw_multi::{Bag, Joint, Placed};
@@ -31,24 +32,20 @@ fn make_least<R: Ruling, L: Ledger>(
     requires placed { IsPlacedFor joint.now placed.now }
     requires into { IsWorkFor joint.now into.old }
     ensures kept { IsWorkFor joint.now into.new }
-    ensures settled { IsSettled (steps_of joint.now) (bag_of base.now) placed.now
-        into.new.done.items into.new.counts.items }
+    ensures finished { IsFinished (steps_of joint.now) (bag_of base.now) placed.now
+        into.new.tally.done.items into.new.tally.counts.items }
     ensures steps { steps.new ≤ steps.old
-        + asks_allowed (steps_of joint.now) placed.now into.new.done.items }
+        + asks_allowed (steps_of joint.now) placed.now into.new.tally.done.items }
 {
-    reach_rows(
+    let terrain = Terrain {
         joint,
         rules,
-        &into.rows,
-        &into.split,
-        base.as_slice(),
+        rows: &into.rows,
+        split: &into.split,
         placed,
-        into.done.as_mut_slice(),
-        into.counts.as_mut_slice(),
-        into.listed.as_mut_slice(),
-        into.queue.as_mut_slice(),
-        steps,
-    );
+    };
+    let base = base.as_slice();
+    reach_rows(&terrain, base, &mut into.tally, &mut into.frontier, steps);
 }
 
 /// Makes `into` the least list of places of the joint that is closed for the base and the placement, and asks these
@@ -155,30 +152,27 @@ fn make_more<R: Ruling, L: Ledger>(
     requires more { All (λ i. i < item_total joint.now.slots) more.now }
     requires placed { IsPlacedFor joint.now placed.now }
     requires into { IsWorkFor joint.now into.old }
-    requires room { HasRoomFor more.now placed.now into.old.done.items into.old.counts.items }
+    requires room { CountsFitWith more.now placed.now into.old.tally.done.items
+        into.old.tally.counts.items }
     ensures kept { IsWorkFor joint.now into.new }
-    ensures settled { (base later : holding.Bag) (before : plain.Placed)
-        → IsSettled (steps_of joint.now) base before into.old.done.items into.old.counts.items
-        → HasMore base later before placed.now (places_of into.old.done.items) more.now
-        → IsSettled (steps_of joint.now) later placed.now into.new.done.items
-        into.new.counts.items }
+    ensures finished { (base later : holding.Bag) (before : plain.Placed)
+        → IsFinished (steps_of joint.now) base before into.old.tally.done.items
+        into.old.tally.counts.items
+        → HasMore base later before placed.now (places_of into.old.tally.done.items) more.now
+        → IsFinished (steps_of joint.now) later placed.now into.new.tally.done.items
+        into.new.tally.counts.items }
     ensures steps { steps.new ≤ steps.old + asks_naming (steps_of joint.now) more.now
         + asks_at (steps_of joint.now) placed.now
-        (new_in into.old.done.items into.new.done.items) }
+        (new_in into.old.tally.done.items into.new.tally.done.items) }
 {
-    go_on_rows(
+    let terrain = Terrain {
         joint,
         rules,
-        &into.rows,
-        &into.split,
-        more,
+        rows: &into.rows,
+        split: &into.split,
         placed,
-        into.done.as_mut_slice(),
-        into.counts.as_mut_slice(),
-        into.listed.as_mut_slice(),
-        into.queue.as_mut_slice(),
-        steps,
-    );
+    };
+    go_on_rows(&terrain, more, &mut into.tally, &mut into.frontier, steps);
 }
 
 /// Goes on from the least list with these items more, each as often as it stands there: in the base, or at places of the
@@ -196,7 +190,7 @@ pub fn go_on_by<R: Ruling, L: Ledger>(
     requires more { All (λ i. i < item_total joint.now.slots) more.now }
     requires placed { IsPlacedFor joint.now placed.now }
     requires into { IsMadeFor joint.now into.old }
-    requires room { HasRoomFor more.now placed.now (flags_in into.old) (counts_in into.old) }
+    requires room { CountsFitWith more.now placed.now (flags_in into.old) (counts_in into.old) }
     ensures kept { IsMadeFor joint.now into.new }
     ensures rules { KeepsRules joint.now into.old → KeepsRules joint.now into.new }
     ensures least { (base later : holding.Bag) (before : plain.Placed)
@@ -223,7 +217,7 @@ fn count_and_go_on<L: Ledger>(
     requires placed { IsPlacedFor joint.now placed.now }
     requires into { IsMadeFor joint.now into.old }
     requires rules { KeepsRules joint.now into.old }
-    requires room { HasRoomFor more.now placed.now (flags_in into.old) (counts_in into.old) }
+    requires room { CountsFitWith more.now placed.now (flags_in into.old) (counts_in into.old) }
     ensures kept { IsMadeFor joint.now into.new }
     ensures rules { KeepsRules joint.now into.new }
     ensures least { (base later : holding.Bag) (before : plain.Placed)
@@ -245,7 +239,7 @@ pub fn go_on(joint: &Joint, more: &[u32], placed: &Placed, into: &mut Reached)
     requires placed { IsPlacedFor joint.now placed.now }
     requires into { IsMadeFor joint.now into.old }
     requires rules { KeepsRules joint.now into.old }
-    requires room { HasRoomFor more.now placed.now (flags_in into.old) (counts_in into.old) }
+    requires room { CountsFitWith more.now placed.now (flags_in into.old) (counts_in into.old) }
     ensures kept { IsMadeFor joint.now into.new }
     ensures rules { KeepsRules joint.now into.new }
     ensures least { (base later : holding.Bag) (before : plain.Placed)

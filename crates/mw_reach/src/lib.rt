@@ -4,6 +4,7 @@
 mod always;
 mod build;
 mod draft;
+mod frontier;
 mod goals;
 mod leaf;
 mod least;
@@ -15,6 +16,8 @@ mod row;
 mod split;
 mod splitting;
 mod table;
+mod tally;
+mod terrain;
 mod walk;
 mod watch;
 mod work;

@@ -1,6 +1,7 @@
+use crate::tally::Tally;
+
 /// The places that were reached at some time, and the counts, to go back to.
 #[derive(Drop)]
 pub struct Mark {
-    pub(crate) done: Vec<bool>,
-    pub(crate) counts: Vec<u32>,
+    pub(crate) tally: Tally,
 }

@@ -1,5 +1,6 @@
 use crate::mark::Mark;
 use crate::prepare::work_of;
+use crate::tally::Tally;
 use crate::work::Work;
 use mw_base::Memory;
 use mw_multi::{Joint, TreeRules};
@@ -20,10 +21,10 @@ impl Drop for Reached {
 }
 
 impl Reached {
-    ghost use Rattle.std.specs.Prelude.{◌≡◌, ℕ, false, IfOk, length};
+    ghost use Rattle.std.specs.Prelude.{◌≡◌, ℕ, false, IfOk};
     ghost use Rattle.mw_multi.specs.Joint.{Joint};
     ghost use Rattle.mw_multi.specs.Steps.{rule_list};
-    ghost use Rattle.mw_reach.specs.Reached.{IsMadeFor, KeepsRules, IsMarkOf, counts_in, flags_in, places_in};
+    ghost use Rattle.mw_reach.specs.Reached.{IsMadeFor, KeepsRules, IsMarkOf, IsAsLarge, places_in};
 
     /// For the joint, with rules of its own as trees; `Memory` where memory ran out. No place is in it yet.
     pub fn new(alloc: Global, joint: &Joint) -> Result<Reached, Memory>
@@ -53,7 +54,7 @@ impl Reached {
     pub fn has(&self, place: u32) -> bool
         ensures { result ≡ places_in self.now place }
     {
-        match self.work.done.get(place as usize) {
+        match self.work.tally.done.get(place as usize) {
             Some(&done) => done,
             None => false,
         }
@@ -63,25 +64,27 @@ impl Reached {
     pub fn mark(&self, alloc: Global) -> Result<Mark, Memory>
         ensures { IfOk result (IsMarkOf self.now) }
     {
-        let done = Vec::from_slice(alloc, self.work.done.as_slice())?;
-        let counts = Vec::from_slice(alloc, self.work.counts.as_slice())?;
-        Ok(Mark { done, counts })
+        let done = Vec::from_slice(alloc, self.work.tally.done.as_slice())?;
+        let counts = Vec::from_slice(alloc, self.work.tally.counts.as_slice())?;
+        let tally = Tally { done, counts };
+        Ok(Mark { tally })
     }
 
     /// Makes the list what it was at a mark.
     pub fn go_back(&mut self, mark: &Mark)
-        requires places { length mark.now.done.items ≡ length (flags_in self.old) }
-        requires items { length mark.now.counts.items ≡ length (counts_in self.old) }
+        requires fits { IsAsLarge self.old mark.now }
         ensures kept { (joint : Joint) → IsMadeFor joint self.old → IsMadeFor joint self.new }
         ensures rules { (joint : Joint) → KeepsRules joint self.old → KeepsRules joint self.new }
         ensures back { IsMarkOf self.new mark.now }
     {
-        let work = &mut self.work;
-        work.done
+        let tally = &mut self.work.tally;
+        tally
+            .done
             .as_mut_slice()
-            .copy_from_slice(mark.done.as_slice());
-        work.counts
+            .copy_from_slice(mark.tally.done.as_slice());
+        tally
+            .counts
             .as_mut_slice()
-            .copy_from_slice(mark.counts.as_slice());
+            .copy_from_slice(mark.tally.counts.as_slice());
     }
 }

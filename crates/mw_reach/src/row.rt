@@ -10,6 +10,15 @@ pub struct Start {
     pub rule: u32,
 }
 
+/// A rule and the slot that owns it, by their numbers.
+#[derive(Clone, Copy)]
+pub struct RuleOfSlot {
+    /// The slot, by its index from 0.
+    pub slot: u32,
+    /// The rule's number over all slots.
+    pub rule: u32,
+}
+
 /// A step into a place. It holds no rule, only the rule's number.
 #[derive(Clone, Copy)]
 pub struct Row {

@@ -1,18 +1,14 @@
+use crate::frontier::Frontier;
 use crate::row::Rows;
 use crate::split::Split;
+use crate::tally::Tally;
 
 /// The rows of a joint, and room to work in.
 pub struct Work {
     pub rows: Rows,
     pub split: Split,
-    /// For each place, whether it is in the list and the rules see it.
-    pub done: Vec<bool>,
-    /// For each place, whether it is in the list or waits for it.
-    pub listed: Vec<bool>,
-    /// The places that wait, in the order in which they were found.
-    pub queue: Vec<u32>,
-    /// For each item, how many there are at the places that are done, and in the base.
-    pub counts: Vec<u32>,
+    pub tally: Tally,
+    pub frontier: Frontier,
 }
 
 /// By hand, so that whoever lets it go calls this, and what it frees is listed once.
@@ -21,10 +17,8 @@ impl Drop for Work {
         let Work {
             rows: _,
             split: _,
-            done: _,
-            listed: _,
-            queue: _,
-            counts: _,
+            tally: _,
+            frontier: _,
         } = self;
     }
 }

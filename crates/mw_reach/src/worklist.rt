@@ -1,340 +1,268 @@
-ghost use Rattle.std.specs.Prelude.{◌≡◌, ◌<◌, ◌≤◌, ◌+◌, ◌^◌, ℕ, [], ◌∷◌, None, false, true, length, All, map, slice_index, slice_set};
+ghost use Rattle.std.specs.Prelude.{◌≡◌, ◌<◌, ◌≤◌, ◌+◌, ℕ, ◌∷◌, [], false, true, length, All, map, slice_index, slice_set};
 ghost use Rattle.mw_rules.specs.Holds.{Bag, Places, bag_of, places_of, holds as rule_holds};
 ghost use Rattle.mw_rules.specs.Rule.{IsWithin};
 ghost use Rattle.mw_rules.specs.Ruling.{rule_at};
-ghost use Rattle.mw_multi.specs.Joint.{Joint, slot_items, slot_places};
+ghost use Rattle.mw_rules.specs.Names.{is_among};
+ghost use Rattle.mw_multi.specs.Joint.{Joint, item_total, place_total, slot_items, slot_places};
 ghost use Rattle.mw_multi.specs.Placement.{numbers_at};
 ghost use Rattle.mw_multi.specs.Steps.{Step, rule_list};
-ghost use Rattle.mw_reach.specs.Reach.{times_in, is_open as step_is_open};
-ghost use Rattle.mw_reach.specs.Counts.{HasRoom, LiesWithin, missing};
-ghost use Rattle.mw_reach.specs.Rows.{RowFits, slot_at, step_of, steps_in};
-ghost use Rattle.mw_rules.specs.Names.{is_among};
-ghost use Rattle.mw_reach.specs.Split.{IsSplit};
-ghost use Rattle.mw_reach.specs.Worklist.{IsOrigin, AreRows, cost_at, paid, steps_at, numbers_of, Wakes, IsGoing, IsWorking};
+ghost use Rattle.mw_reach.specs.Reach.{is_open as step_is_open};
+ghost use Rattle.mw_reach.specs.Counts.{missing};
+ghost use Rattle.mw_reach.specs.Rows.{slot_at, step_of};
+ghost use Rattle.mw_reach.specs.Reached.{IsTallyFor, IsFrontierFor};
+ghost use Rattle.mw_reach.specs.Worklist.{IsOrigin, Wakes, cost_at, steps_at, numbers_of};
+ghost use Rattle.mw_reach.specs.Walking.{IsTerrain, RowStands, HasSpace, HasWoken, CanGoOn, IsWalking, steps_on, paid_on};
 
+use crate::frontier::Frontier;
 use crate::leaf::take_leaves;
-use crate::row::{Row, Rows};
-use crate::split::Split;
-use mw_multi::{Joint, Placed};
+use crate::row::{Row, RuleOfSlot};
+use crate::tally::Tally;
+use crate::terrain::Terrain;
+use mw_multi::Joint;
 use mw_rules::{Ruling, Steps};
 use std::sync::ledger::Ledger;
-
-/// Counts each of the items once more.
-#[inline(always)]
-pub(crate) fn count_items(items: &[u32], counts: &mut [u32])
-    requires items { All (λ i. i < length counts.old) items.now }
-    requires room { (i : ℕ) → bag_of counts.old i + times_in i items.now < 2 ^ 32 }
-    ensures { (i : ℕ) → bag_of counts.new i ≡ bag_of counts.old i + times_in i items.now }
-{
-    for &item in items {
-        counts[item as usize] += 1;
-    }
-}
-
-/// Adds a place that isn't in the list, and what lies there.
-#[inline(always)]
-pub(crate) fn add(place: u32, placed: &Placed, done: &mut [bool], counts: &mut [u32])
-    requires place { place < length done.old }
-    requires placed { length placed.now ≡ length done.old }
-    requires items { LiesWithin (length counts.old) placed.now }
-    requires new { places_of done.old place ≡ false }
-    requires room { HasRoom placed.now done.old counts.old }
-    ensures place { done.new ≡ slice_set done.old place true }
-    ensures counts { (i : ℕ) → bag_of counts.new i ≡ bag_of counts.old i
-        + times_in i (numbers_at placed.now place) }
-{
-    done[place as usize] = true;
-    count_items(placed.at(place), counts);
-}
 
 /// Whether a rule of a slot holds for the slot's places that are done and for the counts of its items.
 #[inline(always)]
 pub(crate) fn holds<R: Ruling, L: Ledger>(
     joint: &Joint,
     rules: &R,
-    slot: u32,
-    rule: u32,
-    done: &[bool],
-    counts: &[u32],
+    asked: RuleOfSlot,
+    tally: &Tally,
     steps: &mut Steps<L>,
 ) -> bool
     requires rules { R.stands_for rules.now (rule_list joint.now) }
-    requires slot { slot < length joint.now.slots }
-    requires rule { rule < length (rule_list joint.now) }
-    requires places { (slot_at joint.now slot).first_place + slot_places (slot_at joint.now slot)
-        ≤ length done.now }
-    requires items { (slot_at joint.now slot).first_item + slot_items (slot_at joint.now slot)
-        ≤ length counts.now }
-    requires within { IsWithin (slot_items (slot_at joint.now slot))
-        (slot_places (slot_at joint.now slot)) (rule_at (rule_list joint.now) rule) }
+    requires tally { IsTallyFor joint.now tally.now }
+    requires slot { asked.slot < length joint.now.slots }
+    requires rule { asked.rule < length (rule_list joint.now) }
+    requires places { (slot_at joint.now asked.slot).first_place
+        + slot_places (slot_at joint.now asked.slot) ≤ place_total joint.now.slots }
+    requires items { (slot_at joint.now asked.slot).first_item
+        + slot_items (slot_at joint.now asked.slot) ≤ item_total joint.now.slots }
+    requires within { IsWithin (slot_items (slot_at joint.now asked.slot))
+        (slot_places (slot_at joint.now asked.slot)) (rule_at (rule_list joint.now) asked.rule) }
     ensures steps { steps.new ≡ steps.old + 1 }
-    ensures answer { result ≡ rule_holds (rule_at (rule_list joint.now) rule)
-        (λ i. bag_of counts.now ((slot_at joint.now slot).first_item + i))
-        (λ p. places_of done.now ((slot_at joint.now slot).first_place + p)) }
+    ensures answer { result ≡ rule_holds (rule_at (rule_list joint.now) asked.rule)
+        (λ i. bag_of tally.now.counts.items ((slot_at joint.now asked.slot).first_item + i))
+        (λ p. places_of tally.now.done.items ((slot_at joint.now asked.slot).first_place + p)) }
 {
-    let slot = &joint.slots.as_slice()[slot as usize];
+    let slot = &joint.slots.as_slice()[asked.slot as usize];
     let world = slot.world;
     let first_place = slot.first_place as usize;
     let first_item = slot.first_item as usize;
+    let done = tally.done.as_slice();
+    let counts = tally.counts.as_slice();
     let own_places = &done[first_place..first_place + world.place_count() as usize];
     let own_counts = &counts[first_item..first_item + world.item_count() as usize];
-    rules.ask(rule, own_counts, own_places, steps)
+    rules.ask(asked.rule, own_counts, own_places, steps)
 }
 
 /// Whether the step may be taken from the places that are done.
 #[inline(always)]
 fn is_open<R: Ruling, L: Ledger>(
-    joint: &Joint,
-    rules: &R,
+    terrain: &Terrain<R>,
     row: &Row,
-    done: &[bool],
-    counts: &[u32],
+    tally: &Tally,
     steps: &mut Steps<L>,
 ) -> bool
-    requires rules { R.stands_for rules.now (rule_list joint.now) }
-    requires row { RowFits joint.now (length done.now) (length counts.now) row.now }
+    requires rules { R.stands_for terrain.now.rules.now (rule_list terrain.now.joint.now) }
+    requires tally { IsTallyFor terrain.now.joint.now tally.now }
+    requires row { RowStands terrain.now row.now }
     ensures steps { steps.new ≤ steps.old + 1 }
-    ensures answer { result ≡ step_is_open (step_of joint.now row.now) (bag_of counts.now)
-        (places_of done.now) }
+    ensures answer { result ≡ step_is_open (step_of terrain.now.joint.now row.now)
+        (bag_of tally.now.counts.items) (places_of tally.now.done.items) }
 {
     match row.start {
         None => true,
         Some(start) => {
-            done[start.from as usize]
-                && holds(joint, rules, row.slot, start.rule, done, counts, steps)
+            let asked = RuleOfSlot {
+                slot: row.slot,
+                rule: start.rule,
+            };
+            tally.has(start.from) && holds(terrain.joint, terrain.rules, asked, tally, steps)
         }
     }
 }
 
-/// Asks a step, lists the place that it leads to where it's open, and gives the queue's new length.
+/// Asks a step, and lists the place that it leads to where it's open.
 #[inline(always)]
 fn ask<R: Ruling, L: Ledger>(
-    joint: &Joint,
-    rules: &R,
+    terrain: &Terrain<R>,
     row: &Row,
-    done: &[bool],
-    counts: &[u32],
-    listed: &mut [bool],
-    queue: &mut [u32],
-    len: usize,
+    tally: &Tally,
+    frontier: &mut Frontier,
     steps: &mut Steps<L>,
-) -> usize
-    requires rules { R.stands_for rules.now (rule_list joint.now) }
-    requires row { RowFits joint.now (length done.now) (length counts.now) row.now }
-    requires tables { (length listed.old ≡ length done.now) × (length queue.old ≡ length done.now) }
-    requires space { len + missing listed.old ≤ length listed.old }
+)
+    requires rules { R.stands_for terrain.now.rules.now (rule_list terrain.now.joint.now) }
+    requires tally { IsTallyFor terrain.now.joint.now tally.now }
+    requires row { RowStands terrain.now row.now }
+    requires frontier { IsFrontierFor terrain.now.joint.now frontier.old }
+    requires space { HasSpace frontier.old }
+    ensures frontier { IsFrontierFor terrain.now.joint.now frontier.new }
     ensures steps { steps.new ≤ steps.old + 1 }
-    ensures woken { Wakes (step_of joint.now row.now ∷ []) (bag_of counts.now)
-        (places_of done.now) listed.old queue.old len listed.new queue.new result }
+    ensures woken { HasWoken (step_of terrain.now.joint.now row.now ∷ []) tally.now frontier.old
+        frontier.new }
 {
-    let to = row.to as usize;
-    if listed[to] || !is_open(joint, rules, row, done, counts, steps) {
-        return len;
+    if frontier.has(row.to) || !is_open(terrain, row, tally, steps) {
+        return;
     }
-    listed[to] = true;
-    queue[len] = row.to;
-    len + 1
+    frontier.list(row.to);
 }
 
 /// Asks the steps with these numbers.
 fn wake<R: Ruling, L: Ledger>(
-    joint: &Joint,
-    rules: &R,
-    rows: &[Row],
+    terrain: &Terrain<R>,
     numbers: &[u32],
-    done: &[bool],
-    counts: &[u32],
-    listed: &mut [bool],
-    queue: &mut [u32],
-    len: usize,
+    tally: &Tally,
+    frontier: &mut Frontier,
     steps: &mut Steps<L>,
-) -> usize
-    requires rules { R.stands_for rules.now (rule_list joint.now) }
-    requires rows { All (RowFits joint.now (length done.now) (length counts.now)) rows.now }
-    requires numbers { All (λ n. n < length rows.now) numbers.now }
-    requires tables { (length listed.old ≡ length done.now) × (length queue.old ≡ length done.now) }
-    requires space { len + missing listed.old ≤ length listed.old }
+)
+    requires rules { R.stands_for terrain.now.rules.now (rule_list terrain.now.joint.now) }
+    requires rows { All (RowStands terrain.now) terrain.now.rows.now.rows }
+    requires numbers { All (λ n. n < length terrain.now.rows.now.rows) numbers.now }
+    requires tally { IsTallyFor terrain.now.joint.now tally.now }
+    requires frontier { IsFrontierFor terrain.now.joint.now frontier.old }
+    requires space { HasSpace frontier.old }
+    ensures frontier { IsFrontierFor terrain.now.joint.now frontier.new }
     ensures steps { steps.new ≤ steps.old + length numbers.now }
-    ensures woken { Wakes (steps_at (map (step_of joint.now) rows.now) numbers.now)
-        (bag_of counts.now) (places_of done.now) listed.old queue.old len listed.new queue.new
-        result }
+    ensures woken { HasWoken (steps_at (steps_on terrain.now) numbers.now) tally.now frontier.old
+        frontier.new }
 {
-    let mut len = len;
+    let rows = terrain.rows.rows.as_slice();
     for &number in numbers {
-        len = ask(
-            joint,
-            rules,
-            &rows[number as usize],
-            done,
-            counts,
-            listed,
-            queue,
-            len,
-            steps,
-        );
+        ask(terrain, &rows[number as usize], tally, frontier, steps);
     }
-    len
 }
 
 /// Asks the steps that name these items, item by item.
 #[inline(always)]
 pub(crate) fn wake_items<R: Ruling, L: Ledger>(
-    joint: &Joint,
-    rules: &R,
-    rows: &Rows,
+    terrain: &Terrain<R>,
     items: &[u32],
-    done: &[bool],
-    counts: &[u32],
-    listed: &mut [bool],
-    queue: &mut [u32],
-    len: usize,
+    tally: &Tally,
+    frontier: &mut Frontier,
     steps: &mut Steps<L>,
-) -> usize
-    requires rules { R.stands_for rules.now (rule_list joint.now) }
-    requires rows { AreRows joint.now (length done.now) (length counts.now) rows.now }
-    requires items { All (λ i. i < length counts.now) items.now }
-    requires tables { (length listed.old ≡ length done.now) × (length queue.old ≡ length done.now) }
-    requires space { len + missing listed.old ≤ length listed.old }
-    ensures steps { steps.new ≤ steps.old + length (numbers_of rows.now.by_item items.now) }
-    ensures woken { Wakes (steps_at (steps_in joint.now rows.now)
-        (numbers_of rows.now.by_item items.now)) (bag_of counts.now)
-        (places_of done.now) listed.old queue.old len listed.new queue.new result }
+)
+    requires rules { R.stands_for terrain.now.rules.now (rule_list terrain.now.joint.now) }
+    requires terrain { IsTerrain terrain.now }
+    requires items { All (λ i. i < item_total terrain.now.joint.now.slots) items.now }
+    requires tally { IsTallyFor terrain.now.joint.now tally.now }
+    requires frontier { IsFrontierFor terrain.now.joint.now frontier.old }
+    requires space { HasSpace frontier.old }
+    ensures frontier { IsFrontierFor terrain.now.joint.now frontier.new }
+    ensures steps { steps.new ≤ steps.old
+        + length (numbers_of terrain.now.rows.now.by_item items.now) }
+    ensures woken { HasWoken (steps_at (steps_on terrain.now)
+        (numbers_of terrain.now.rows.now.by_item items.now)) tally.now frontier.old frontier.new }
 {
-    let mut len = len;
     for &item in items {
-        let table = rows.rows.as_slice();
-        let numbers = rows.by_item.at(item as usize);
-        len = wake(
-            joint, rules, table, numbers, done, counts, listed, queue, len, steps,
-        );
+        let numbers = terrain.rows.by_item.at(item as usize);
+        wake(terrain, numbers, tally, frontier, steps);
     }
-    len
 }
 
 /// Lists the place that a step from nowhere leads to.
-fn list_origin(row: &Row, listed: &mut [bool], queue: &mut [u32], len: usize) -> usize
-    requires to { row.now.to < length listed.old }
-    requires queue { length queue.old ≡ length listed.old }
-    requires space { len + missing listed.old ≤ length listed.old }
-    ensures space { result + missing listed.new ≤ length listed.new }
+fn list_origin(row: &Row, frontier: &mut Frontier)
+    requires to { row.now.to < length frontier.old.listed.items }
+    requires queue { length frontier.old.queue.items ≡ length frontier.old.listed.items }
+    requires space { HasSpace frontier.old }
+    ensures listed { length frontier.new.listed.items ≡ length frontier.old.listed.items }
+    ensures queue { length frontier.new.queue.items ≡ length frontier.old.queue.items }
+    ensures space { HasSpace frontier.new }
     ensures woken { (step : Step) (bag : Bag) (done : Places) → step.to ≡ row.now.to
         → step_is_open step bag done ≡ true
-        → Wakes (step ∷ []) bag done listed.old queue.old len listed.new queue.new result }
+        → Wakes (step ∷ []) bag done frontier.old.listed.items frontier.old.queue.items
+        frontier.old.len frontier.new.listed.items frontier.new.queue.items frontier.new.len }
 {
-    let to = row.to as usize;
-    if listed[to] {
-        return len;
+    if frontier.has(row.to) {
+        return;
     }
-    listed[to] = true;
-    queue[len] = row.to;
-    len + 1
+    frontier.list(row.to);
 }
 
 /// Lists the origins. No rule is asked.
-pub(crate) fn begin(rows: &[Row], origins: &[u32], listed: &mut [bool], queue: &mut [u32]) -> usize
-    requires to { All (λ row. row.to < length listed.old) rows.now }
+pub(crate) fn begin(rows: &[Row], origins: &[u32], frontier: &mut Frontier)
+    requires to { All (λ row. row.to < length frontier.old.listed.items) rows.now }
     requires origins { All (IsOrigin rows.now) origins.now }
-    requires queue { length queue.old ≡ length listed.old }
-    requires space { missing listed.old ≡ length listed.old }
-    ensures { (joint : Joint) (bag : Bag) (done : Places)
-        → Wakes (steps_at (map (step_of joint) rows.now) origins.now) bag done listed.old queue.old
-        0 listed.new queue.new result }
+    requires queue { length frontier.old.queue.items ≡ length frontier.old.listed.items }
+    requires none { frontier.old.len ≡ 0 }
+    requires space { HasSpace frontier.old }
+    ensures listed { length frontier.new.listed.items ≡ length frontier.old.listed.items }
+    ensures queue { length frontier.new.queue.items ≡ length frontier.old.queue.items }
+    ensures woken { (joint : Joint) (bag : Bag) (done : Places)
+        → Wakes (steps_at (map (step_of joint) rows.now) origins.now) bag done
+        frontier.old.listed.items frontier.old.queue.items 0 frontier.new.listed.items
+        frontier.new.queue.items frontier.new.len }
 {
-    let mut len = 0;
     for &number in origins {
-        len = list_origin(&rows[number as usize], listed, queue, len);
+        list_origin(&rows[number as usize], frontier);
     }
-    len
 }
 
 /// Marks a place as done, with what lies there, and asks the steps that this may open. Its leaves are in the list.
 #[inline(always)]
 fn visit<R: Ruling, L: Ledger>(
-    joint: &Joint,
-    rules: &R,
-    rows: &Rows,
-    split: &Split,
-    placed: &Placed,
+    terrain: &Terrain<R>,
     place: u32,
-    done: &mut [bool],
-    counts: &mut [u32],
-    listed: &mut [bool],
-    queue: &mut [u32],
-    len: usize,
+    tally: &mut Tally,
+    frontier: &mut Frontier,
     steps: &mut Steps<L>,
-) -> usize
-    requires rules { R.stands_for rules.now (rule_list joint.now) }
-    requires rows { AreRows joint.now (length done.old) (length counts.old) rows.now }
-    requires split { IsSplit (steps_in joint.now rows.now) rows.now.by_place split.now }
-    requires tables { (length listed.old ≡ length done.old) × (length queue.old ≡ length done.old)
-        × (length placed.now ≡ length done.old) }
-    requires items { LiesWithin (length counts.old) placed.now }
-    requires place { place < length done.old }
-    requires new { places_of done.old place ≡ false }
-    requires going { IsGoing placed.now done.old counts.old listed.old queue.old len }
-    ensures going { IsGoing placed.now done.new counts.new listed.new queue.new result }
-    ensures steps { steps.new ≤ steps.old + cost_at rows.now placed.now place }
-    ensures done { done.new ≡ slice_set done.old place true }
-    ensures working { (base : Bag) (head : ℕ) → head < len → slice_index queue.old head ≡ place
-        → ((t : ℕ) → is_among (numbers_at split.now.leaves place) t ≡ true
-        → places_of listed.old t ≡ true)
-        → IsWorking (steps_in joint.now rows.now) base placed.now done.old counts.old listed.old
-        queue.old head len → IsWorking (steps_in joint.now rows.now) base placed.now done.new
-        counts.new listed.new queue.new (head + 1) result }
+)
+    requires rules { R.stands_for terrain.now.rules.now (rule_list terrain.now.joint.now) }
+    requires terrain { IsTerrain terrain.now }
+    requires tally { IsTallyFor terrain.now.joint.now tally.old }
+    requires frontier { IsFrontierFor terrain.now.joint.now frontier.old }
+    requires place { place < length tally.old.done.items }
+    requires new { places_of tally.old.done.items place ≡ false }
+    requires going { CanGoOn terrain.now.placed.now tally.old frontier.old }
+    ensures tally { IsTallyFor terrain.now.joint.now tally.new }
+    ensures frontier { IsFrontierFor terrain.now.joint.now frontier.new }
+    ensures going { CanGoOn terrain.now.placed.now tally.new frontier.new }
+    ensures steps { steps.new ≤ steps.old
+        + cost_at terrain.now.rows.now terrain.now.placed.now place }
+    ensures done { tally.new.done.items ≡ slice_set tally.old.done.items place true }
+    ensures working { (base : Bag) (head : ℕ) → head < frontier.old.len
+        → slice_index frontier.old.queue.items head ≡ place
+        → ((t : ℕ) → is_among (numbers_at terrain.now.split.now.leaves place) t ≡ true
+        → places_of frontier.old.listed.items t ≡ true)
+        → IsWalking terrain.now base tally.old frontier.old head
+        → IsWalking terrain.now base tally.new frontier.new (head + 1) }
 {
-    add(place, placed, done, counts);
-    let table = rows.rows.as_slice();
-    let numbers = split.asked.at(place as usize);
-    let len = wake(
-        joint, rules, table, numbers, done, counts, listed, queue, len, steps,
-    );
-    let items = placed.at(place);
-    wake_items(
-        joint, rules, rows, items, done, counts, listed, queue, len, steps,
-    )
+    tally.add(place, terrain.placed);
+    let numbers = terrain.split.asked.at(place as usize);
+    wake(terrain, numbers, tally, frontier, steps);
+    let items = terrain.placed.at(place);
+    wake_items(terrain, items, tally, frontier, steps);
 }
 
 /// Takes the next place of the queue, with its leaves.
 #[inline(always)]
 pub(crate) fn take_next<R: Ruling, L: Ledger>(
-    joint: &Joint,
-    rules: &R,
-    rows: &Rows,
-    split: &Split,
-    placed: &Placed,
-    done: &mut [bool],
-    counts: &mut [u32],
-    listed: &mut [bool],
-    queue: &mut [u32],
+    terrain: &Terrain<R>,
     head: usize,
-    len: usize,
+    tally: &mut Tally,
+    frontier: &mut Frontier,
     steps: &mut Steps<L>,
-) -> usize
-    requires rules { R.stands_for rules.now (rule_list joint.now) }
-    requires rows { AreRows joint.now (length done.old) (length counts.old) rows.now }
-    requires split { IsSplit (steps_in joint.now rows.now) rows.now.by_place split.now }
-    requires tables { (length listed.old ≡ length done.old) × (length queue.old ≡ length done.old)
-        × (length placed.now ≡ length done.old) }
-    requires items { LiesWithin (length counts.old) placed.now }
-    requires waits { head < len }
-    requires going { IsGoing placed.now done.old counts.old listed.old queue.old len }
-    ensures going { IsGoing placed.now done.new counts.new listed.new queue.new result }
-    ensures steps { steps.new + paid rows.now placed.now done.old ≤ steps.old
-        + paid rows.now placed.now done.new }
-    ensures working { (base : Bag) → IsWorking
-        (steps_in joint.now rows.now) base placed.now done.old counts.old listed.old queue.old head
-        len → IsWorking (steps_in joint.now rows.now) base placed.now done.new counts.new listed.new
-        queue.new (head + 1) result }
+)
+    requires rules { R.stands_for terrain.now.rules.now (rule_list terrain.now.joint.now) }
+    requires terrain { IsTerrain terrain.now }
+    requires tally { IsTallyFor terrain.now.joint.now tally.old }
+    requires frontier { IsFrontierFor terrain.now.joint.now frontier.old }
+    requires waits { head < frontier.old.len }
+    requires going { CanGoOn terrain.now.placed.now tally.old frontier.old }
+    ensures tally { IsTallyFor terrain.now.joint.now tally.new }
+    ensures frontier { IsFrontierFor terrain.now.joint.now frontier.new }
+    ensures going { CanGoOn terrain.now.placed.now tally.new frontier.new }
+    ensures steps { steps.new + paid_on terrain.now tally.old ≤ steps.old
+        + paid_on terrain.now tally.new }
+    ensures working { (base : Bag) → IsWalking terrain.now base tally.old frontier.old head
+        → IsWalking terrain.now base tally.new frontier.new (head + 1) }
 {
-    let place = queue[head];
-    let leaves = split.leaves.at(place as usize);
-    let len = take_leaves(
-        joint, rules, rows, placed, leaves, done, counts, listed, queue, len, steps,
-    );
-    if done[place as usize] {
-        return len;
+    let place = frontier.place_at(head);
+    let leaves = terrain.split.leaves.at(place as usize);
+    take_leaves(terrain, leaves, tally, frontier, steps);
+    if tally.has(place) {
+        return;
     }
-    visit(
-        joint, rules, rows, split, placed, place, done, counts, listed, queue, len, steps,
-    )
+    visit(terrain, place, tally, frontier, steps);
 }

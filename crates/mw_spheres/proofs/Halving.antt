@@ -7,7 +7,7 @@ use Rattle.mw_multi.specs.Bags.{start_count}
 use Rattle.mw_multi.specs.Joint.{Joint}
 use Rattle.mw_multi.specs.Steps.{steps_of}
 use Rattle.mw_reach.specs.Reach.{Placed, bag_with}
-use Rattle.mw_reach.specs.GoingOn.{IsSettled}
+use Rattle.mw_reach.specs.GoingOn.{IsFinished}
 use Rattle.mw_reach.specs.Goals.{unmet_goal}
 use Rattle.mw_reach.proofs.Beating.{unmet_goal-same}
 use Rattle.mw_spheres.specs.Playthrough.{only}
@@ -84,7 +84,7 @@ none_among false = refl
 
 -- the first goal that is unmet without a place
 pub unmet_without : (joint : Joint) (full table : Placed) (place : ℕ) (kept shown : List Bool) (flags : List Bool) (counts : List ℕ) → ((p : ℕ) → places_of shown p ≡ places_of (set kept place false) p) → table ≡ only shown full
-    → IsSettled (steps_of joint) (start_count joint.slots) table flags counts → (slot : Option ℕ) → slot ≡ unmet_goal joint (bag_of counts) (places_of flags) → IsFirstUnmet joint (only (set kept place false) full) slot
+    → IsFinished (steps_of joint) (start_count joint.slots) table flags counts → (slot : Option ℕ) → slot ≡ unmet_goal joint (bag_of counts) (places_of flags) → IsFirstUnmet joint (only (set kept place false) full) slot
 unmet_without joint full table place kept shown flags counts same is settled slot e =
     let without : table ≡ only (set kept place false) full = is ∙ only-same shown (set kept place false) full same in
     subst (λ t. IsFirstUnmet joint t slot) without record {

@@ -21,7 +21,7 @@ use Rattle.mw_multi.proofs.Few.{with_events_are_few}
 use Rattle.mw_reach.specs.Reach.{Placed, times_in, found, IsLeast}
 use Rattle.mw_reach.specs.Reached.{IsPlacedFor}
 use Rattle.mw_reach.specs.Counts.{outside}
-use Rattle.mw_reach.specs.GoingOn.{IsSettled, HasMore, HasRoomFor}
+use Rattle.mw_reach.specs.GoingOn.{IsFinished, HasMore, CountsFitWith}
 use Rattle.mw_reach.proofs.Found.{found-le}
 use Rattle.mw_reach.proofs.Items.{times_in-append}
 use Rattle.mw_reach.proofs.Placing.{placed-le}
@@ -29,7 +29,7 @@ use Rattle.mw_reach.proofs.Settling.{settled_alike}
 use Rattle.mw_reach.proofs.Walks.{replicate-false}
 use Rattle.mw_spheres.specs.Spots.{spot_place, spots_of, is_listed, table_of, holds_progression, items_at}
 use Rattle.mw_spheres.specs.Spheres.{hand_of, is_due, IsSphere, AreSpheres, listed}
-use Rattle.mw_spheres.specs.Gathering.{HasRoom, Gathered, IsInHand}
+use Rattle.mw_spheres.specs.Gathering.{BagFits, Gathered, IsInHand}
 
 -- ---- tables
 
@@ -53,7 +53,7 @@ nothing_found : (slots : List Slot) (nothing : Placed) (w : Places) (i : ℕ) �
 nothing_found slots nothing w i placed = omega (arith, found-le 0 nothing w i, placed-le slots [] nothing placed)
 
 -- a list that is least with a table of nothing is least with no table
-pub settled_without : (joint : Joint) (bag : List ℕ) (nothing : Placed) (done : List Bool) (counts : List ℕ) → IsPlaced joint.slots [] nothing → IsSettled (steps_of joint) (bag_of bag) nothing done counts → IsSettled (steps_of joint) (bag_of bag) [] done counts
+pub settled_without : (joint : Joint) (bag : List ℕ) (nothing : Placed) (done : List Bool) (counts : List ℕ) → IsPlaced joint.slots [] nothing → IsFinished (steps_of joint) (bag_of bag) nothing done counts → IsFinished (steps_of joint) (bag_of bag) [] done counts
 settled_without joint bag nothing done counts placed settled =
     settled_alike (steps_of joint) (bag_of bag) (bag_of bag) nothing [] done counts (λ v i. omega (arith, nothing_found joint.slots nothing v i placed)) settled
 
@@ -136,7 +136,7 @@ module _ (joint : Joint) (nothing table : Placed) (places : IsPlaced joint.slots
     grows = λ v i. omega (arith, counted i);
   }
 
-  pub room_for : (taken done : List Bool) (counts : List ℕ) → IsSettled (steps_of joint) (bag_of bag) [] done counts → HasRoom table taken later → HasRoomFor items nothing done counts
+  pub room_for : (taken done : List Bool) (counts : List ℕ) → IsFinished (steps_of joint) (bag_of bag) [] done counts → BagFits table taken later → CountsFitWith items nothing done counts
   room_for taken done counts settled room i =
       omega (arith, settled.tally i, counted i, room.room i, nothing_found joint.slots nothing (outside done) i places)
 
@@ -149,7 +149,7 @@ first_hand joint table n taken bag none start = record {
 }
 
 pub first_room : (joint : Joint) (table : Placed) (taken : List Bool) (bag : List ℕ) → IsJoint joint → IsPlacedFor joint table → sum_by length table ≤ 400000 → taken ≡ replicate (place_total joint.slots) false
-    → IsBagOf joint.slots (start_count joint.slots) bag → HasRoom table taken bag
+    → IsBagOf joint.slots (start_count joint.slots) bag → BagFits table taken bag
 first_room joint table taken bag kept placed few none start = record {
   size = ap length none ∙ length-replicate (place_total joint.slots) false ∙ sym placed.size;
   items = rw start.size placed.items;

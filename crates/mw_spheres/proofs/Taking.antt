@@ -17,7 +17,7 @@ use Rattle.mw_reach.proofs.Items.{times_in-append, times_more, times_part}
 use Rattle.mw_reach.proofs.Waking.{missing-set}
 use Rattle.mw_spheres.specs.Spots.{spot_place, is_listed, holds_progression, items_at}
 use Rattle.mw_spheres.specs.Spheres.{is_due}
-use Rattle.mw_spheres.specs.Gathering.{HasRoom, Gathered}
+use Rattle.mw_spheres.specs.Gathering.{BagFits, Gathered}
 
 -- ---- room
 
@@ -31,15 +31,15 @@ room_for_one first counts items k h so_far room =
     omega (arith, so_far j, room j, times_part j items (k + 1))
 
 -- a place is taken with what stands there
-pub room_taken : (table : Placed) (taken : List Bool) (bag later : List ℕ) (p : ℕ) → p < length table → places_of taken p ≡ false → HasRoom table taken bag
-    → length later ≡ length bag → ((i : ℕ) → bag_of later i ≡ bag_of bag i + times_in i (numbers_at table p)) → HasRoom table (set taken p true) later
+pub room_taken : (table : Placed) (taken : List Bool) (bag later : List ℕ) (p : ℕ) → p < length table → places_of taken p ≡ false → BagFits table taken bag
+    → length later ≡ length bag → ((i : ℕ) → bag_of later i ≡ bag_of bag i + times_in i (numbers_at table p)) → BagFits table (set taken p true) later
 room_taken table taken bag later p h new room size counts = record {
   size = length-set taken p true ∙ room.size;
   items = rw size room.items;
   room = λ i. omega (arith, room.room i, counts i, found-Adds p table _ _ i (Adds-outside taken p (omega (arith, room.size)) new));
 }
 
-pub room_at : (table : Placed) (taken : List Bool) (bag : List ℕ) (p : ℕ) → p < length table → places_of taken p ≡ false → HasRoom table taken bag → (i : ℕ) → bag_of bag i + times_in i (numbers_at table p) < 2 ^ 31
+pub room_at : (table : Placed) (taken : List Bool) (bag : List ℕ) (p : ℕ) → p < length table → places_of taken p ≡ false → BagFits table taken bag → (i : ℕ) → bag_of bag i + times_in i (numbers_at table p) < 2 ^ 31
 room_at table taken bag p h new room i = omega (arith, room.room i, found_outside taken p table i (omega (arith, room.size)) new)
 
 -- ---- what is listed

@@ -9,7 +9,7 @@ use Rattle.mw_spheres.specs.Spots.{is_listed, items_at}
 use Rattle.mw_spheres.specs.Spheres.{hand_of, is_due}
 
 -- no count gets too large, however many of the other places are taken
-pub record HasRoom (table : Placed) (taken : List Bool) (bag : List ℕ) : Type 0 where
+pub record BagFits (table : Placed) (taken : List Bool) (bag : List ℕ) : Type 0 where
   pub size : length taken ≡ length table
   pub items : LiesWithin (length bag) table
   pub room : (i : ℕ) → bag_of bag i + found table (outside taken) i < 2 ^ 31

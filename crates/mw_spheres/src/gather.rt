@@ -7,7 +7,7 @@ ghost use Rattle.mw_multi.specs.Placement.{numbers_at};
 ghost use Rattle.mw_reach.specs.Reach.{times_in};
 ghost use Rattle.mw_reach.specs.Reached.{places_in};
 ghost use Rattle.mw_spheres.specs.Spots.{IsSpot, spot_place, slot_spots, holds_progression};
-ghost use Rattle.mw_spheres.specs.Gathering.{HasRoom, Gathered};
+ghost use Rattle.mw_spheres.specs.Gathering.{BagFits, Gathered};
 
 use crate::place::place_of;
 use mw_base::{List, Memory, Spot};
@@ -30,8 +30,8 @@ fn add_items(items: &[u32], bag: &mut Bag)
 fn take(table: &Placed, place: u32, taken: &mut [bool], bag: &mut Bag)
     requires place { place < length table.now }
     requires new { places_of taken.old place ≡ false }
-    requires room { HasRoom table.now taken.old bag.old }
-    ensures room { HasRoom table.now taken.new bag.new }
+    requires room { BagFits table.now taken.old bag.old }
+    ensures room { BagFits table.now taken.new bag.new }
     ensures size { length bag.new ≡ length bag.old }
     ensures taken { taken.new ≡ slice_set taken.old place true }
     ensures counts { (i : ℕ) → bag_of bag.new i ≡ bag_of bag.old i
@@ -63,8 +63,8 @@ fn visit(
 ) -> Result<(), Memory>
     requires spot { IsSpot joint.now.slots spot }
     requires size { length table.now ≡ place_total joint.now.slots }
-    requires room { HasRoom table.now taken.old bag.old }
-    ensures room { HasRoom table.now taken.new bag.new }
+    requires room { BagFits table.now taken.old bag.old }
+    ensures room { BagFits table.now taken.new bag.new }
     ensures size { length bag.new ≡ length bag.old }
     ensures gathered { OnOk result ((first : List Bool) (start : List ℕ) (spots : List plain.Spot)
         (bound : ℕ) → bound ≤ spot_place joint.now.slots spot
@@ -94,8 +94,8 @@ pub(crate) fn visit_slot(
 ) -> Result<(), Memory>
     requires slot { before < length joint.now.slots }
     requires size { length table.now ≡ place_total joint.now.slots }
-    requires room { HasRoom table.now taken.old bag.old }
-    ensures room { HasRoom table.now taken.new bag.new }
+    requires room { BagFits table.now taken.old bag.old }
+    ensures room { BagFits table.now taken.new bag.new }
     ensures size { length bag.new ≡ length bag.old }
     ensures gathered { OnOk result ((s : Slot) (first : List Bool) (start : List ℕ)
         (spots : List plain.Spot) (bound : ℕ) → slice_get joint.now.slots before ≡ Some s

@@ -7,7 +7,7 @@ ghost use Rattle.mw_reach.specs.Reached.{IsBagFor, IsPlacedFor, IsMadeFor, HasLe
 ghost use Rattle.mw_reach.specs.Counts.{missing};
 ghost use Rattle.mw_spheres.specs.Spots.{IsSpot, items_at};
 ghost use Rattle.mw_spheres.specs.Spheres.{IsSphere, AreSpheres, IsSpheres};
-ghost use Rattle.mw_spheres.specs.Gathering.{HasRoom, IsInHand};
+ghost use Rattle.mw_spheres.specs.Gathering.{BagFits, IsInHand};
 
 use crate::gather::visit_slot;
 use crate::place::place_of;
@@ -61,13 +61,13 @@ fn next_sphere(
     requires reached { IsMadeFor joint.now reached.old }
     requires rules { KeepsRules joint.now reached.old }
     requires bag { IsBagFor joint.now bag.old }
-    requires room { HasRoom table.now taken.old bag.old }
+    requires room { BagFits table.now taken.old bag.old }
     requires least { HasLeast joint.now (bag_of bag.old) [] reached.old }
     ensures reached { IsMadeFor joint.now reached.new }
     ensures rules { KeepsRules joint.now reached.new }
     ensures least { OnOk result (HasLeast joint.now (bag_of bag.new) [] reached.new) }
     ensures bag { IsBagFor joint.now bag.new }
-    ensures room { HasRoom table.now taken.new bag.new }
+    ensures room { BagFits table.now taken.new bag.new }
     ensures sphere { IfOk result (λ sphere. (earlier : List plain.Spot)
         → IsInHand joint.now table.now earlier taken.old bag.old
         → IsSphere joint.now table.now earlier sphere) }
@@ -102,7 +102,7 @@ fn spheres_from(
     requires reached { IsMadeFor joint.now reached.old }
     requires rules { KeepsRules joint.now reached.old }
     requires bag { IsBagFor joint.now bag.old }
-    requires room { HasRoom table.now taken.old bag.old }
+    requires room { BagFits table.now taken.old bag.old }
     requires least { HasLeast joint.now (bag_of bag.old) [] reached.old }
     requires hand { IsInHand joint.now table.now [] taken.old bag.old }
     ensures { IfOk result (AreSpheres joint.now table.now []) }

@@ -82,8 +82,8 @@ returns-in_err-place_range-clause-steps g t c levels puts tables lists few same 
     let middle = c.len-from.result + (a.to - c.len-from.result) / 2 in
     let front = front_puts laid c.place_range.new.laying.laid puts c.place_range.ensures.front same in
     first_counted joint copies puts tables lists are (length laid) middle a.to (omega arith) (omega arith) (omega arith) levels (omega arith) few a.laying.now.placed (flags_in a.reached.now) (flags_in c.hold_more.new.reached)
-    (list_there joint copies puts laid (length laid) a.to a.laying.now.placed (flags_in a.reached.now) refl front c.requires.laid.table_is c.requires.made.done c.requires.least.least)
-    (list_there joint copies puts laid (length laid) middle a.laying.now.placed (flags_in c.hold_more.new.reached) refl front c.requires.laid.table_is c.hold_more.ensures.made.done c.hold_more.ensures.least.least)
+    (list_there joint copies puts laid (length laid) a.to a.laying.now.placed (flags_in a.reached.now) refl front c.requires.laid.table_is c.requires.made.tally.done c.requires.least.least)
+    (list_there joint copies puts laid (length laid) middle a.laying.now.placed (flags_in c.hold_more.new.reached) refl front c.requires.laid.table_is c.hold_more.ensures.made.tally.done c.hold_more.ensures.least.least)
     _ _ _ c.hold_more.ensures.steps (λ below fits. c.place_range.ensures.steps below puts tables lists fits same are)
 
 pub returns-in_err-find_from-clause-steps : goal.returns-in_err-find_from-clause-steps
@@ -95,8 +95,8 @@ returns-in_err-find_from-clause-steps g t c levels puts tables lists few same ar
     let middle = c.len-from.result + (a.to - c.len-from.result) / 2 in
     let front = front_puts laid c.place_range.new.laying.laid puts c.in_ok-place_range.ensures.front same in
     first_counted joint copies puts tables lists are (length laid) middle a.to (omega arith) (omega arith) (omega arith) levels (omega arith) few a.laying.now.placed (flags_in a.reached.now) (flags_in c.hold_more.new.reached)
-    (list_there joint copies puts laid (length laid) a.to a.laying.now.placed (flags_in a.reached.now) refl front c.requires.laid.table_is c.requires.made.done c.requires.least.least)
-    (list_there joint copies puts laid (length laid) middle a.laying.now.placed (flags_in c.hold_more.new.reached) refl front c.requires.laid.table_is c.hold_more.ensures.made.done c.hold_more.ensures.least.least)
+    (list_there joint copies puts laid (length laid) a.to a.laying.now.placed (flags_in a.reached.now) refl front c.requires.laid.table_is c.requires.made.tally.done c.requires.least.least)
+    (list_there joint copies puts laid (length laid) middle a.laying.now.placed (flags_in c.hold_more.new.reached) refl front c.requires.laid.table_is c.hold_more.ensures.made.tally.done c.hold_more.ensures.least.least)
     _ _ _ c.hold_more.ensures.steps (λ below fits. omega (arith, c.in_err-find_from.ensures.unasked, c.in_ok-place_range.ensures.steps below puts tables lists fits same are))
 
 pub returns-clause-steps : goal.returns-clause-steps
@@ -117,10 +117,10 @@ returns-clause-steps g t c levels puts tables lists few same are =
     c.requires.laid.table_is c.in_ok-place_range.ensures.answer.table_is c.requires.least c.in_ok-find_from.ensures.least in
     let numbers = half_numbers copies half.laid (length laid) middle (omega arith) more c.in_ok-place_range.ensures.answer.numbers in
     both_counted joint copies puts tables lists are (length laid) middle a.to (omega arith) (omega arith) (omega arith) levels (omega arith) few a.laying.now.placed (flags_in a.reached.now) (flags_in c.hold_more.new.reached)
-    (list_there joint copies puts laid (length laid) a.to a.laying.now.placed (flags_in a.reached.now) refl front c.requires.laid.table_is c.requires.made.done c.requires.least.least)
-    (list_there joint copies puts laid (length laid) middle a.laying.now.placed (flags_in c.hold_more.new.reached) refl front c.requires.laid.table_is c.hold_more.ensures.made.done c.hold_more.ensures.least.least)
+    (list_there joint copies puts laid (length laid) a.to a.laying.now.placed (flags_in a.reached.now) refl front c.requires.laid.table_is c.requires.made.tally.done c.requires.least.least)
+    (list_there joint copies puts laid (length laid) middle a.laying.now.placed (flags_in c.hold_more.new.reached) refl front c.requires.laid.table_is c.hold_more.ensures.made.tally.done c.hold_more.ensures.least.least)
     _ _ _ c.hold_more.ensures.steps (flags_in c.find_from.new.reached) half.placed _ _
-    (list_there joint copies puts half.laid middle a.to half.placed (flags_in c.find_from.new.reached) (sym more) half_puts c.in_ok-place_range.ensures.answer.table_is c.in_ok-find_from.ensures.made.done least.least)
+    (list_there joint copies puts half.laid middle a.to half.placed (flags_in c.find_from.new.reached) (sym more) half_puts c.in_ok-place_range.ensures.answer.table_is c.in_ok-find_from.ensures.made.tally.done least.least)
     (rw (rest, numbers, ← flags) at c.in_ok-find_from.ensures.steps)
     (λ below fits. c.in_ok-place_range.ensures.steps below puts tables lists fits half_puts are)
     (λ below fits. subst (λ k. c.place_range-2.new.steps ≤ c.find_from.new.steps + asks_of_range joint copies tables lists below k a.to) more (c.place_range-2.ensures.steps below puts tables lists (omega (arith, fits, more)) same are))

@@ -1,7 +1,10 @@
-use Rattle.std.proofs.Common.{subst}
+use Rattle.std.proofs.Common.{◌∙◌, subst}
+use Rattle.std.specs.Prelude.{Ok}
+use Rattle.std.proofs.lemmas.List.{length-map}
 use Rattle.mw_multi.specs.Joint.{IsJoint}
 use Rattle.mw_reach.specs.Reached.{counts_in, flags_in}
-use Rattle.mw_fill.proofs.Asked.{whole_within}
+use Rattle.mw_fill.specs.Laying.{laid_put}
+use Rattle.mw_fill.proofs.Asked.{whole_within, ends_there}
 use Rattle.mw_fill.proofs.Runs.{first_list, placed_here}
 use Rattle.mw_fill.proofs.assumed.place_asked.Goals as goal
 
@@ -28,7 +31,8 @@ returns-in_err-place_range-clause-steps g c =
     let into = c.reach_by.new.into in
     let first = first_list a.joint.now a.copies.now c.in_ok-start.start begin.placed (flags_in into) (counts_in into) c.in_ok-start.ensures record { least = reach.least; tally = reach.counts } in
     whole_within a.joint.now a.openings.now a.copies.now begin.laid c.place_range.new.laying.laid begin.placed into _ c.reach_by.new.steps _ c.in_ok-laying.ensures.empty (c.in_ok-laying.ensures.laid a.openings.now a.copies.now).table_is
-    reach.kept first.least reach.steps range.each range.runs range.steps
+    reach.kept first.least reach.steps range.each range.runs range.steps c.from_residual-in_err-place_range.result
+    (ends_there a.joint.now a.openings.now a.copies.now c.place_range.new.laying.laid _ c.from_residual-in_err-place_range.result c.in_err-place_range.ensures.none c.from_residual-in_err-place_range.ensures.1)
 
 pub returns-clause-steps : goal.returns-clause-steps
 returns-clause-steps g c =
@@ -39,4 +43,5 @@ returns-clause-steps g c =
     let into = c.reach_by.new.into in
     let first = first_list a.joint.now a.copies.now c.in_ok-start.start begin.placed (flags_in into) (counts_in into) c.in_ok-start.ensures record { least = reach.least; tally = reach.counts } in
     whole_within a.joint.now a.openings.now a.copies.now begin.laid c.place_range.new.laying.laid begin.placed into _ c.reach_by.new.steps _ c.in_ok-laying.ensures.empty (c.in_ok-laying.ensures.laid a.openings.now a.copies.now).table_is
-    reach.kept first.least reach.steps range.each range.runs range.steps
+    reach.kept first.least reach.steps range.each range.runs range.steps (Ok c.place_range.new.laying.held)
+    (length-map c.place_range.new.laying.laid laid_put ∙ c.in_ok-place_range.ensures.more)

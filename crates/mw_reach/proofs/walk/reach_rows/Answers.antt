@@ -1,4 +1,5 @@
-use Rattle.std.proofs.Common.{length, arith, ap, ◌∙◌}
+use Rattle.std.proofs.Common.{false, length, sym, ap, arith, ◌∙◌}
+use Rattle.std.proofs.lemmas.List.{length-replicate}
 use Rattle.mw_rules.specs.Holds.{bag_of, places_of}
 use Rattle.mw_reach.specs.Counts.{missing}
 use Rattle.mw_reach.specs.Rows.{steps_in}
@@ -9,36 +10,42 @@ use Rattle.mw_reach.proofs.walk.reach_rows.Goals as goal
 
 pub visit_all-requires-clause-going : goal.visit_all-requires-clause-going
 visit_all-requires-clause-going g c =
-    let rows = c.args.rows.now in
+    let rows = c.args.terrain.now.rows.now in
     let base = c.args.base.now in
-    let placed = c.args.placed.now in
-    let steps = steps_in c.args.joint.now rows in
-    let done = c.fill.ensures.after (λ y e. e) in
-    let listed = c.fill-2.ensures.after (λ y e. e) in
-    let first = at_first placed (length c.args.done.now) base c.copy_from_slice.new.self c.fill.new.self done c.copy_from_slice.ensures.after c.len.ensures.few c.requires.small in
-    let woken = rw (c.as_slice.ensures, c.as_slice-2.ensures) at (c.begin-len.ensures c.args.joint.now (bag_of c.copy_from_slice.new.self) (places_of c.fill.new.self)) in
-    going steps _ _ _ _ _ _ _ _ (begun steps rows.origins rows.by_place rows.by_item c.requires.rows.watched (bag_of base) placed c.fill.new.self c.copy_from_slice.new.self c.fill-2.new.self c.args.queue.now _ _ _
+    let placed = c.args.terrain.now.placed.now in
+    let steps = steps_in c.args.terrain.now.joint.now rows in
+    let done = c.start.ensures.done in
+    let listed = c.clear.ensures.listed in
+    let size = length c.args.frontier.now.listed.items in
+    let counts = c.start.new.self.counts.items in
+    let begins = c.start.new.self.done.items in
+    let first = at_first placed (length c.args.tally.now.done.items) base counts begins done c.start.ensures.counts c.len.ensures.few c.requires.small in
+    let woken = rw (c.as_slice.ensures, c.as_slice-2.ensures) at (c.begin.ensures.woken c.args.terrain.now.joint.now (bag_of counts) (places_of begins)) in
+    going steps _ _ _ _ _ _ _ _ (begun steps rows.origins rows.by_place rows.by_item c.requires.terrain.rows.watched (bag_of base) placed begins counts c.clear.new.self.listed.items c.clear.new.self.queue.items _ _ _
     first.tally first.room (λ p. ap (λ ps. places_of ps p) done ∙ replicate-false _ p) (λ p. ap (λ ps. places_of ps p) listed ∙ replicate-false _ p)
-    (ap missing listed ∙ missing-replicate (length c.args.listed.now) ∙ omega arith) woken)
+    (ap missing listed ∙ missing-replicate size ∙ sym (c.begin.ensures.listed ∙ ap length listed ∙ length-replicate size false)) woken)
 
-pub returns-clause-settled : goal.returns-clause-settled
-returns-clause-settled g c =
-    let rows = c.args.rows.now in
+pub returns-clause-finished : goal.returns-clause-finished
+returns-clause-finished g c =
+    let rows = c.args.terrain.now.rows.now in
     let base = c.args.base.now in
-    let placed = c.args.placed.now in
-    let steps = steps_in c.args.joint.now rows in
-    let done = c.fill.ensures.after (λ y e. e) in
-    let listed = c.fill-2.ensures.after (λ y e. e) in
-    let first = at_first placed (length c.args.done.now) base c.copy_from_slice.new.self c.fill.new.self done c.copy_from_slice.ensures.after c.len.ensures.few c.requires.small in
-    let woken = rw (c.as_slice.ensures, c.as_slice-2.ensures) at (c.begin-len.ensures c.args.joint.now (bag_of c.copy_from_slice.new.self) (places_of c.fill.new.self)) in
-    c.visit_all.ensures.settled (bag_of base)
-    (begun steps rows.origins rows.by_place rows.by_item c.requires.rows.watched (bag_of base) placed c.fill.new.self c.copy_from_slice.new.self c.fill-2.new.self c.args.queue.now _ _ _
+    let placed = c.args.terrain.now.placed.now in
+    let steps = steps_in c.args.terrain.now.joint.now rows in
+    let done = c.start.ensures.done in
+    let listed = c.clear.ensures.listed in
+    let size = length c.args.frontier.now.listed.items in
+    let counts = c.start.new.self.counts.items in
+    let begins = c.start.new.self.done.items in
+    let first = at_first placed (length c.args.tally.now.done.items) base counts begins done c.start.ensures.counts c.len.ensures.few c.requires.small in
+    let woken = rw (c.as_slice.ensures, c.as_slice-2.ensures) at (c.begin.ensures.woken c.args.terrain.now.joint.now (bag_of counts) (places_of begins)) in
+    c.visit_all.ensures.finished (bag_of base)
+    (begun steps rows.origins rows.by_place rows.by_item c.requires.terrain.rows.watched (bag_of base) placed begins counts c.clear.new.self.listed.items c.clear.new.self.queue.items _ _ _
     first.tally first.room (λ p. ap (λ ps. places_of ps p) done ∙ replicate-false _ p) (λ p. ap (λ ps. places_of ps p) listed ∙ replicate-false _ p)
-    (ap missing listed ∙ missing-replicate (length c.args.listed.now) ∙ omega arith) woken)
+    (ap missing listed ∙ missing-replicate size ∙ sym (c.begin.ensures.listed ∙ ap length listed ∙ length-replicate size false)) woken)
 
 pub returns-clause-steps : goal.returns-clause-steps
 returns-clause-steps g c =
-    let placed = c.args.placed.now in
-    let rows = c.args.rows.now in
-    let bound = asked_of_rows c.args.joint.now rows c.requires.rows.watched placed c.visit_all.new.done in
+    let placed = c.args.terrain.now.placed.now in
+    let rows = c.args.terrain.now.rows.now in
+    let bound = asked_of_rows c.args.terrain.now.joint.now rows c.requires.terrain.rows.watched placed c.visit_all.new.tally.done.items in
     omega (arith, c.visit_all.ensures.steps, bound)

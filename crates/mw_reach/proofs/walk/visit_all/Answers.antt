@@ -5,13 +5,19 @@ use Rattle.mw_reach.proofs.walk.visit_all.Goals as goal
 
 pub loop-head-preserved : goal.loop-head-preserved
 loop-head-preserved g c = record {
-  going = c.take_next-len.ensures.going;
-  working = λ base before. c.take_next-len.ensures.working base (c.loop-head.invariant.working base before);
-  steps = omega (arith, c.take_next-len.ensures.steps, c.loop-head.invariant.steps);
+  tally = c.take_next.ensures.tally;
+  frontier = c.take_next.ensures.frontier;
+  going = c.take_next.ensures.going;
+  walking = λ base before. c.take_next.ensures.working base (c.loop-head.invariant.walking base before);
+  steps = omega (arith, c.take_next.ensures.steps, c.loop-head.invariant.steps);
 }
 
-pub returns-clause-settled : goal.returns-clause-settled
-returns-clause-settled g c base before =
+pub returns-clause-finished : goal.returns-clause-finished
+returns-clause-finished g c base before =
+    let terrain = c.args.terrain.now in
     let now = c.loop-head in
-    let end = now.invariant.working base before in
-    record { least = finished (steps_in c.args.joint.now c.args.rows.now) base c.args.placed.now now.done now.counts now.listed now.queue now.head now.len c.loop-head-test.false end; tally = end.tally }
+    let end = now.invariant.walking base before in
+    record {
+      least = finished (steps_in terrain.joint.now terrain.rows.now) base terrain.placed.now now.tally.done.items now.tally.counts.items now.frontier.listed.items now.frontier.queue.items now.head now.frontier.len c.loop-head-test.false end;
+      tally = end.tally;
+    }

@@ -1,4 +1,4 @@
-use Rattle.std.proofs.Common.{◌≤◌, arith, sym, ◌∙◌}
+use Rattle.std.proofs.Common.{◌≡◌, ◌≤◌, arith, false, sym, ◌∙◌}
 use Rattle.mw_rules.specs.Holds.{bag_of, places_of}
 use Rattle.mw_reach.specs.Counts.{missing}
 use Rattle.mw_reach.specs.Rows.{step_of}
@@ -7,6 +7,10 @@ use Rattle.mw_reach.proofs.worklist.ask.Goals as goal
 
 pub returns-clause-woken : goal.returns-clause-woken
 returns-clause-woken g c =
-    let room : 1 ≤ missing c.args.listed.now = room_left c.args.listed.now c.args.row.now.to (omega arith) c.if-listed-to.false in
-    newly_listed (bag_of c.args.counts.now) (places_of c.args.done.now) (step_of c.args.joint.now c.args.row.now) c.args.listed.now c.args.queue.now c.args.len (omega arith) (omega arith)
-    c.if-listed-to.false (sym c.is_open.ensures.answer ∙ c.if-not-is_open.false)
+    let listed = c.args.frontier.now.listed.items in
+    let to = c.args.row.now.to in
+    let new : places_of listed to ≡ false = sym c.has.ensures ∙ c.if-has.false in
+    let room : 1 ≤ missing listed = room_left listed to (omega arith) new in
+    rw (c.list.ensures.listed, c.list.ensures.queue, c.list.ensures.len)
+    (newly_listed (bag_of c.args.tally.now.counts.items) (places_of c.args.tally.now.done.items) (step_of c.args.terrain.now.joint.now c.args.row.now) listed c.args.frontier.now.queue.items c.args.frontier.now.len (omega arith) (omega arith) new
+    (sym c.is_open.ensures.answer ∙ c.if-not-is_open.false))

@@ -6,13 +6,13 @@ use Rattle.mw_multi.specs.Joint.{Slot}
 use Rattle.mw_multi.specs.Steps.{location_place}
 use Rattle.mw_reach.specs.Reached.{places_in}
 use Rattle.mw_spheres.specs.Spots.{spot_at}
-use Rattle.mw_spheres.specs.Gathering.{HasRoom, Gathered}
+use Rattle.mw_spheres.specs.Gathering.{BagFits, Gathered}
 use Rattle.mw_spheres.proofs.gather.visit_slot.Given as goal
 
 -- the locations so far
 abbrev pub invariant-loop-index : goal.invariant-loop-index
 invariant-loop-index l = record {
-  room : HasRoom l.table l.taken l.bag;
+  room : BagFits l.table l.taken l.bag;
   size : length l.bag ≡ length l.fn.bag;
   gathered : (s : Slot) (first : List Bool) (start : List ℕ) (spots : List Spot) (bound : ℕ) → slice_get l.joint.slots l.before ≡ Some s → bound ≤ s.first_place
       → Gathered l.joint.slots l.table (places_in l.reached) first start spots bound l.fn.taken l.fn.bag l.fn.sphere

@@ -3,7 +3,7 @@ use Rattle.mw_rules.specs.Holds.{bag_of}
 use Rattle.mw_reach.specs.Counts.{missing}
 use Rattle.mw_reach.specs.Reached.{IsBagFor, IsMadeFor, HasLeast, KeepsRules}
 use Rattle.mw_spheres.specs.Spheres.{IsSphere, listed}
-use Rattle.mw_spheres.specs.Gathering.{HasRoom, IsInHand}
+use Rattle.mw_spheres.specs.Gathering.{BagFits, IsInHand}
 use Rattle.mw_spheres.proofs.Hand.{LeadsOn}
 use Rattle.mw_spheres.proofs.sphere.spheres_from.Given as goal
 
@@ -14,7 +14,7 @@ invariant-loop-alloc l = record {
   rules : KeepsRules l.joint l.reached;
   bag : IsBagFor l.joint l.bag;
   least : HasLeast l.joint (bag_of l.bag) [] l.reached;
-  room : HasRoom l.table l.taken l.bag;
+  room : BagFits l.table l.taken l.bag;
   hand : IsInHand l.joint l.table (listed l.spheres ++ l.sphere) l.taken l.bag;
   next : IsSphere l.joint l.table (listed l.spheres) l.sphere;
   before : LeadsOn l.joint l.table l.spheres;

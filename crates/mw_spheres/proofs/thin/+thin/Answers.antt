@@ -2,7 +2,7 @@ use Rattle.std.proofs.Common.{◌≡◌, ◌++◌, sym, subst, ◌∙◌, take-a
 use Rattle.std.proofs.lemmas.Result.{on_ok_weaker}
 use Rattle.mw_multi.specs.Bags.{start_count}
 use Rattle.mw_multi.specs.Steps.{steps_of}
-use Rattle.mw_reach.specs.GoingOn.{IsSettled}
+use Rattle.mw_reach.specs.GoingOn.{IsFinished}
 use Rattle.mw_reach.specs.Reached.{counts_in, flags_in}
 use Rattle.mw_reach.proofs.Settling.{settled_moved}
 use Rattle.mw_spheres.proofs.Only.{only-same}
@@ -21,7 +21,7 @@ reveal-requires-2-clause-least t c =
     let table : a.table.now ≡ c.hide.new.table = c.requires.table ∙ sym (only-same c.hide.new.shown a.shown.now a.full.now same) ∙ sym c.hide.ensures.table in
     let counts : counts_in a.reached.now ≡ counts_in c.go_back.new.self = sym c.in_ok-mark.ensures.counts ∙ c.go_back.ensures.back.counts in
     let flags : flags_in a.reached.now ≡ flags_in c.go_back.new.self = sym c.in_ok-mark.ensures.done ∙ c.go_back.ensures.back.done in
-    subst (λ placed. IsSettled (steps_of joint) start placed (flags_in c.go_back.new.self) (counts_in c.go_back.new.self)) table
+    subst (λ placed. IsFinished (steps_of joint) start placed (flags_in c.go_back.new.self) (counts_in c.go_back.new.self)) table
     (settled_moved (steps_of joint) start a.table.now (flags_in a.reached.now) (flags_in c.go_back.new.self) (counts_in a.reached.now) (counts_in c.go_back.new.self) flags counts c.requires.least)
 
 pub returns-clause-others : goal.returns-clause-others

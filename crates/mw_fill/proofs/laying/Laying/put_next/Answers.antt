@@ -1,4 +1,4 @@
-use Rattle.std.proofs.Common.{◌≡◌, ◌&&◌, ◌++◌, ◌∷◌, [], List, Some, None, length, get_or, set, sym, ap, ap₂, subst, ◌∙◌, arith}
+use Rattle.std.proofs.Common.{◌≡◌, ◌&&◌, ◌++◌, ◌∷◌, [], List, Some, None, length, drop, get_or, set, sym, ap, ap₂, subst, ◌∙◌, arith}
 use Rattle.std.specs.Prelude.{find}
 use Rattle.std.proofs.lemmas.List.{length-map, length-set, take_at}
 use Rattle.mw_multi.specs.Joint.{IsJoint}
@@ -9,12 +9,13 @@ use Rattle.mw_fill.specs.Copies.{ItemCopy}
 use Rattle.mw_fill.specs.Openings.{Opening, accepts}
 use Rattle.mw_fill.specs.Fill.{stuck, put_of, first_fit, is_reached, FillRun}
 use Rattle.mw_fill.specs.Kept.{CopyKept, IsCounted, OpeningKept, is_open_in}
+use Rattle.mw_fill.specs.Asks.{FindsNone}
 use Rattle.mw_fill.specs.Laying.{laid_put, puts_of, AreLaid}
 use Rattle.mw_fill.specs.Answer.{OnStuck}
 use Rattle.mw_fill.specs.declared.laid.Laid.{Laid}
 use Rattle.mw_fill.proofs.Fitting.{find_all, held_first}
 use Rattle.mw_fill.proofs.Locations.{put_kept}
-use Rattle.mw_fill.proofs.Runs.{table_few, stuck_here, one_placed}
+use Rattle.mw_fill.proofs.Runs.{table_few, none_here, stuck_here, one_placed}
 use Rattle.mw_fill.proofs.laying.Laying.put_next.Goals as goal
 
 pub put-requires-clause-kept : goal.put-requires-clause-kept
@@ -58,6 +59,20 @@ returns-in-None-clause-answer c =
     sym (held_first (λ s. accepts copy s && w s.place) (puts_of laid) a.self.now.held.items a.order.now.openings.now c.requires.laid.held_is.entries) ∙ ap (λ h. find (is_open_in (λ s. accepts copy s && w s.place) h) a.order.now.openings.now) (sym c.as_slice-2.ensures.value) ∙ sym c.first_after.ensures ∙ c.in-None.is in
     subst (λ e. OnStuck e (λ slot item. FillRun is_reached joint a.order.now.openings.now a.order.now.copies.now [] (stuck slot item))) (sym c.stuck.ensures)
     (stuck_here joint kept a.order.now.openings.now a.order.now.copies.now laid a.self.now.held.items a.self.now.placed c.requires.laid copy c.requires.next is w c.requires.least.least none)
+
+pub returns-in-None-clause-none : goal.returns-in-None-clause-none
+returns-in-None-clause-none c =
+    let a = c.args in
+    let joint = a.joint.now in
+    let kept : IsJoint joint = subst IsJoint c.joint.view_is c.joint.invariant in
+    let laid = a.self.now.laid in
+    let copy = c.index-copies-len.result in
+    let is : copy ≡ get_or a.order.now.copies.now (length laid) copy = c.index-copies-len.is ∙ ap (λ k. get_or a.order.now.copies.now k copy) c.len.ensures in
+    let w = places_in a.reached.now in
+    let none : first_fit (λ s. accepts copy s && w s.place) (puts_of laid) a.order.now.openings.now ≡ None =
+    sym (held_first (λ s. accepts copy s && w s.place) (puts_of laid) a.self.now.held.items a.order.now.openings.now c.requires.laid.held_is.entries) ∙ ap (λ h. find (is_open_in (λ s. accepts copy s && w s.place) h) a.order.now.openings.now) (sym c.as_slice-2.ensures.value) ∙ sym c.first_after.ensures ∙ c.in-None.is in
+    subst (λ e. OnStuck e (λ slot item. FindsNone joint a.order.now.openings.now (drop (length laid) a.order.now.copies.now) (puts_of laid))) (sym c.stuck.ensures)
+    (none_here joint kept a.order.now.openings.now a.order.now.copies.now laid a.self.now.held.items a.self.now.placed c.requires.laid copy c.requires.next is w c.requires.least.least none)
 
 pub returns-in_ok-push-in-Some-clause-answer : goal.returns-in_ok-push-in-Some-clause-answer
 returns-in_ok-push-in-Some-clause-answer c =

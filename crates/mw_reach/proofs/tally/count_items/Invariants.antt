@@ -1,7 +1,7 @@
 use Rattle.std.proofs.Common.{◌≡◌, ℕ, ◌+◌, take}
 use Rattle.mw_rules.specs.Holds.{bag_of}
 use Rattle.mw_reach.specs.Reach.{times_in}
-use Rattle.mw_reach.proofs.worklist.count_items.Given as goal
+use Rattle.mw_reach.proofs.tally.count_items.Given as goal
 
 -- the items so far
 abbrev pub invariant-loop-item : goal.invariant-loop-item
