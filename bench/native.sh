@@ -1,18 +1,18 @@
 #!/usr/bin/env bash
 # Prints the processor time that `generate` takes, and `generate_by` with the joint's rules as trees, on a world of 2,000 places with 400 progression items and on a chain of 1,000
 # keys, each of which opens the way to the next region; and what reach takes for one list of the caves, whose rules have up to eight forms, by trees and by a closure over the
-# same rules compiled into a match. Each is the best of five runs, with the time to read the world. Run after `rt run` in crates/mw_native_bench, which leaves the program.
+# same rules compiled into a match. Each is the best of five runs, with the time to read the world. Run after `rt run` in crates/mw_bench, which leaves the program.
 set -eu
 cd "$(dirname "$0")/.."
-program=$PWD/crates/mw_native_bench/out/mw_native_bench
-[ -x "$program" ] || { echo "build it first: (cd crates/mw_native_bench && rt run)" >&2; exit 1; }
+program=$PWD/crates/mw_bench/out/mw_bench
+[ -x "$program" ] || { echo "build it first: (cd crates/mw_bench && rt run)" >&2; exit 1; }
 work=$(mktemp -d)
 trap 'rm -rf "$work"' EXIT
 python3 bench/worlds.py "$work"
 python3 - "$program" "$work" <<'PY'
 import os, re, subprocess, sys
 program, folder = sys.argv[1:]
-source = open("crates/mw_native_bench/src/caves.rt").read()
+source = open("crates/mw_bench/src/caves.rt").read()
 with open(folder + "/caves.json", "w") as f:
     f.write(re.search(r'WORLD: &str = r#"(.*?)"#', source, re.S).group(1))
 

@@ -1,7 +1,8 @@
-//! Cases of rows: a table is one text, a line for each case, and marks stand between a case's parts.
+//! What rows read: the parts of a case, which stand in a line of a table, and the room of two slots that many play.
 #![tactic(auto)]
 
-/// The part of a case that stands behind so many marks ` | `, nothing where there are fewer.
-pub fn part(case: &str, place: usize) -> &str {
-    case.split(" | ").nth(place).unwrap_or("")
-}
+mod case;
+mod room_a;
+
+pub use case::part;
+pub use room_a::{ROOM_A, ROOM_A_INFO};

@@ -9,7 +9,7 @@ use mw_answers::{
     points_text, remaining_text, too_dear_text,
 };
 use mw_base::{ItemId, LocId, Memory, Text};
-use mw_cases::part;
+use mw_cases::{ROOM_A, part};
 use mw_chat::{
     Said, changed_tags, chatted, collected, command_result, hint_print, item_send, joined, left,
     parse_say, part_item, part_location, part_player, part_text, reached_goal, released,
@@ -17,7 +17,6 @@ use mw_chat::{
 use mw_checks::CheckLog;
 use mw_json::{Tree, compact_text};
 use mw_packets_out::{ServerPacket, packet_text};
-use mw_room_a::ROOM_A;
 use std::alloc::Global;
 use std::test::Fail;
 

@@ -39,7 +39,7 @@ fn a_connect_is_read(rt: HostRuntime) -> Result<(), Fail> {
 /// Whether a message is one packet that checks these numbers.
 fn checks(found: &List<Inbound>, wanted: &[i128]) -> bool {
     match sole(found) {
-        Some(Packet::LocationChecks { locations }) => locations.as_slice() == wanted,
+        Some(Packet::LocationChecks(checks)) => checks.locations.as_slice() == wanted,
         _ => false,
     }
 }

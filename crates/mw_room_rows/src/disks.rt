@@ -1,9 +1,9 @@
 use mw_base::{Bytes, List};
+use mw_cases::ROOM_A;
 use mw_disk::{DiskError, MemDisk};
 use mw_journal::create;
 use mw_keep::{KeptRoom, recover};
 use mw_multidata::digest;
-use mw_room_a::ROOM_A;
 use std::alloc::Global;
 use std::test::Fail;
 

@@ -158,18 +158,20 @@ fn hints_cost_points(rt: HostRuntime) -> Result<(), Fail> {
 #[test]
 fn points_are_what_checks_leave(rt: HostRuntime) -> Result<(), Fail> {
     let room = room_of(rt.alloc(), true, ann())?;
+    let checked = room.log.checked_len(team(), ann());
     fine(&[
         (
             "Bob's two",
-            room.book.points(team(), bob(), 2, &room.log) == 2,
+            room.book.points_once(team(), bob(), 2, 0, &room.log) == Ok(2),
         ),
+        ("Ann's two", checked == 2),
         (
-            "Ann's two",
-            room.book.points(team(), ann(), 2, &room.log) == 1,
+            "what they leave her",
+            room.book.points(team(), ann(), checked, &room.log) == 1,
         ),
         (
             "Ann's none",
-            room.book.points(team(), ann(), 0, &room.log) == 0,
+            room.book.points_once(team(), ann(), 0, 0, &room.log) == Ok(0),
         ),
         (
             "one hint more",
@@ -182,7 +184,7 @@ fn points_are_what_checks_leave(rt: HostRuntime) -> Result<(), Fail> {
 fn scouts(room: &Hinted, slot: SlotId, location: LocId, wanted: &[HintRecord]) -> bool {
     match room
         .book
-        .scout(team(), slot, &[(slot, location)], &room.log)
+        .scout(team(), slot, &[i128::from(location.get())], &room.log)
     {
         Ok(found) => found.as_slice() == wanted,
         Err(_) => false,

@@ -1,8 +1,8 @@
 //! The room that rows play, and the log of its checks.
 use mw_base::{LocId, Memory, NetItem, SlotId, TeamId};
+use mw_cases::ROOM_A;
 use mw_checks::CheckLog;
 use mw_multidata::{RoomTables, read};
-use mw_room_a::ROOM_A;
 use std::alloc::Global;
 use std::test::Fail;
 
@@ -50,9 +50,12 @@ pub(crate) const MAP: NetItem = NetItem {
     flags: 2,
 };
 
-/// The tables of a seed file.
+/// The tables of a seed file that is accepted.
 pub(crate) fn tables_of(alloc: Global, file: &str) -> Result<RoomTables, Fail> {
-    Ok(RoomTables::of(alloc, read(alloc, file.as_bytes())?)?)
+    match read(alloc, file.as_bytes()) {
+        Ok(seed) => Ok(RoomTables::of(alloc, seed)?),
+        Err(_) => Err(Fail::from("a seed file is refused")),
+    }
 }
 
 /// The log of a room in which nothing is checked.

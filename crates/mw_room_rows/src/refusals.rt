@@ -1,9 +1,8 @@
 use crate::cases::{Theme, agree, each};
 use crate::disks::{disk_of, new_journal};
 use mw_base::{Memory, Text};
-use mw_cases::part;
+use mw_cases::{ROOM_A, part};
 use mw_keep::{KeepError, recover};
-use mw_room_a::ROOM_A;
 use std::alloc::Global;
 use std::test::Fail;
 

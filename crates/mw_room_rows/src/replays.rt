@@ -8,10 +8,10 @@ use crate::cases::agree;
 use crate::logs::tables_of;
 use crate::rooms::{session, try_steps};
 use mw_base::{List, Text};
+use mw_cases::ROOM_A;
 use mw_json::Tree;
 use mw_records::{Record, Stored};
 use mw_room::{Room, SessionState};
-use mw_room_a::ROOM_A;
 use std::alloc::Global;
 use std::test::Fail;
 

@@ -4,11 +4,10 @@ use crate::cases::check;
 use crate::logs::{ann, bob, tables_of, team};
 use crate::messages::last_in;
 use mw_base::{SessionId, SlotId, TeamId};
-use mw_cases::part;
+use mw_cases::{ROOM_A, part};
 use mw_packets_in::Inbound;
 use mw_records::Record;
 use mw_room::{Event, Room, SessionState};
-use mw_room_a::ROOM_A;
 use std::alloc::Global;
 use std::test::Fail;
 

@@ -5,13 +5,12 @@ ghost use Rattle.mw_rules.specs.View.{view};
 ghost use Rattle.mw_multi.specs.Steps.{rule_list, world_rules};
 ghost use Rattle.mw_native.specs.Told.{IsNamed};
 
-use crate::joints::joint_of;
+use crate::joints::{joint_of, players_in, world_in};
 use mw_base::{List, Memory};
 use mw_fill::{Seed, generate, generate_by};
 use mw_multi::{Joint, Put, TreeRules, World};
 use mw_native::{Pair, Told};
 use mw_rules::{Named, Rule};
-use mw_tables::{read_players, read_world};
 use std::alloc::Global;
 use std::test::Fail;
 
@@ -169,14 +168,14 @@ fn seed_by_pair(alloc: Global, joint: &Joint, second: &Joint, seed: u64) -> Resu
 /// The worlds of two files.
 fn both_worlds(alloc: Global) -> Result<List<World>, Fail> {
     let mut worlds = world_of(alloc, SWORDS)?;
-    worlds.push(read_world(alloc, KEYS.as_bytes())?)?;
+    worlds.push(world_in(alloc, KEYS)?)?;
     Ok(worlds)
 }
 
 /// The world of a file alone.
 fn world_of(alloc: Global, file: &str) -> Result<List<World>, Fail> {
     let mut worlds = List::new(alloc);
-    worlds.push(read_world(alloc, file.as_bytes())?)?;
+    worlds.push(world_in(alloc, file)?)?;
     Ok(worlds)
 }
 
@@ -208,7 +207,7 @@ fn put_sword_first(alloc: Global, joint: &Joint) -> Result<(), Fail> {
 
 #[test]
 fn a_closure_answers_the_rules_of_one_sword(rt: HostRuntime) -> Result<(), Fail> {
-    let players = read_players(rt.alloc(), ANN.as_bytes())?;
+    let players = players_in(rt.alloc(), ANN)?;
     let worlds = world_of(rt.alloc(), SWORDS)?;
     put_sword_first(rt.alloc(), &joint_of(rt.alloc(), &worlds, &players)?)
 }
@@ -235,14 +234,14 @@ fn each_is_by_trees(alloc: Global, joint: &Joint, keys: &Joint) -> Result<(), Fa
 
 /// Fails where that isn't so with the keys of Bob alone.
 fn are_by_trees(alloc: Global, joint: &Joint) -> Result<(), Fail> {
-    let players = read_players(alloc, BOB.as_bytes())?;
+    let players = players_in(alloc, BOB)?;
     let worlds = world_of(alloc, KEYS)?;
     each_is_by_trees(alloc, joint, &joint_of(alloc, &worlds, &players)?)
 }
 
 #[test]
 fn a_closure_and_trees_answer_as_the_trees_of_both(rt: HostRuntime) -> Result<(), Fail> {
-    let players = read_players(rt.alloc(), BOTH.as_bytes())?;
+    let players = players_in(rt.alloc(), BOTH)?;
     let worlds = both_worlds(rt.alloc())?;
     are_by_trees(rt.alloc(), &joint_of(rt.alloc(), &worlds, &players)?)
 }

@@ -1,11 +1,10 @@
 //! Small random worlds, on which the fill is held against a plain one that makes each list anew.
-use crate::joints::joint_of;
+use crate::joints::{joint_of, players_in, world_in};
 use crate::plain_fill::{plain_seed, plain_try};
 use mw_base::List;
 use mw_cases::part;
 use mw_fill::{FillError, GenerateError, Seed, Words, fill_try, generate};
 use mw_multi::{Joint, Placement, Players, World};
-use mw_tables::{read_players, read_world};
 use std::alloc::Global;
 use std::test::Fail;
 
@@ -95,13 +94,13 @@ fn spelled(alloc: Global, words: &mut Words, text: &str) -> Result<String, Fail>
 fn world_of(alloc: Global, words: &mut Words, file: &str) -> Result<World, Fail> {
     let text = WORLD.replace(alloc, "#", file)?;
     let text = spelled(alloc, words, text.as_str())?;
-    Ok(read_world(alloc, text.as_bytes())?)
+    world_in(alloc, text.as_str())
 }
 
 /// Random players.
 fn players_of(alloc: Global, words: &mut Words) -> Result<Players, Fail> {
     let text = spelled(alloc, words, PLAYERS)?;
-    Ok(read_players(alloc, text.as_bytes())?)
+    players_in(alloc, text.as_str())
 }
 
 /// Random worlds of the players' files.

@@ -2,12 +2,11 @@ ghost use Rattle.std.specs.Prelude.{◌≡◌};
 ghost use Rattle.mw_multi.specs.Steps.{rule_list};
 ghost use Rattle.mw_reach.specs.Reached.{IsBagFor};
 
-use crate::joints::joint_of;
+use crate::joints::{joint_of, players_in, world_in};
 use mw_base::{List, Memory};
 use mw_multi::{Bag, Joint, Placed, Players, TreeRules};
 use mw_reach::{Reached, reach_by, unmet_goal_by};
 use mw_rules::{Named, Ruling, Steps};
-use mw_tables::{read_players, read_world};
 use std::alloc::Global;
 use std::marker::Brand;
 use std::sync::ledger::{Blank, Ledger};
@@ -103,13 +102,13 @@ fn is_reached(alloc: Global, joint: &Joint) -> Result<bool, Memory> {
 
 /// Whether that is so of the players of this file.
 fn is_reached_by(alloc: Global, players: &Players) -> Result<bool, Fail> {
-    let worlds = List::from_vec(vec![in alloc; read_world(alloc, WORLD.as_bytes())?]?);
+    let worlds = List::from_vec(vec![in alloc; world_in(alloc, WORLD)?]?);
     Ok(is_reached(alloc, &joint_of(alloc, &worlds, players)?)?)
 }
 
 #[test]
 fn rules_are_asked_of_a_type_of_ones_own(rt: HostRuntime) -> Result<(), Fail> {
-    let players = read_players(rt.alloc(), PLAYERS.as_bytes())?;
+    let players = players_in(rt.alloc(), PLAYERS)?;
     assert!(rt; is_reached_by(rt.alloc(), &players)?);
     Ok(())
 }

@@ -1,6 +1,6 @@
 use crate::cases::{changed, each, is_answer};
+use mw_cases::ROOM_A;
 use mw_multidata::{RoomTables, read, write};
-use mw_room_a::ROOM_A;
 use std::alloc::Global;
 use std::test::Fail;
 
