@@ -4,7 +4,7 @@ use crate::text::Text;
 use std::marker::Model;
 
 /// Who may use a command of the room, and when.
-#[derive(Clone, Copy, Debug)]
+#[derive(Clone, Copy)]
 pub enum Permission {
     /// Never.
     Disabled,
@@ -36,7 +36,7 @@ impl Permission {
 }
 
 /// The settings of a room.
-#[derive(Debug, Drop)]
+#[derive(Drop)]
 pub struct RoomOptions {
     /// At most 128 characters; empty where the room asks for none.
     pub password: Text,

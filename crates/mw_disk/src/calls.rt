@@ -37,7 +37,7 @@ pub struct MadeCall {
 }
 
 /// What a crash makes of the writes and cuts since the last sync.
-#[derive(Clone, Copy, Debug, PartialEq, Eq)]
+#[derive(Clone, Copy, PartialEq, Eq)]
 pub enum Tear {
     /// None of them was done.
     Lost,

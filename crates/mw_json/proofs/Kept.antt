@@ -1,14 +1,16 @@
--- What the readers of numbers, lists and members give keeps what each part keeps.
-use Rattle.std.proofs.Common.{◌≡◌, ◌≤◌, ◌+◌, ℕ, List, Bool, true, false, Option, Some, None, Result, Ok, length, refl, arith}
-use Rattle.std.specs.Prelude.{All, IfOk, bytes_eq, if◌then◌else◌}
+-- What the readers of numbers, lists and members give keeps what each part keeps, and members are read in their order.
+use Rattle.std.proofs.Common.{◌≡◌, ◌≤◌, ◌+◌, ℕ, List, Bool, true, false, Option, Some, None, Result, Ok, Less, nat_cmp, length, map, refl, sym, subst, arith}
+use Rattle.std.specs.Prelude.{All, IfOk, IfSome, bytes_eq, if◌then◌else◌}
+use Rattle.std.specs.Cmp.Lexicographic.{slice_cmp}
 use Rattle.std.proofs.lemmas.Grind.{common_steps}
 use Rattle.std.proofs.lemmas.List.Elements.{All-nil, All-cons}
 use Rattle.std.proofs.lemmas.Result.{IfOk-weaker}
-use Rattle.mw_model.specs.Json.{Json, null, flag, whole, not_whole, words, many, members, Items, no_items, item, Members, no_members, member, find_member}
+use Rattle.mw_model.specs.Ascending.{ComesBefore, NamesAscend}
+use Rattle.mw_model.specs.Json.{Json, null, flag, whole, not_whole, words, many, members, Items, no_items, item, Members, no_members, member, find_member, ComeAfter}
 use Rattle.mw_json.specs.Grammar.{Breach, refused, under, number_at, items_length, list_at, list_up_to, object_at, found_or_missing, member_at, field_at}
 use Rattle.mw_json.specs.Parts.{not_empty, list_of_length, element_at, item_at}
 use Rattle.mw_json.specs.Readers.{each_from, list_of_at, first_at, field_or_at, each_member_at}
-use Rattle.mw_json.specs.Valid.{IsValid, MembersAreValid}
+use Rattle.mw_json.specs.Valid.{IsValid, ItemsAreValid, MembersAreValid}
 use Rattle.mw_json.specs.declared.refusal.Kind.{Kind}
 use Rattle.mw_json.specs.declared.refusal.Kind.TheVariants.{WrongKind, TooMany}
 use Rattle.mw_json.specs.declared.refusal.Step.TheVariants.{Name, Index}
@@ -114,3 +116,60 @@ pub in_valid_field : {A : Type 0} (P : A → Type 0) (name : List ℕ) (read : J
 unfolding field_at
 in_valid_field P name read ms o h =
     after IsValid P (member_at name ms) _ (within IsValid (Name name) (found_or_missing (find_member name ms)) (found_valid name ms o)) (λ j k. within P (Name name) (read j) (h j k))
+
+find_valid : (name : List ℕ) (ms : Members) → MembersAreValid ms → IfSome (find_member name ms) IsValid
+find_valid name no_members o = tt
+find_valid name (member k j ms) o =
+    elim (bytes_eq k name) as (λ b. IfSome (if b then Some j else find_member name ms) IsValid) [ true ↦ o.0 | false ↦ find_valid name ms o.2 ]
+
+first_valid : {A : Type 0} (P : A → Type 0) (found : Option Json) (read : Json → Result A Breach) (next : Result A Breach) → IfSome found IsValid
+    → ((j : Json) → IsValid j → IfOk (read j) P) → IfOk next P → IfOk (first_at found read next) P
+first_valid P (Some j) read next o h k = h j o
+first_valid P None read next o h k = k
+
+-- what may be absent
+pub in_valid_field_or : {A : Type 0} (P : A → Type 0) (name : List ℕ) (absent : A) (read : Json → Result A Breach) (ms : Members) → MembersAreValid ms
+    → P absent → ((j : Json) → IsValid j → IfOk (read j) P) → IfOk (field_or_at name absent read ms) P
+unfolding field_or_at
+in_valid_field_or P name absent read ms o here h =
+    first_valid P (find_member name ms) (λ j. under (Name name) (read j)) (Ok absent) (find_valid name ms o) (λ j v. within P (Name name) (read j) (h j v)) here
+
+-- ---- valid lists
+
+pub list_valid : (j : Json) → IsValid j → IfOk (list_at j) ItemsAreValid
+list_valid (many js) o = o
+list_valid not_whole o = tt
+list_valid null o = tt
+list_valid (flag b) o = tt
+list_valid (whole z) o = tt
+list_valid (words s) o = tt
+list_valid (members ms) o = tt
+
+-- a reader whose values keep a rule where what is read is valid
+pub each_valid_kept : {A : Type 0} (P : A → Type 0) (read : Json → Result A Breach) → ((j : Json) → IsValid j → IfOk (read j) P) → (i : ℕ) (js : Items) → ItemsAreValid js
+    → IfOk (each_from read i js) (AreKept P (items_length js))
+each_valid_kept P read one i no_items o = (refl, All-nil P)
+each_valid_kept P read one i (item j js) o =
+    after P (AreKept P (items_length (item j js))) (under (Index i) (read j)) _ (within P (Index i) (read j) (one j o.0)) (λ first h.
+    after (AreKept P (items_length js)) (AreKept P (items_length (item j js))) (each_from read (i + 1) js) _ (each_valid_kept P read one (i + 1) js o.1) (λ others k.
+    (omega (arith, k.0), All-cons P first others h k.1)))
+
+-- ---- members in order
+
+-- a reader of members whose values have the members' names
+module _ {A : Type 0} (P : A → Type 0) (called : A → List ℕ) (read : List ℕ → Json → Result A Breach) (one : (k : List ℕ) (j : Json) → IsValid j → IfOk (read k j) (λ x. (called x ≡ k) × P x)) where
+  pub record AreNamed (ms : Members) (xs : List A) : Type 0 where
+    pub each : All P xs
+    pub follow : (k : List ℕ) → ComeAfter k ms → ComesBefore (slice_cmp nat_cmp) k (map called xs)
+    pub ascend : NamesAscend (map called xs)
+
+  pub members_kept : (ms : Members) → MembersAreValid ms → IfOk (each_member_at read ms) (AreNamed ms)
+  members_kept no_members o = record { each = All-nil P; follow = λ k h. tt; ascend = tt }
+  members_kept (member k j ms) o =
+      let Q : A → Type 0 = λ x. (called x ≡ k) × P x in
+      after Q (AreNamed (member k j ms)) (under (Name k) (read k j)) _ (within Q (Name k) (read k j) (one k j o.0)) (λ first h.
+      after (AreNamed ms) (AreNamed (member k j ms)) (each_member_at read ms) _ (members_kept ms o.2) (λ others l. record {
+        each = All-cons P first others h.1 l.each;
+        follow = λ n a. (subst (λ m. slice_cmp nat_cmp n m ≡ Less) (sym h.0) a.0, l.follow n a.1);
+        ascend = (l.follow (called first) (subst (λ n. ComeAfter n ms) (sym h.0) o.1), l.ascend);
+      }))

@@ -1,4 +1,4 @@
-ghost use Rattle.std.specs.Prelude.{◌≡◌, ◌++◌, ◌∷◌, [], IfOk, OnOk, map, pos};
+ghost use Rattle.std.specs.Prelude.{◌≡◌, ◌++◌, ◌∷◌, [], IfOk, OnErr, OnOk, map, pos};
 ghost use Rattle.mw_model.specs.Json.{Json, Members, many, members as object_json, whole, words, IsWritable, ItemsAreWritable, MembersAreWritable};
 ghost use Rattle.mw_json.specs.View.{view, member_view, items_view, members_view};
 ghost use Rattle.mw_json.specs.Building.{FieldHolds, FieldsHold, FieldIsWritable, FieldsAreWritable};
@@ -38,22 +38,24 @@ pub fn named(name: Text, value: Tree) -> Member
     Member { name, value }
 }
 
-/// One member more, at the end.
+/// One member more, at the end. After `Memory` the members are as before.
 pub fn put(alloc: Global, members: &mut List<Member>, name: &str, value: Tree) -> Result<(), Memory>
-    ensures { OnOk result (map member_view members.new
+    ensures ok { OnOk result (map member_view members.new
         ≡ map member_view members.old ++ (name.now, view value) ∷ []) }
+    ensures err { OnErr result (members.new ≡ members.old) }
 {
     let name = Text::of(alloc, name)?;
     members.push(named(name, value))
 }
 
-/// One element more, at the end.
+/// One element more, at the end. After `Memory` the elements are as before.
 #[tactic(auto, using(crate::proofs::Writable::one_more))]
 pub fn push_tree(trees: &mut List<Tree>, tree: Tree) -> Result<(), Memory>
     requires trees { ItemsAreWritable (items_view trees.old) }
     requires tree { IsWritable (view tree) }
     ensures value { OnOk result (map view trees.new ≡ map view trees.old ++ view tree ∷ []) }
     ensures writable { OnOk result (ItemsAreWritable (items_view trees.new)) }
+    ensures err { OnErr result (trees.new ≡ trees.old) }
 {
     trees.push(tree)
 }

@@ -3,7 +3,7 @@ ghost use Rattle.std.specs.Prelude.{◌≡◌};
 use mw_base::{List, Memory, Text};
 
 /// Why a JSON file is refused.
-#[derive(Clone, Copy, Debug)]
+#[derive(Clone, Copy)]
 pub enum Kind {
     /// The file is no JSON.
     NoJson,
@@ -36,7 +36,7 @@ pub enum Kind {
 }
 
 /// A step from a value to one inside it.
-#[derive(Debug, Drop)]
+#[derive(Drop)]
 pub enum Step {
     /// To the member of this name.
     Name(Text),
@@ -48,7 +48,7 @@ pub enum Step {
 pub type Path = List<Step>;
 
 /// The first refusal of a file, or want of memory.
-#[derive(Debug, Drop)]
+#[derive(Drop)]
 pub enum Refusal {
     /// Memory ran out.
     Memory,

@@ -1,3 +1,4 @@
+pub mod Ascending
 pub mod Games
 pub mod Items
 pub mod Json

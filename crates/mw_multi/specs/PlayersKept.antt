@@ -1,5 +1,6 @@
 -- What a players file keeps.
-use Rattle.std.specs.Prelude.{◌≡◌, ℕ, ◌≤◌, List, All, chars, flat_map, length, sum_by}
+use Rattle.std.specs.Prelude.{◌≡◌, ℕ, ◌≤◌, List, All, chars, flat_map, length, map, sum_by}
+use Rattle.mw_model.specs.Ascending.{NamesAscend}
 use Rattle.mw_model.specs.Seed.{RoomOptions}
 use Rattle.mw_multi.specs.Players.{StartEntry, Options, Player, Players}
 use Rattle.mw_multi.specs.Names.{IsName, NamesDiffer}
@@ -20,13 +21,17 @@ pub record StartKept (s : StartEntry) : Type 0 where
 abbrev pub start_count : StartEntry → ℕ
 start_count s = s.count
 
--- at most 256 items to begin with
+abbrev pub start_name : StartEntry → List ℕ
+start_name s = s.name
+
+-- at most 256 items to begin with, in byte order of names
 pub record OptionsKept (o : Options) : Type 0 where
   pub local_items : All (IsName 128) o.local_items
   pub non_local_items : All (IsName 128) o.non_local_items
   pub exclude_locations : All (IsName 128) o.exclude_locations
   pub priority_locations : All (IsName 128) o.priority_locations
   pub start_inventory : All StartKept o.start_inventory
+  pub ascend : NamesAscend (map start_name o.start_inventory)
   pub together : sum_by start_count o.start_inventory ≤ 256
 
 -- a name for each of so many teams

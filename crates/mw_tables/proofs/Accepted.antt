@@ -19,7 +19,8 @@ use Rattle.mw_tables.specs.Names.{demand, is_at, stands_first, id_stands_first, 
 use Rattle.mw_tables.specs.Raw.{RawEntrance, RawLocation, RawEntry, RawWorld}
 use Rattle.mw_tables.specs.RuleNames.{region_named, item_such, raw_location_name, rule_named}
 use Rattle.mw_tables.specs.Small.{IsSmall}
-use Rattle.mw_tables.specs.WorldNames.{item_named, items_named, raw_entrance_name, entrance_named, entrances_named, raw_location_id, event_named, location_named, locations_named, entry_named, entries_named, may_fill, NamedWorld, world_names}
+use Rattle.mw_tables.specs.WorldNames.{item_named, items_named, raw_entrance_name, entrance_named, entrances_named, raw_location_id, event_named, location_once, location_named, locations_named, entry_named, entries_named, may_fill, NamedWorld, start_named, rows_named, world_names}
+use Rattle.mw_tables.specs.declared.named_rows.NamedRows.{NamedRows}
 use Rattle.mw_tables.specs.WorldOf.{resolved}
 use Rattle.mw_tables.specs.WorldShape.{entry_count, world_shape_at}
 use Rattle.mw_tables.proofs.Distinct.{FirstAt, FirstIdAt, names_differ, ids_differ}
@@ -148,21 +149,29 @@ event_keeps w (Some id) (Some name) h = absurd h
 event_keeps w None None h = absurd h
 event_keeps w None (Some name) h = known_event_fits w name
 
+abbrev LocationFirst : RawWorld → ℕ → RawLocation → Unit {0} → Type 0
+LocationFirst w i l t = (index_of_name (map raw_location_name w.locations) l.name ≡ Some i) × IdFirst (map raw_location_id w.locations) i l.id
+
+location_first : (w : RawWorld) (i : ℕ) (l : RawLocation) → IfOk (location_once w i l) (LocationFirst w i l)
+unfolding location_once
+location_first w i l =
+    let NameFirst : Unit {0} → Type 0 = λ _. index_of_name (map raw_location_name w.locations) l.name ≡ Some i in
+    let OwnFirst : Unit {0} → Type 0 = λ _. IdFirst (map raw_location_id w.locations) i l.id in
+    let name = demand DuplicateName (stands_first (map raw_location_name w.locations) i l.name) in
+    let id = demand DuplicateId (id_stands_first (map raw_location_id w.locations) i l.id) in
+    after NameFirst (LocationFirst w i l) (under (Name (codes "name")) name) _ (within NameFirst (Name (codes "name")) name (name_first DuplicateName (map raw_location_name w.locations) i l.name (stands_first (map raw_location_name w.locations) i l.name) refl)) (λ t h.
+    IfOk-weaker (under (Name (codes "id")) id) OwnFirst (LocationFirst w i l) (λ u k. (h, k)) (within OwnFirst (Name (codes "id")) id (id_first DuplicateId (map raw_location_id w.locations) i l.id (id_stands_first (map raw_location_id w.locations) i l.id) refl)))
+
 location_keeps : (w : RawWorld) (i : ℕ) (l : RawLocation) → RawLocationKept l → IfOk (location_named w i l) (LocationNamed w i l)
 unfolding location_named
 location_keeps w i l h =
-    let NameFirst : Unit {0} → Type 0 = λ _. index_of_name (map raw_location_name w.locations) l.name ≡ Some i in
-    let name = demand DuplicateName (stands_first (map raw_location_name w.locations) i l.name) in
-    let OwnFirst : Unit {0} → Type 0 = λ _. IdFirst (map raw_location_id w.locations) i l.id in
-    let id = demand DuplicateId (id_stands_first (map raw_location_id w.locations) i l.id) in
     let Region : ℕ → Type 0 = λ r. r < length w.regions in
     let Event : Option ℕ → Type 0 = λ e. event_fits w.items l.id e ≡ true in
-    after NameFirst (LocationNamed w i l) (under (Name (codes "name")) name) _ (within NameFirst (Name (codes "name")) name (name_first DuplicateName (map raw_location_name w.locations) i l.name (stands_first (map raw_location_name w.locations) i l.name) refl)) (λ t first.
-    after OwnFirst (LocationNamed w i l) (under (Name (codes "id")) id) _ (within OwnFirst (Name (codes "id")) id (id_first DuplicateId (map raw_location_id w.locations) i l.id (id_stands_first (map raw_location_id w.locations) i l.id) refl)) (λ u own.
+    after (LocationFirst w i l) (LocationNamed w i l) (location_once w i l) _ (location_first w i l) (λ t first.
     after Region (LocationNamed w i l) (under (Name (codes "region")) (region_named w l.region)) _ (within Region (Name (codes "region")) (region_named w l.region) (region_within w l.region)) (λ region g.
     after (RuleKept w.items (places w)) (LocationNamed w i l) (under (Name (codes "rule")) (rule_named w l.rule)) _ (within (RuleKept w.items (places w)) (Name (codes "rule")) (rule_named w l.rule) (rule_resolved w l.rule h.rule)) (λ rule r.
     after Event (LocationNamed w i l) (under (Name (codes "event")) (event_named w l.event)) _ (within Event (Name (codes "event")) (event_named w l.event) (event_keeps w l.id l.event h.event)) (λ event e.
-    record { kept = record { name = h.name; id = h.id; region = g; rule = r; event = e }; same = refl; same_id = refl; first = first; id_first = own })))))
+    record { kept = record { name = h.name; id = h.id; region = g; rule = r; event = e }; same = refl; same_id = refl; first = first.0; id_first = first.1 }))))
 
 record LocationsNamed (w : RawWorld) (i : ℕ) (raw : List RawLocation) (ls : List Location) : Type 0 where
   kept : All (NamedLocationKept w) ls
@@ -224,20 +233,42 @@ record AreNamed (w : RawWorld) (n : NamedWorld) : Type 0 where
   filler : Passes may_fill w n.filler
   goal : RuleKept w.items (places w) n.goal
 
+record StartNamed (w : RawWorld) (origin : ℕ) : Type 0 where
+  within_regions : origin < length w.regions
+  regions : FirstAt w.regions 0 w.regions
+  items : ItemsFirst w 0 w.items tt
+
+start_keeps : (w : RawWorld) → IfOk (start_named w) (StartNamed w)
+unfolding start_named
+start_keeps w =
+    let Region : ℕ → Type 0 = λ r. r < length w.regions in
+    let Regions : Unit {0} → Type 0 = λ _. FirstAt w.regions 0 w.regions in
+    after Region (StartNamed w) (under (Name (codes "origin")) (region_named w w.origin)) _ (within Region (Name (codes "origin")) (region_named w w.origin) (region_within w w.origin)) (λ origin o.
+    after Regions (StartNamed w) (under (Name (codes "regions")) (names_once w.regions 0 w.regions)) _ (within Regions (Name (codes "regions")) (names_once w.regions 0 w.regions) (once w.regions 0 w.regions)) (λ t r.
+    after (ItemsFirst w 0 w.items) (StartNamed w) (under (Name (codes "items")) (items_named w 0 w.items)) _ (within (ItemsFirst w 0 w.items) (Name (codes "items")) (items_named w 0 w.items) (items_first w 0 w.items)) (λ u i.
+    record { within_regions = o; regions = r; items = i })))
+
+record RowsNamed (w : RawWorld) (n : NamedRows) : Type 0 where
+  entrances : EntrancesNamed w 0 w.entrances n.entrances
+  locations : LocationsNamed w 0 w.locations n.locations
+  pool : EntriesNamed w w.pool n.pool
+
+rows_keep : (w : RawWorld) → IsShaped w → IfOk (rows_named w) (RowsNamed w)
+unfolding rows_named
+rows_keep w h =
+    after (EntrancesNamed w 0 w.entrances) (RowsNamed w) (under (Name (codes "entrances")) (entrances_named w 0 w.entrances)) _ (within (EntrancesNamed w 0 w.entrances) (Name (codes "entrances")) (entrances_named w 0 w.entrances) (entrances_keep w 0 w.entrances h.entrances.1)) (λ entrances e.
+    after (LocationsNamed w 0 w.locations) (RowsNamed w) (under (Name (codes "locations")) (locations_named w 0 w.locations)) _ (within (LocationsNamed w 0 w.locations) (Name (codes "locations")) (locations_named w 0 w.locations) (locations_keep w 0 w.locations h.locations.1)) (λ locations l.
+    after (EntriesNamed w w.pool) (RowsNamed w) (under (Name (codes "pool")) (entries_named w 0 w.pool)) _ (within (EntriesNamed w w.pool) (Name (codes "pool")) (entries_named w 0 w.pool) (entries_keep w 0 w.pool h.pool.each)) (λ pool p.
+    record { entrances = e; locations = l; pool = p })))
+
 names_keep : (w : RawWorld) → IsShaped w → IfOk (world_names w) (AreNamed w)
 unfolding world_names
 names_keep w h =
-    let Region : ℕ → Type 0 = λ r. r < length w.regions in
-    let Regions : Unit {0} → Type 0 = λ _. FirstAt w.regions 0 w.regions in
-    after Region (AreNamed w) (under (Name (codes "origin")) (region_named w w.origin)) _ (within Region (Name (codes "origin")) (region_named w w.origin) (region_within w w.origin)) (λ origin o.
-    after Regions (AreNamed w) (under (Name (codes "regions")) (names_once w.regions 0 w.regions)) _ (within Regions (Name (codes "regions")) (names_once w.regions 0 w.regions) (once w.regions 0 w.regions)) (λ t r.
-    after (ItemsFirst w 0 w.items) (AreNamed w) (under (Name (codes "items")) (items_named w 0 w.items)) _ (within (ItemsFirst w 0 w.items) (Name (codes "items")) (items_named w 0 w.items) (items_first w 0 w.items)) (λ u i.
-    after (EntrancesNamed w 0 w.entrances) (AreNamed w) (under (Name (codes "entrances")) (entrances_named w 0 w.entrances)) _ (within (EntrancesNamed w 0 w.entrances) (Name (codes "entrances")) (entrances_named w 0 w.entrances) (entrances_keep w 0 w.entrances h.entrances.1)) (λ entrances e.
-    after (LocationsNamed w 0 w.locations) (AreNamed w) (under (Name (codes "locations")) (locations_named w 0 w.locations)) _ (within (LocationsNamed w 0 w.locations) (Name (codes "locations")) (locations_named w 0 w.locations) (locations_keep w 0 w.locations h.locations.1)) (λ locations l.
-    after (EntriesNamed w w.pool) (AreNamed w) (under (Name (codes "pool")) (entries_named w 0 w.pool)) _ (within (EntriesNamed w w.pool) (Name (codes "pool")) (entries_named w 0 w.pool) (entries_keep w 0 w.pool h.pool.each)) (λ pool p.
+    after (StartNamed w) (AreNamed w) (start_named w) _ (start_keeps w) (λ origin o.
+    after (RowsNamed w) (AreNamed w) (rows_named w) _ (rows_keep w h) (λ rows r.
     after (Passes may_fill w) (AreNamed w) (under (Name (codes "filler")) (item_such may_fill UnknownName w w.filler)) _ (within (Passes may_fill w) (Name (codes "filler")) (item_such may_fill UnknownName w w.filler) (such_passes may_fill UnknownName w w.filler)) (λ filler f.
     after (RuleKept w.items (places w)) (AreNamed w) (under (Name (codes "goal")) (rule_named w w.goal)) _ (within (RuleKept w.items (places w)) (Name (codes "goal")) (rule_named w w.goal) (rule_resolved w w.goal h.goal)) (λ goal g.
-    record { origin = o; regions = r; items = i; entrances = e; locations = l; pool = p; filler = f; goal = g }))))))))
+    record { origin = o.within_regions; regions = o.regions; items = o.items; entrances = r.entrances; locations = r.locations; pool = r.pool; filler = f; goal = g }))))
 
 both : (a b : Bool) → (a && b) ≡ true → (a ≡ true) × (b ≡ true)
 both true b h = (refl, h)

@@ -13,7 +13,8 @@ use Rattle.mw_multi.specs.RulesKept.{IsCount}
 use Rattle.mw_tables.specs.Raw.{RawRule, always, never, has, has_all, has_any, has_count, reach_region, reach_location, all_of, some_of, RawRules, no_rules, a_rule, rules_of, nodes, depth}
 use Rattle.mw_tables.specs.RuleShape.{names_at, has_at, has_all_at, has_any_at, has_count_at, region_at, location_at, has_member, place_at, reach_at, leaf_in, leaf_or, all_or, some_or, form_at, rules_under, rules_at, rules_from, rule_at}
 use Rattle.mw_json.proofs.Passing.{past, after, within, where_true, in_field}
-use Rattle.mw_tables.proofs.Read.{name_kept, number_kept, list_kept, in_field_or, either}
+use Rattle.mw_json.proofs.Kept.{number_kept, list_kept, in_field_or, either}
+use Rattle.mw_tables.proofs.Read.{name_kept}
 use Rattle.mw_multi.specs.Names.{IsName}
 
 -- each list of names and each count in the rule is in its limits

@@ -14,10 +14,13 @@ use Rattle.mw_multi.specs.declared.item.Class.{Class}
 use Rattle.mw_tables.specs.Raw.{RawEntrance, RawLocation, RawEntry, RawWorld}
 use Rattle.mw_tables.specs.RuleShape.{rule_at}
 use Rattle.mw_tables.specs.Small.{IsSmall}
-use Rattle.mw_tables.specs.WorldShape.{format_in, class_word_at, class_at, item_at, entrance_at, kind_at, event_in, location_at, entry_at, entry_count, pool_at, world_shape_at}
+use Rattle.mw_tables.specs.WorldShape.{format_in, class_word_at, class_at, item_at, entrance_at, kind_at, event_in, location_at, entry_at, entry_count, pool_at, parts_in, rows_in, world_shape_at}
+use Rattle.mw_tables.specs.declared.raw_parts.WorldParts.{WorldParts}
+use Rattle.mw_tables.specs.declared.raw_parts.WorldRows.{WorldRows}
 use Rattle.mw_json.proofs.Passing.{past, after, where_true, in_field}
 use Rattle.mw_tables.proofs.RawKept.{RawRuleKept, rule_kept}
-use Rattle.mw_tables.proofs.Read.{name_kept, number_kept, id_or_null_kept, in_field_or, each_kept, list_kept}
+use Rattle.mw_json.proofs.Kept.{number_kept, in_field_or, each_kept, list_kept}
+use Rattle.mw_tables.proofs.Read.{name_kept, id_or_null_kept}
 
 -- ---- items
 
@@ -139,21 +142,43 @@ pub record IsShaped (w : RawWorld) : Type 0 where
   pub pool : RawPoolKept w.pool
   pub goal : RawRuleKept w.goal
 
+record PartsShaped (p : WorldParts) : Type 0 where
+  game : IsName 128 p.game
+  regions : IsLimited (IsName 128) 5000 p.regions
+  items : IsLimited ItemKept 10000 p.items
+
+parts_shaped : (ms : Members) → IfOk (parts_in ms) PartsShaped
+unfolding parts_in
+parts_shaped ms =
+    after (IsName 128) PartsShaped (field_at (codes "game") (name_at 128) ms) _ (in_field (IsName 128) (codes "game") (name_at 128) ms (name_kept 128)) (λ game g.
+    past PartsShaped (field_or_at (codes "origin") (codes "Menu") (name_at 128) ms) _ (λ origin.
+    after (IsLimited (IsName 128) 5000) PartsShaped (field_at (codes "regions") (list_of_at 5000 (name_at 128)) ms) _ (in_field (IsLimited (IsName 128) 5000) (codes "regions") (list_of_at 5000 (name_at 128)) ms (list_kept (IsName 128) (name_at 128) (name_kept 128) 5000)) (λ regions r.
+    after (IsLimited ItemKept 10000) PartsShaped (field_at (codes "items") (list_of_at 10000 item_at) ms) _ (in_field (IsLimited ItemKept 10000) (codes "items") (list_of_at 10000 item_at) ms (list_kept ItemKept item_at item_kept 10000)) (λ items i.
+    record { game = g; regions = r; items = i }))))
+
+record RowsShaped (r : WorldRows) : Type 0 where
+  entrances : IsLimited RawEntranceKept 10000 r.entrances
+  locations : IsLimited RawLocationKept 10000 r.locations
+  pool : RawPoolKept r.pool
+
+rows_shaped : (ms : Members) → IfOk (rows_in ms) RowsShaped
+unfolding rows_in
+rows_shaped ms =
+    after (IsLimited RawEntranceKept 10000) RowsShaped (field_at (codes "entrances") (list_of_at 10000 entrance_at) ms) _ (in_field (IsLimited RawEntranceKept 10000) (codes "entrances") (list_of_at 10000 entrance_at) ms (list_kept RawEntranceKept entrance_at entrance_kept 10000)) (λ entrances e.
+    after (IsLimited RawLocationKept 10000) RowsShaped (field_at (codes "locations") (list_of_at 10000 location_at) ms) _ (in_field (IsLimited RawLocationKept 10000) (codes "locations") (list_of_at 10000 location_at) ms (list_kept RawLocationKept location_at location_kept 10000)) (λ locations l.
+    after RawPoolKept RowsShaped (field_at (codes "pool") pool_at ms) _ (in_field RawPoolKept (codes "pool") pool_at ms pool_kept) (λ pool p.
+    past RowsShaped (field_at (codes "filler") (name_at 128) ms) _ (λ filler.
+    record { entrances = e; locations = l; pool = p }))))
+
 pub world_shaped : (j : Json) → IfOk (world_shape_at j) IsShaped
 unfolding world_shape_at
 world_shaped j =
     past IsShaped (object_at j) _ (λ ms.
     past IsShaped (format_in (codes "mw-world-1") ms) _ (λ format.
-    after (IsName 128) IsShaped (field_at (codes "game") (name_at 128) ms) _ (in_field (IsName 128) (codes "game") (name_at 128) ms (name_kept 128)) (λ game g.
-    past IsShaped (field_or_at (codes "origin") (codes "Menu") (name_at 128) ms) _ (λ origin.
-    after (IsLimited (IsName 128) 5000) IsShaped (field_at (codes "regions") (list_of_at 5000 (name_at 128)) ms) _ (in_field (IsLimited (IsName 128) 5000) (codes "regions") (list_of_at 5000 (name_at 128)) ms (list_kept (IsName 128) (name_at 128) (name_kept 128) 5000)) (λ regions r.
-    after (IsLimited ItemKept 10000) IsShaped (field_at (codes "items") (list_of_at 10000 item_at) ms) _ (in_field (IsLimited ItemKept 10000) (codes "items") (list_of_at 10000 item_at) ms (list_kept ItemKept item_at item_kept 10000)) (λ items i.
-    after (IsLimited RawEntranceKept 10000) IsShaped (field_at (codes "entrances") (list_of_at 10000 entrance_at) ms) _ (in_field (IsLimited RawEntranceKept 10000) (codes "entrances") (list_of_at 10000 entrance_at) ms (list_kept RawEntranceKept entrance_at entrance_kept 10000)) (λ entrances e.
-    after (IsLimited RawLocationKept 10000) IsShaped (field_at (codes "locations") (list_of_at 10000 location_at) ms) _ (in_field (IsLimited RawLocationKept 10000) (codes "locations") (list_of_at 10000 location_at) ms (list_kept RawLocationKept location_at location_kept 10000)) (λ locations l.
-    after RawPoolKept IsShaped (field_at (codes "pool") pool_at ms) _ (in_field RawPoolKept (codes "pool") pool_at ms pool_kept) (λ pool p.
-    past IsShaped (field_at (codes "filler") (name_at 128) ms) _ (λ filler.
+    after PartsShaped IsShaped (parts_in ms) _ (parts_shaped ms) (λ parts p.
+    after RowsShaped IsShaped (rows_in ms) _ (rows_shaped ms) (λ rows r.
     after RawRuleKept IsShaped (field_at (codes "goal") rule_at ms) _ (in_field RawRuleKept (codes "goal") rule_at ms rule_kept) (λ goal o.
-    record { game = g; regions = r; items = i; entrances = e; locations = l; pool = p; goal = o })))))))))))
+    record { game = p.game; regions = p.regions; items = p.items; entrances = r.entrances; locations = r.locations; pool = r.pool; goal = o })))))
 
 pub shaped_is_small : (w : RawWorld) → IsShaped w → IsSmall w
 shaped_is_small w h = record { regions = omega (arith, h.regions.0); items = h.items.0; entrances = h.entrances.0; locations = h.locations.0 }

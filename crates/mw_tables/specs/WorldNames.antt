@@ -10,6 +10,7 @@ use Rattle.mw_multi.specs.WorldKept.{item_name, item_id, is_event, has_id, is_fi
 use Rattle.mw_tables.specs.Names.{Check, demand, stands_first, id_stands_first, names_once}
 use Rattle.mw_tables.specs.Raw.{RawEntrance, RawLocation, RawEntry, RawWorld}
 use Rattle.mw_tables.specs.RuleNames.{region_named, item_such, raw_location_name, rule_named}
+use Rattle.mw_tables.specs.declared.named_rows.NamedRows.{NamedRows}
 
 -- ---- names and ids that stand at no earlier place
 
@@ -78,10 +79,15 @@ abbrev pub event_named : RawWorld → Option (List ℕ) → Result (Option ℕ) 
 event_named w (Some name) = there (item_such is_event UnknownName w name)
 event_named w None = Ok None
 
+-- its name and its id, if it has one, stand at no earlier place
+unfoldable pub location_once : RawWorld → ℕ → RawLocation → Check
+location_once w i l = do
+  name ← under (Name (codes "name")) (location_name_once w i l)
+  under (Name (codes "id")) (location_id_once w i l)
+
 unfoldable pub location_named : RawWorld → ℕ → RawLocation → Result Location Breach
 location_named w i l = do
-  name ← under (Name (codes "name")) (location_name_once w i l)
-  id ← under (Name (codes "id")) (location_id_once w i l)
+  once ← location_once w i l
   region ← under (Name (codes "region")) (region_named w l.region)
   rule ← under (Name (codes "rule")) (rule_named w l.rule)
   event ← under (Name (codes "event")) (event_named w l.event)
@@ -124,21 +130,34 @@ pub record NamedWorld : Type 0 where
   pub filler : ℕ
   pub goal : Rule
 
-unfoldable pub world_names : RawWorld → Result NamedWorld Breach
-world_names w = do
+-- where a player begins, where no region and no item stands twice
+unfoldable pub start_named : RawWorld → Result ℕ Breach
+start_named w = do
   origin ← under (Name (codes "origin")) (region_named w w.origin)
   regions ← under (Name (codes "regions")) (names_once w.regions 0 w.regions)
   items ← under (Name (codes "items")) (items_named w 0 w.items)
+  Ok origin
+
+-- the entrances, the locations and the pool
+unfoldable pub rows_named : RawWorld → Result NamedRows Breach
+rows_named w = do
   entrances ← under (Name (codes "entrances")) (entrances_named w 0 w.entrances)
   locations ← under (Name (codes "locations")) (locations_named w 0 w.locations)
   pool ← under (Name (codes "pool")) (entries_named w 0 w.pool)
+  Ok record { entrances = entrances; locations = locations; pool = pool }
+
+-- these, and then the filler and the goal
+unfoldable pub world_names : RawWorld → Result NamedWorld Breach
+world_names w = do
+  origin ← start_named w
+  rows ← rows_named w
   filler ← under (Name (codes "filler")) (item_such may_fill UnknownName w w.filler)
   goal ← under (Name (codes "goal")) (rule_named w w.goal)
   Ok record {
     origin = origin;
-    entrances = entrances;
-    locations = locations;
-    pool = pool;
+    entrances = rows.entrances;
+    locations = rows.locations;
+    pool = rows.pool;
     filler = filler;
     goal = goal;
   }

@@ -13,6 +13,8 @@ use Rattle.mw_multi.specs.declared.location.LocKind.{LocKind}
 use Rattle.mw_multi.specs.declared.location.LocKind.TheVariants.{Default, Priority, Excluded}
 use Rattle.mw_tables.specs.Raw.{RawEntrance, RawLocation, RawEntry, RawWorld}
 use Rattle.mw_tables.specs.RuleShape.{rule_at}
+use Rattle.mw_tables.specs.declared.raw_parts.WorldParts.{WorldParts}
+use Rattle.mw_tables.specs.declared.raw_parts.WorldRows.{WorldRows}
 
 -- the one format
 abbrev pub format_of : List ℕ → List ℕ → Result (Unit {0}) Breach
@@ -121,27 +123,40 @@ pool_at j = do
 
 -- ---- the whole
 
-unfoldable pub world_shape_at : Json → Result RawWorld Breach
-world_shape_at j = do
-  ms ← object_at j
-  format ← format_in (codes "mw-world-1") ms
+-- the game, the region where a player begins, the regions and the items
+unfoldable pub parts_in : Members → Result WorldParts Breach
+parts_in ms = do
   game ← field_at (codes "game") (name_at 128) ms
   origin ← field_or_at (codes "origin") (codes "Menu") (name_at 128) ms
   regions ← field_at (codes "regions") (list_of_at 5000 (name_at 128)) ms
   items ← field_at (codes "items") (list_of_at 10000 item_at) ms
+  Ok record { game = game; origin = origin; regions = regions; items = items }
+
+-- the entrances, the locations, the pool and the filler
+unfoldable pub rows_in : Members → Result WorldRows Breach
+rows_in ms = do
   entrances ← field_at (codes "entrances") (list_of_at 10000 entrance_at) ms
   locations ← field_at (codes "locations") (list_of_at 10000 location_at) ms
   pool ← field_at (codes "pool") pool_at ms
   filler ← field_at (codes "filler") (name_at 128) ms
+  Ok record { entrances = entrances; locations = locations; pool = pool; filler = filler }
+
+-- these, and then the goal
+unfoldable pub world_shape_at : Json → Result RawWorld Breach
+world_shape_at j = do
+  ms ← object_at j
+  format ← format_in (codes "mw-world-1") ms
+  parts ← parts_in ms
+  rows ← rows_in ms
   goal ← field_at (codes "goal") rule_at ms
   Ok record {
-    game = game;
-    origin = origin;
-    regions = regions;
-    items = items;
-    entrances = entrances;
-    locations = locations;
-    pool = pool;
-    filler = filler;
+    game = parts.game;
+    origin = parts.origin;
+    regions = parts.regions;
+    items = parts.items;
+    entrances = rows.entrances;
+    locations = rows.locations;
+    pool = rows.pool;
+    filler = rows.filler;
     goal = goal;
   }

@@ -1,7 +1,7 @@
 ghost use Rattle.std.specs.Prelude.{◌≡◌};
 ghost use Rattle.mw_json.specs.Grammar.{Gives};
 ghost use Rattle.mw_tables.specs.Names.{is_at as is_at_place, names_once};
-ghost use Rattle.mw_tables.specs.WorldNames.{region_once, item_name_once, item_id_once, item_named, items_named, entrance_once, location_name_once, location_id_once};
+ghost use Rattle.mw_tables.specs.WorldNames.{region_once, item_name_once, item_id_once, item_named, items_named, entrance_once, location_name_once, location_id_once, location_once};
 
 use crate::judge::judge;
 use crate::raw::{RawEntrance, RawLocation};
@@ -90,7 +90,7 @@ pub(crate) fn judge_entrance_name(
 }
 
 /// The location's name stands at no earlier one.
-pub(crate) fn judge_location_name(
+fn judge_location_name(
     alloc: Global,
     tables: &Tables,
     at: usize,
@@ -103,7 +103,7 @@ pub(crate) fn judge_location_name(
 }
 
 /// The location's id, if it has one, stands at no earlier one.
-pub(crate) fn judge_location_id(
+fn judge_location_id(
     alloc: Global,
     tables: &Tables,
     at: usize,
@@ -118,4 +118,22 @@ pub(crate) fn judge_location_id(
         }
         None => Ok(()),
     }
+}
+
+/// The location's name and id stand at no earlier one.
+#[tactic(auto, unfolding(crate::specs::WorldNames::location_once))]
+pub(crate) fn judge_location(
+    alloc: Global,
+    tables: &Tables,
+    at: usize,
+    location: &RawLocation,
+) -> Result<(), Refusal>
+    ensures { Gives result (location_once tables.now at location.now) }
+{
+    at_name(
+        alloc,
+        judge_location_name(alloc, tables, at, location),
+        "name",
+    )?;
+    at_name(alloc, judge_location_id(alloc, tables, at, location), "id")
 }

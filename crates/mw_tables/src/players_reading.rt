@@ -2,6 +2,7 @@ ghost use Rattle.std.specs.Prelude.{◌≡◌, [], codes};
 ghost use Rattle.mw_json.specs.View.{view};
 ghost use Rattle.mw_json.specs.Grammar.{Gives, under};
 ghost use Rattle.mw_json.specs.Files.{GivesFile};
+ghost use Rattle.mw_json.specs.Valid.{IsValid};
 ghost use Rattle.mw_json.specs.declared.refusal.Step.TheVariants.{Name};
 ghost use Rattle.mw_multi.specs.PlayersKept.{IsPlayers};
 ghost use Rattle.mw_tables.specs.PlayersOf.{players_named, players_at};
@@ -37,6 +38,7 @@ fn players_of(raw: RawPlayers) -> Players
 /// The players that a tree stands for.
 #[tactic(auto, unfolding(crate::specs::PlayersOf::players_at))]
 fn players_of_tree(alloc: Global, tree: &Tree) -> Result<Players, Refusal>
+    requires { IsValid (view tree.now) }
     ensures { Gives result (players_at (view tree.now)) }
 {
     let raw = players_shape(alloc, tree)?;

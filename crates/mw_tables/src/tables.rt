@@ -57,21 +57,31 @@ impl<'a> Tables<'a> {
         requires { IsSmall world.now }
         ensures { IfOk result (λ t. t ≡ world.now) }
     {
-        let regions = index_names(alloc, world.regions.as_slice())?;
-        let items = index_names(alloc, world.items.as_slice())?;
-        let entrances = index_names(alloc, world.entrances.as_slice())?;
-        let locations = index_names(alloc, world.locations.as_slice())?;
-        let item_ids = index_ids(alloc, world.items.as_slice())?;
-        let location_ids = index_ids(alloc, world.locations.as_slice())?;
-        Ok(Tables {
-            world,
-            regions,
-            items,
-            entrances,
-            locations,
-            item_ids,
-            location_ids,
-        })
+        let regions = index_names(alloc, world.regions.as_slice());
+        let items = index_names(alloc, world.items.as_slice());
+        let entrances = index_names(alloc, world.entrances.as_slice());
+        let locations = index_names(alloc, world.locations.as_slice());
+        let item_ids = index_ids(alloc, world.items.as_slice());
+        let location_ids = index_ids(alloc, world.locations.as_slice());
+        match (regions, items, entrances, locations, item_ids, location_ids) {
+            (
+                Ok(regions),
+                Ok(items),
+                Ok(entrances),
+                Ok(locations),
+                Ok(item_ids),
+                Ok(location_ids),
+            ) => Ok(Tables {
+                world,
+                regions,
+                items,
+                entrances,
+                locations,
+                item_ids,
+                location_ids,
+            }),
+            _ => Err(Memory),
+        }
     }
 
     /// The region of a name; None exactly where there is none.

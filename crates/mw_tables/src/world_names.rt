@@ -1,12 +1,11 @@
 ghost use Rattle.std.specs.Prelude.{◌≡◌};
 ghost use Rattle.mw_json.specs.Grammar.{Gives};
-ghost use Rattle.mw_tables.specs.WorldNames.{entrance_named, entrances_named, event_named, location_named, locations_named, entry_named, entries_named, world_names};
+ghost use Rattle.mw_tables.specs.WorldNames.{entrance_named, entrances_named, event_named, location_named, locations_named, entry_named, entries_named, rows_named, start_named, world_names};
 
 use crate::item_names::{event_item_in, filler_item_in, pool_item_in, region_in};
 use crate::named::NamedWorld;
-use crate::once::{
-    judge_entrance_name, judge_items, judge_location_id, judge_location_name, judge_regions,
-};
+use crate::named_rows::NamedRows;
+use crate::once::{judge_entrance_name, judge_items, judge_location, judge_regions};
 use crate::raw::{RawEntrance, RawEntry, RawLocation};
 use crate::rule_names::named_rule_in;
 use crate::tables::Tables;
@@ -81,12 +80,7 @@ fn location_in(
 ) -> Result<Location, Refusal>
     ensures { Gives result (location_named tables.now at location.now) }
 {
-    at_name(
-        alloc,
-        judge_location_name(alloc, tables, at, location),
-        "name",
-    )?;
-    at_name(alloc, judge_location_id(alloc, tables, at, location), "id")?;
+    judge_location(alloc, tables, at, location)?;
     let region = at_name(
         alloc,
         region_in(alloc, tables, location.region.as_str()),
@@ -144,33 +138,50 @@ fn entries_in(alloc: Global, tables: &Tables) -> Result<List<PoolEntry>, Refusal
     Ok(entries)
 }
 
+/// Where a player begins, where no region and no item stands twice.
+#[tactic(auto, unfolding(crate::specs::WorldNames::start_named))]
+fn start_in(alloc: Global, tables: &Tables) -> Result<u32, Refusal>
+    ensures { Gives result (start_named tables.now) }
+{
+    let world = tables.world();
+    let origin = region_in(alloc, tables, world.origin.as_str());
+    let origin = at_name(alloc, origin, "origin")?;
+    at_name(alloc, judge_regions(alloc, tables), "regions")?;
+    at_name(alloc, judge_items(alloc, tables), "items")?;
+    Ok(origin)
+}
+
+/// What the names of the entrances, the locations and the pool stand for.
+#[tactic(auto, unfolding(crate::specs::WorldNames::rows_named))]
+fn rows_in(alloc: Global, tables: &Tables) -> Result<NamedRows, Refusal>
+    ensures { Gives result (rows_named tables.now) }
+{
+    let entrances = at_name(alloc, entrances_in(alloc, tables), "entrances")?;
+    let locations = at_name(alloc, locations_in(alloc, tables), "locations")?;
+    let pool = at_name(alloc, entries_in(alloc, tables), "pool")?;
+    Ok(NamedRows {
+        entrances,
+        locations,
+        pool,
+    })
+}
+
 /// The names of a world, resolved in the order of its tables.
 #[tactic(auto, unfolding(crate::specs::WorldNames::world_names))]
 pub(crate) fn names_in(alloc: Global, tables: &Tables) -> Result<NamedWorld, Refusal>
     ensures { Gives result (world_names tables.now) }
 {
     let world = tables.world();
-    let origin = at_name(
-        alloc,
-        region_in(alloc, tables, world.origin.as_str()),
-        "origin",
-    )?;
-    at_name(alloc, judge_regions(alloc, tables), "regions")?;
-    at_name(alloc, judge_items(alloc, tables), "items")?;
-    let entrances = at_name(alloc, entrances_in(alloc, tables), "entrances")?;
-    let locations = at_name(alloc, locations_in(alloc, tables), "locations")?;
-    let pool = at_name(alloc, entries_in(alloc, tables), "pool")?;
-    let filler = at_name(
-        alloc,
-        filler_item_in(alloc, tables, world.filler.as_str()),
-        "filler",
-    )?;
+    let origin = start_in(alloc, tables)?;
+    let rows = rows_in(alloc, tables)?;
+    let filler = filler_item_in(alloc, tables, world.filler.as_str());
+    let filler = at_name(alloc, filler, "filler")?;
     let goal = at_name(alloc, named_rule_in(alloc, tables, &world.goal), "goal")?;
     Ok(NamedWorld {
         origin,
-        entrances,
-        locations,
-        pool,
+        entrances: rows.entrances,
+        locations: rows.locations,
+        pool: rows.pool,
         filler,
         goal: goal.rule,
     })

@@ -18,12 +18,12 @@ loop-name-preserved c =
     record {
       value = λ ms h.
           one_left _ _ _ (view c.in_ok-value.value) (map member_view c.loop-name.members) _ ms
-          c.in_ok-value.ensures.value c.in_ok-put.ensures
+          c.in_ok-value.ensures.value c.in_ok-put.ensures.ok
           (subst (λ fs. Left (map (λ f. (f.0.now, f.1)) fs) (map member_view c.loop-name.members) ms) front (c.loop-name.invariant.value ms h));
       writable = λ can.
           let so_far = c.loop-name.invariant.writable can in
           let rest = subst (λ fs. FieldsAreWritable (map (λ f. f.1) fs)) front so_far.1 in
-          (rw c.in_ok-put.ensures (one_member_more _ _ so_far.0 (c.in_ok-value.ensures.writable rest.0)), rest.1);
+          (rw c.in_ok-put.ensures.ok (one_member_more _ _ so_far.0 (c.in_ok-value.ensures.writable rest.0)), rest.1);
     }
 
 pub returns-clause-value : goal.returns-clause-value
