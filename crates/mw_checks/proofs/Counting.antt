@@ -44,6 +44,51 @@ one_fewer done team slot n (suc j) k (o ∷ os) at w own there free =
     let rest : awaited (set done (seat k team) true) team slot (n + 1) os + 1 ≤ awaited done team slot (n + 1) os = one_fewer done team slot (n + 1) j k os (omega arith) (omega arith) own there free in
     omega (arith, less_if (o == slot) (get_or done (seat n team) false) (get_or (set done (seat k team) true) (seat n team) false) (flag_stays done (seat k team) (seat n team)), rest)
 
+-- a flag that is no place of theirs changes nothing
+awaited_apart : (done : List Bool) (team slot n k : ℕ) (os : List ℕ) → ((m : ℕ) → n ≤ m → seat m team ≢ k) → awaited (set done k true) team slot n os ≡ awaited done team slot n os
+awaited_apart done team slot n k [] apart = refl
+awaited_apart done team slot n k (o ∷ os) apart =
+    ap₂ (λ (b : Bool) (m : ℕ). one_if ((o == slot) && not b) + m) (get_or-set_other done k (seat n team) true false (apart n (omega arith)))
+    (awaited_apart done team slot (n + 1) k os (λ m h. apart m (omega arith)))
+
+unmarked_one : (b : Bool) → one_if (b && false) + one_if b ≡ one_if (b && true)
+unmarked_one true = refl
+unmarked_one false = refl
+
+-- a flag more leaves exactly one less to come where its owner is the slot
+awaited_marked : (done : List Bool) (team slot n j k : ℕ) (os : List ℕ) → n + j ≡ k → j < length os → seat k team < length done → get_or done (seat k team) false ≡ false
+    → awaited (set done (seat k team) true) team slot n os + one_if (get_or os j 0 == slot) ≡ awaited done team slot n os
+awaited_marked done team slot n j k [] at w there free = absurd (omega arith)
+awaited_marked done team slot n zero k (o ∷ os) at w there free =
+    let here : k ≡ n = omega arith in
+    let marked : get_or (set done (seat k team) true) (seat n team) false ≡ true = ap (λ m. get_or (set done (seat k team) true) (seat m team) false) (sym here) ∙ get_or-set_same done (seat k team) true false there in
+    let unmarked : get_or done (seat n team) false ≡ false = ap (λ m. get_or done (seat m team) false) (sym here) ∙ free in
+    let after : one_if ((o == slot) && not (get_or (set done (seat k team) true) (seat n team) false)) ≡ one_if ((o == slot) && false) = ap (λ (b : Bool). one_if ((o == slot) && not b)) marked in
+    let before : one_if ((o == slot) && not (get_or done (seat n team) false)) ≡ one_if ((o == slot) && true) = ap (λ (b : Bool). one_if ((o == slot) && not b)) unmarked in
+    let rest : awaited (set done (seat k team) true) team slot (n + 1) os ≡ awaited done team slot (n + 1) os = awaited_apart done team slot (n + 1) (seat k team) os (λ m h e. omega (arith, e)) in
+    omega (arith, after, before, unmarked_one (o == slot), rest)
+awaited_marked done team slot n (suc j) k (o ∷ os) at w there free =
+    let first : get_or (set done (seat k team) true) (seat n team) false ≡ get_or done (seat n team) false = get_or-set_other done (seat k team) (seat n team) true false (λ e. omega (arith, e)) in
+    let same : one_if ((o == slot) && not (get_or (set done (seat k team) true) (seat n team) false)) ≡ one_if ((o == slot) && not (get_or done (seat n team) false)) = ap (λ (b : Bool). one_if ((o == slot) && not b)) first in
+    let rest : awaited (set done (seat k team) true) team slot (n + 1) os + one_if (get_or os j 0 == slot) ≡ awaited done team slot (n + 1) os = awaited_marked done team slot (n + 1) j k os (omega arith) (omega arith) there free in
+    omega (arith, same, rest)
+
+-- of an owner's places one more is flagged in a team, so one less is to come there
+pub awaited_less : (done : List Bool) (team slot in_team k owner : ℕ) (os : List ℕ) → team < 8 → in_team < 8 → k < length os → get_or os k 0 ≡ owner → seat k in_team < length done → get_or done (seat k in_team) false ≡ false
+    → awaited (set done (seat k in_team) true) team slot 0 os + one_if ((in_team == team) && (owner == slot)) ≡ awaited done team slot 0 os
+awaited_less done team slot in_team k owner os t u w own there free =
+    elim (eqb_tells in_team team) [
+      | inl e ↦
+          subst (λ x. awaited (set done (seat k in_team) true) x slot 0 os + one_if ((in_team == team) && (owner == slot)) ≡ awaited done x slot 0 os) e.1
+          (ap (λ (b : Bool). awaited (set done (seat k in_team) true) in_team slot 0 os + one_if (b && (owner == slot))) e.0
+          ∙ ap (λ x. awaited (set done (seat k in_team) true) in_team slot 0 os + one_if (x == slot)) (sym own)
+          ∙ awaited_marked done in_team slot 0 k k os (omega arith) w there free)
+      | inr e ↦
+          let same : awaited (set done (seat k in_team) true) team slot 0 os ≡ awaited done team slot 0 os = awaited_apart done team slot 0 (seat k in_team) os (λ m h at. e.1 (omega (arith, at))) in
+          let none : one_if ((in_team == team) && (owner == slot)) ≡ 0 = ap (λ (b : Bool). one_if (b && (owner == slot))) e.0 in
+          omega (arith, same, none)
+    ]
+
 -- what isn't flagged has its place
 pub row_has_room : (owners : List ℕ) (done : List Bool) (rows : List (Vec ℕ Global)) (team n : ℕ) (d : Vec ℕ Global) → Fit owners done rows → team < 8 → n < length owners → get_or owners n 0 ≤ 1024
     → seat n team < length done → get_or done (seat n team) false ≡ false → vec_len (get_or rows (seat (get_or owners n 0) team) d) < vec_capacity (get_or rows (seat (get_or owners n 0) team) d)

@@ -6,15 +6,15 @@ use Rattle.std.specs.Bool.{Decides}
 use Rattle.std.specs.Ordering.{int_eq}
 use Rattle.std.proofs.lemmas.Bool.{eq-eqb}
 use Rattle.std.proofs.lemmas.Bool.Decides.{eqb_tells, Decides-and, Decides-eqb, Decides-int_eq}
-use Rattle.std.proofs.lemmas.List.{drop_more, length-set, length-map, length-replicate, map-append, get_or-set_same, get_or-set_other}
+use Rattle.std.proofs.lemmas.List.{drop_more, length-append, length-set, length-map, length-replicate, map-append, get_or-set_same, get_or-set_other}
 use Rattle.std.proofs.lemmas.Option.{slice_get_within, slice_get_cases}
 use Rattle.mw_model.specs.Seed.{Seed, Held, held_among, held_at}
 use Rattle.mw_protocol.specs.Checks.{Check, same_check, has_check, found_item, item_for, items_found, locations_in}
 use Rattle.mw_checks.specs.Log.{AreFresh, check_of}
 use Rattle.mw_checks.specs.Numbers.{number_of}
-use Rattle.mw_checks.specs.Rows.{seat, flagged, standing, receiver_of, finder_of, location_of, AllBelow, Fit, HasPlace, Put, Shows, Keeps, Counts, Empty}
+use Rattle.mw_checks.specs.Rows.{seat, flagged, standing, one_if, many_of, awaited, receiver_of, finder_of, location_of, AllBelow, Fit, HasPlace, Put, Shows, Keeps, Counts, Empty}
 use Rattle.mw_checks.proofs.Numbering.{held_numbered}
-use Rattle.mw_checks.proofs.Counting.{row_has_room, fits_put, get_or-replicate_same, fits_none}
+use Rattle.mw_checks.proofs.Counting.{row_has_room, fits_put, get_or-replicate_same, fits_none, all_awaited, awaited_less}
 
 -- ---- lists that grow
 
@@ -220,6 +220,24 @@ places_more seed checked done received found c n h k e =
       ),
     )
 
+one_listed : (b : Bool) (l : ℤ) (ls : List ℤ) → length (ls ++ cond b (l ∷ []) []) ≡ length ls + one_if b
+one_listed true l ls = length-append ls (l ∷ [])
+one_listed false l ls = length-append ls []
+
+-- one check more, and one location less that is to come
+counts_more : (done : List Bool) (owners : List ℕ) (checked : List Check) (c : Check) (team slot n owner : ℕ) → team < 8 → c.team < 8 → owner ≡ c.slot → n < length owners → get_or owners n 0 ≡ owner
+    → seat n c.team < length done → get_or done (seat n c.team) false ≡ false
+    → length (locations_in team slot checked) + awaited done team slot 0 owners ≡ many_of slot owners
+    → length (locations_in team slot (checked ++ c ∷ [])) + awaited (set done (seat n c.team) true) team slot 0 owners ≡ many_of slot owners
+counts_more done owners checked c team slot n owner t u is w own there free before =
+    let test = (c.team == team) && (c.slot == slot) in
+    let listed : length (locations_in team slot (checked ++ c ∷ [])) ≡ length (locations_in team slot checked) + one_if test =
+    ap length (locations_in-append team slot checked (c ∷ [])) ∙ one_listed test c.location (locations_in team slot checked) in
+    let less : awaited (set done (seat n c.team) true) team slot 0 owners + one_if test ≡ awaited done team slot 0 owners =
+    ap (λ (x : ℕ). awaited (set done (seat n c.team) true) team slot 0 owners + one_if ((c.team == team) && (x == slot))) (sym is)
+    ∙ awaited_less done team slot c.team n owner owners t u w own there free in
+    omega (arith, listed, less, before)
+
 pub keeps_more : (seed : Seed) (checked : List Check) (done : List Bool) (received found received_after found_after : List (Vec ℕ Global)) (c : Check) (n : ℕ) (h : Held)
     → Keeps seed checked done received found → Enters seed checked c n h → Put received received_after (seat h.receiver c.team) n → Put found found_after (seat h.slot c.team) n
     → Keeps seed (checked ++ c ∷ []) (set done (seat n c.team) true) received_after found_after
@@ -243,6 +261,7 @@ keeps_more seed checked done received found received_after found_after c n h k e
       found_are = λ team slot d t s. shows_put location_of hs found found_after (λ u r. locations_in u r checked) c.team c.slot n h e.team e.slot e.there q k.found_are team slot d t s
           ∙ ap (λ l. locations_in team slot checked ++ cond ((c.team == team) && (c.slot == slot)) (l ∷ []) []) location
           ∙ sym (locations_in-append team slot checked (c ∷ []));
+      counted = λ team slot t. counts_more done (map finder_of hs) checked c team slot n h.slot t e.team finder (subst (λ m. n < m) (sym (length-map hs finder_of)) row) (owner_at finder_of hs n h e.there) within free (k.counted team slot t);
     }
 
 -- ---- no check
@@ -263,6 +282,7 @@ keeps_none seed receivers finders received found r g e d = record {
   found_fit = fits_none (map finder_of seed.locations) finders (8 * length seed.locations) found g d;
   received_are = shows_none found_item seed.locations receivers received e;
   found_are = shows_none location_of seed.locations finders found d;
+  counted = λ team slot t. let none = all_awaited (8 * length seed.locations) team slot 0 (map finder_of seed.locations) in omega (arith, none);
 }
 
 -- ---- how many

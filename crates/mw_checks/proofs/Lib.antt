@@ -5,3 +5,4 @@ pub mod News
 pub mod Numbering
 pub mod Releasing
 pub mod Tails
+pub mod Tied

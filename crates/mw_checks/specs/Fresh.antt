@@ -17,10 +17,6 @@ new_checks seed checked asked = unseen checked (known_checks seed asked)
 abbrev pub new_at : Log → ℕ → ℕ → List ℤ → List Check
 new_at log team slot numbers = Locations.new_checks log.seed log.checked team slot numbers
 
--- the locations of the slot among those numbers, each once, as checks in a team
-abbrev pub known_at : Log → ℕ → ℕ → List ℤ → List Check
-known_at log team slot numbers = Locations.known_checks log.seed team slot numbers
-
 -- the new ones among pairs
 abbrev pub new_among : Log → ℕ → List (ℕ × ℤ) → List Check
 new_among log team pairs = new_checks log.seed log.checked (checks_of team pairs)

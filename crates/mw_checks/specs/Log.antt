@@ -36,7 +36,7 @@ AreFresh seed checked team (pair ∷ pairs) =
     × AreFresh seed (checked ++ check_of team pair ∷ []) team pairs)
 
 -- the growth was made of this log, for at least so many checks more
-pub record HasRoom (log : Log) (growth : CheckGrowth) (more : ℕ) : Type 0 where
+pub record HasLogRoom (log : Log) (growth : CheckGrowth) (more : ℕ) : Type 0 where
   pub order : MatchOption growth.order.buffer (length log.checked + more ≤ log.space)
       (λ b. (b.items ≡ []) × (length log.checked + more ≤ vec_capacity b))
   pub empty : growth.checks.items ≡ []

@@ -107,3 +107,8 @@ pub record Keeps (seed : Seed) (checked : List Check) (done : List Bool)
       (λ team slot. items_found seed team slot checked)
   pub found_are : Shows location_of seed.locations found
       (λ team slot. locations_in team slot checked)
+  -- of each slot's locations those that are checked and those that aren't are all
+  pub counted : (team slot : ℕ) → team < 8
+      → length (locations_in team slot checked)
+      + awaited done team slot 0 (map finder_of seed.locations)
+      ≡ many_of slot (map finder_of seed.locations)

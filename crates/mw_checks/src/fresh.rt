@@ -1,4 +1,4 @@
-ghost use Rattle.std.specs.Prelude.{◌≡◌, ◌≤◌, [], IfOk, OnOk, drop, length};
+ghost use Rattle.std.specs.Prelude.{◌≡◌, ◌≤◌, IfOk, OnOk, drop, length};
 ghost use Rattle.mw_protocol.specs.Checks.{checks_at};
 ghost use Rattle.mw_checks.specs.Fresh.{Notes, new_among, new_checks};
 ghost use Rattle.mw_checks.specs.Log.{checks_of};
@@ -42,57 +42,6 @@ pub(crate) fn note(
         found.insert(pair)?;
     }
     Ok(())
-}
-
-/// Adds a pair, unless it is no location of its slot.
-fn note_known(
-    log: &CheckLog,
-    team: TeamId,
-    pair: (SlotId, LocId),
-    found: &mut Pairs,
-) -> Result<(), Memory>
-    ensures { OnOk result (Notes log.now.seed [] team pair found.old.keys found.new.keys) }
-{
-    let (slot, location) = pair;
-    if log.held(slot, location).is_some() {
-        found.insert(pair)?;
-    }
-    Ok(())
-}
-
-/// Adds a location of a slot by its number, unless it is none.
-fn note_number(
-    log: &CheckLog,
-    team: TeamId,
-    slot: SlotId,
-    number: i128,
-    found: &mut Pairs,
-) -> Result<(), Memory>
-    ensures { OnOk result (Notes log.now.seed [] team
-        (slot, number) found.old.keys found.new.keys) }
-{
-    match log.id_of(number) {
-        Some(location) => note_known(log, team, (slot, location), found),
-        None => Ok(()),
-    }
-}
-
-/// The known ones among locations of a slot, each once.
-pub(crate) fn known_numbers(
-    log: &CheckLog,
-    alloc: Global,
-    team: TeamId,
-    slot: SlotId,
-    numbers: &[i128],
-) -> Result<List<(SlotId, LocId)>, Memory>
-    ensures { IfOk result (λ ps. checks_of team ps
-        ≡ new_checks log.now.seed [] (checks_at team slot numbers.now)) }
-{
-    let mut found = IndexSet::new(alloc);
-    for number in numbers {
-        note_number(log, team, slot, *number, &mut found)?;
-    }
-    listed(alloc, &found, 0)
 }
 
 /// The new ones among locations of a slot.

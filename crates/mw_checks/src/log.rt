@@ -1,15 +1,15 @@
 ghost use Rattle.std.specs.Prelude.{◌≡◌, ◌≤◌, ◌++◌, [], ℕ, None, IfOk, IfSome, IfNone, OnErr};
-ghost use Rattle.std.specs.Prelude.{◌==◌, count_by, drop, length, vec_capacity};
+ghost use Rattle.std.specs.Prelude.{◌==◌, ◌&&◌, count_by, drop, length, vec_capacity};
 ghost use Rattle.std.specs.Option.{option_copied};
 ghost use Rattle.mw_model.specs.Seed.{held_at};
 ghost use Rattle.mw_protocol.specs.Checks.{is_among, locations_in};
-ghost use Rattle.mw_checks.specs.Fresh.{known_at, new_at, new_among};
+ghost use Rattle.mw_checks.specs.Fresh.{new_at, new_among};
 ghost use Rattle.mw_checks.specs.Kept.{KeptIn, AreReceived, AreFound};
-ghost use Rattle.mw_checks.specs.Log.{AreFresh, HasRoom, checks_of, given_by};
+ghost use Rattle.mw_checks.specs.Log.{AreFresh, HasLogRoom, checks_of, given_by};
 ghost use Rattle.mw_checks.specs.Log.{view_of};
 
 use crate::check::Check;
-use crate::fresh::{fresh_numbers, fresh_pairs, known_numbers};
+use crate::fresh::{fresh_numbers, fresh_pairs};
 use crate::given::given;
 use crate::growth::CheckGrowth;
 use crate::handling::Handling;
@@ -147,7 +147,10 @@ impl CheckLog {
     fn found_row(&self, team: TeamId, slot: SlotId) -> &[u32]
         ensures locations { AreFound self.now team slot result.now }
         ensures many { length (locations_in team slot self.now.checked) ≡ length result.now }
+        ensures found { length result.now ≡ count_by (λ h. (h.slot == slot)
+            && is_among self.now.checked team slot h.location) self.now.seed.locations }
     {
+        let _kept = self.places.tables().multidata();
         self.rows.found_by(team, slot)
     }
 
@@ -161,7 +164,9 @@ impl CheckLog {
 
     /// How many locations of a slot are checked in a team.
     pub fn checked_len(&self, team: TeamId, slot: SlotId) -> u64
-        ensures { result ≡ length (locations_in team slot self.now.checked) }
+        ensures many { result ≡ length (locations_in team slot self.now.checked) }
+        ensures found { result ≡ count_by (λ h. (h.slot == slot)
+            && is_among self.now.checked team slot h.location) self.now.seed.locations }
     {
         self.found_row(team, slot).len() as u64
     }
@@ -241,23 +246,9 @@ impl CheckLog {
         given(self.alloc, &self.places, &Handling { slot, mask }, pairs)
     }
 
-    /// Of the numbers that a client sent, those that are locations of the slot, each once, in
-    /// order, as they would be checked in a team.
-    pub fn known_of(
-        &self,
-        team: TeamId,
-        slot: SlotId,
-        numbers: &[i128],
-    ) -> Result<List<(SlotId, LocId)>, Memory>
-        ensures { IfOk result
-            (λ ps. checks_of team ps ≡ known_at self.now team slot numbers.now) }
-    {
-        known_numbers(self, self.alloc, team, slot, numbers)
-    }
-
     /// The memory for so many checks more.
     pub fn room_for(&self, more: u64) -> Result<CheckGrowth, Memory>
-        ensures { IfOk result (λ g. HasRoom self.now g more) }
+        ensures { IfOk result (λ g. HasLogRoom self.now g more) }
     {
         CheckGrowth::of(self.alloc, &self.order, more as usize)
     }
@@ -284,7 +275,7 @@ impl CheckLog {
     /// Adds fresh checks of a team, and takes no memory. What stood in the log stays.
     pub fn add_grown(&mut self, team: TeamId, fresh: &[(SlotId, LocId)], growth: CheckGrowth)
         requires fresh { AreFresh self.old.seed self.old.checked team fresh.now }
-        requires room { HasRoom self.old growth (length fresh.now) }
+        requires room { HasLogRoom self.old growth (length fresh.now) }
         ensures seed { self.new.seed ≡ self.old.seed }
         ensures checked { self.new.checked ≡ self.old.checked ++ checks_of team fresh.now }
     {

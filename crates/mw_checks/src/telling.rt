@@ -28,6 +28,10 @@ impl Checks for CheckLog {
         self.checked_len(team, slot)
     }
 
+    fn id_of(&self, number: i128) -> Option<LocId> {
+        self.id_of(number)
+    }
+
     fn locations_len(&self, slot: SlotId) -> u64 {
         self.locations_len(slot)
     }

@@ -11,7 +11,7 @@ use Rattle.mw_model.specs.Seed.{Seed, Slot, Game, NamedId}
 use Rattle.mw_protocol.specs.Packages.{data_json, data_members, is_wanted, package_json}
 use Rattle.mw_protocol.specs.Players.{plays}
 use Rattle.mw_json.specs.View.{members_of}
-use Rattle.mw_multidata.specs.Ascending.{ComesBefore, NamesAscend}
+use Rattle.mw_model.specs.Ascending.{ComesBefore, NamesAscend}
 use Rattle.mw_multidata.specs.SeedKept.{IsSeed, GameKept, EntryKept, game_name, entry_name}
 use Rattle.mw_datapack.specs.Chosen.{chosen_members}
 

@@ -39,12 +39,7 @@ items_are false s e m = ap (items_from (length (view_for s.log m))) (drop-grown 
 pub growth_is : (whole : Bool) (s : Standing) (e : Effect) (m : Member) → growth_owed whole s.log.seed (standing_of s) (grown s e) (Some m) ≡ growth_in whole s e m
 growth_is whole s e m = ap₂ (λ us is. us ++ is) (update_is s e m) (items_are whole s e m)
 
--- the points, as they are counted
-pub points_now : (s : Standing) (m : Member)
-    → s.log.seed.server.location_check_points * length (locations_in m.team m.slot s.log.checked) - cost s.log.seed m.slot * (length (bought_by s.hints.hints m.team m.slot) + 0) ≡ points_before s m
-points_now s m = ap (λ n. s.log.seed.server.location_check_points * length (locations_in m.team m.slot s.log.checked) - cost s.log.seed m.slot * n) (omega arith)
-
--- and once an effect is done
+-- the points once an effect is done, as they are counted
 pub points_then : (s : Standing) (e : Effect) (m : Member) (more : ℕ) → IsLogged s e → more ≡ length (locations_in m.team m.slot (news_of e))
     → s.log.seed.server.location_check_points * (length (locations_in m.team m.slot s.log.checked) + more) - cost s.log.seed m.slot * (length (bought_by s.hints.hints m.team m.slot) + paid_by e m.team m.slot)
     ≡ points_after s e m

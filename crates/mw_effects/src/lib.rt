@@ -29,7 +29,7 @@ pub use gets::reading;
 pub use giving::{Given, Giving, at_goal, given_by, is_allowed};
 pub use locating::checking;
 pub use member::{Member, tags_or, updated};
-pub use news::{Pair, add_locations, found_item, items_for_member};
+pub use news::{Pair, found_item, items_for_member, locations_for_member};
 pub use notices::watching;
 pub use packages::data_package;
 pub use player::Player;

@@ -1,12 +1,11 @@
-ghost use Rattle.std.specs.Prelude.{◌≡◌, ◌++◌, IfOk, OnOk};
-ghost use Rattle.mw_checks.specs.Log.{checks_of};
+ghost use Rattle.std.specs.Prelude.{◌≡◌, IfOk};
 ghost use Rattle.mw_protocol.specs.Checks.{found_item as found_item_lem, locations_in};
 ghost use Rattle.mw_effects.specs.News.{items_for};
 ghost use Rattle.mw_effects.specs.Parts.{news_of};
 
 use crate::effect::Effect;
 use crate::member::Member;
-use mw_base::{List, LocId, Memory, NetItem, SlotId, TeamId};
+use mw_base::{List, LocId, Memory, NetItem, SlotId};
 use mw_checks::CheckLog;
 use mw_multidata::Held;
 use std::alloc::Global;
@@ -42,21 +41,21 @@ pub fn items_for_member(
     log.given_by(effect.team, member.slot, member.mask, effect.new.as_slice())
 }
 
-/// Adds the locations of the member's slot among checks in a team.
-pub fn add_locations(
-    found: &mut List<i64>,
-    team: TeamId,
-    pairs: &[Pair],
+/// The locations of the member's slot among an effect's new checks.
+pub fn locations_for_member(
+    alloc: Global,
+    effect: &Effect,
     member: &Member,
-) -> Result<(), Memory>
-    ensures added { OnOk result (found.new
-        ≡ found.old ++ locations_in member.now.team member.now.slot (checks_of team pairs.now)) }
+) -> Result<List<i64>, Memory>
+    ensures { IfOk result (λ ls. ls
+        ≡ locations_in member.now.team member.now.slot (news_of effect.now)) }
 {
-    for pair in pairs {
+    let mut found = List::new(alloc);
+    for pair in effect.new.as_slice() {
         let (slot, location) = *pair;
-        if team == member.team && slot == member.slot {
+        if effect.team == member.team && slot == member.slot {
             found.push(location.get())?;
         }
     }
-    Ok(())
+    Ok(found)
 }

@@ -1,10 +1,9 @@
 ghost use Rattle.std.specs.Prelude.{◌≡◌, ◌++◌, IfOk, OnOk, option_to_list};
-ghost use Rattle.mw_checks.specs.Log.{checks_of};
 ghost use Rattle.mw_model.specs.Seed.{held_at};
+ghost use Rattle.mw_protocol.specs.Checks.{checks_at};
 ghost use Rattle.mw_protocol.specs.Locations.{scouted_item, scouted_at};
 
 use crate::member::Member;
-use crate::news::Pair;
 use mw_base::{List, LocId, Memory, NetItem, SlotId};
 use mw_checks::CheckLog;
 use std::alloc::Global;
@@ -37,15 +36,14 @@ pub fn scouts_of(
     alloc: Global,
     log: &CheckLog,
     member: &Member,
-    pairs: &[Pair],
+    locations: &[LocId],
 ) -> Result<List<NetItem>, Memory>
-    ensures { IfOk result (λ is. is
-        ≡ scouted_at log.now.seed member.now.slot (checks_of member.now.team pairs.now)) }
+    ensures { IfOk result (λ is. is ≡ scouted_at log.now.seed member.now.slot
+        (checks_at member.now.team member.now.slot locations.now)) }
 {
     let mut found = List::new(alloc);
-    for pair in pairs {
-        let (_, location) = *pair;
-        push_item(&mut found, scout_of(log, member.slot, location))?;
+    for location in locations {
+        push_item(&mut found, scout_of(log, member.slot, *location))?;
     }
     Ok(found)
 }

@@ -8,7 +8,7 @@ ghost use Rattle.mw_protocol.specs.Storing.{changing as changing_lem, is_kept as
 ghost use Rattle.mw_json.specs.View.{view, member_view, members_view};
 ghost use Rattle.mw_records.specs.Records.{record_view};
 ghost use Rattle.mw_storage.specs.Refusals.{changed_view};
-ghost use Rattle.mw_storage.specs.Stored.{HasRoom, IsKeepable};
+ghost use Rattle.mw_storage.specs.Stored.{HasStoreRoom, IsKeepable};
 ghost use Rattle.mw_effects.specs.Parts.{IsQuiet, kept_by, keys_in as keys_in_lem, standing_of};
 ghost use Rattle.mw_effects.specs.Storing.{told_of, stored_where, records_where, set_bad, IsKeeping, IsRefusal};
 ghost use Rattle.mw_effects.specs.Views.{announced_view, effect_view, IsEffect};
@@ -35,7 +35,7 @@ pub fn keys_in(stored: &Option<NewValue>) -> u64
 
 /// Keeps a key's value, if one is given. It takes no memory.
 pub fn put_stored(store: &mut Store, stored: Option<NewValue>, growth: StoreGrowth)
-    requires { HasRoom store.old growth (keys_in_lem stored) }
+    requires { HasStoreRoom store.old growth (keys_in_lem stored) }
     ensures { store.new.kept ≡ kept_by stored store.old.kept }
 {
     if let Some(NewValue { key, value }) = stored {

@@ -1,4 +1,4 @@
-pub mod Answers
+pub mod Answering
 pub mod Book
 pub mod Room
 pub mod Scouted

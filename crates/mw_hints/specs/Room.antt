@@ -5,6 +5,6 @@ use Rattle.mw_hints.specs.Widening.{IsWide}
 use Rattle.mw_hints.specs.declared.growth.HintGrowth.{HintGrowth}
 
 -- the growth was made of this book, for this many more records
-pub record HasRoom (book : Book) (growth : HintGrowth) (more : ℕ) : Type 0 where
+pub record HasHintRoom (book : Book) (growth : HintGrowth) (more : ℕ) : Type 0 where
   pub hints : IsWide growth.hints.wide (length book.hints) book.space more
   pub buyers : IsWide growth.buyers.wide book.buyers book.buyer_space more

@@ -3,7 +3,7 @@ ghost use Rattle.mw_protocol.specs.HintList.{bought_by, hint_at, hinted, hinted_
 ghost use Rattle.mw_protocol.specs.Records.{hint};
 ghost use Rattle.mw_records.specs.Records.{hint_view};
 ghost use Rattle.mw_hints.specs.Book.{hint_of};
-ghost use Rattle.mw_hints.specs.Room.{HasRoom};
+ghost use Rattle.mw_hints.specs.Room.{HasHintRoom};
 
 use crate::counts::{Counts, count_of, count_one};
 use crate::growth::HintGrowth;
@@ -142,7 +142,7 @@ impl HintBook {
 
     /// The memory for this many more records.
     pub fn room_for(&self, more: u64) -> Result<HintGrowth, Memory>
-        ensures { IfOk result (λ g. HasRoom self.now g more) }
+        ensures { IfOk result (λ g. HasHintRoom self.now g more) }
     {
         let hints = Wider::of(self.alloc, &self.hints, more as usize)?;
         let buyers = Wider::of(self.alloc, &self.counts, more as usize)?;
@@ -162,7 +162,7 @@ impl HintBook {
 
     /// Enters records in turn, and takes no memory.
     pub fn add_grown(&mut self, fresh: &[HintRecord], growth: HintGrowth)
-        requires { HasRoom self.old growth (length fresh.now) }
+        requires { HasHintRoom self.old growth (length fresh.now) }
         ensures { self.new.hints ≡ hinted_all self.old.hints (map hint_view fresh.now) }
     {
         let HintGrowth { hints, buyers } = growth;

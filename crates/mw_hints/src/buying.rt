@@ -6,7 +6,7 @@ ghost use Rattle.mw_protocol.specs.Hints.{bought_for, bought_status, first_where
 ghost use Rattle.mw_protocol.specs.Hints.{is_open, item_bought, item_named};
 ghost use Rattle.mw_protocol.specs.Hints.{location_bought, location_named, paid};
 ghost use Rattle.mw_protocol.specs.Standing.{cost, points_left};
-ghost use Rattle.mw_hints.specs.Answers.{Answers, wanted_view};
+ghost use Rattle.mw_hints.specs.Answering.{IsAnswer, wanted_view};
 
 use crate::answer::{HintAnswer, Wanted};
 use crate::book::HintBook;
@@ -74,7 +74,7 @@ impl HintBook {
         held: Option<&Held>,
         log: &C,
     ) -> HintAnswer
-        ensures { let seed = C.seed log.now in Answers result
+        ensures { let seed = C.seed log.now in IsAnswer result
             (paid team slot (cost seed slot)
             (points_left seed (C.count log.now team slot) self.now.hints team slot)
             (option_copied held.entry)) }
@@ -102,7 +102,7 @@ impl HintBook {
 
     /// The answer to who wants an item of the slot's game.
     fn buy_item<C: Checks>(&self, team: TeamId, slot: SlotId, name: &str, log: &C) -> HintAnswer
-        ensures { let seed = C.seed log.now in Answers result
+        ensures { let seed = C.seed log.now in IsAnswer result
             (item_bought seed (C.is_found log.now)
             (points_left seed (C.count log.now team slot) self.now.hints team slot)
             self.now.hints team slot (item_named seed slot name.now)) }
@@ -115,7 +115,7 @@ impl HintBook {
 
     /// The answer to who wants a location of the slot's game.
     fn buy_location<C: Checks>(&self, team: TeamId, slot: SlotId, name: &str, log: &C) -> HintAnswer
-        ensures { let seed = C.seed log.now in Answers result
+        ensures { let seed = C.seed log.now in IsAnswer result
             (location_bought seed (C.is_found log.now)
             (points_left seed (C.count log.now team slot) self.now.hints team slot)
             self.now.hints team slot (held_named seed slot (location_named seed slot name.now))) }
@@ -139,7 +139,7 @@ impl HintBook {
         log: &C,
     ) -> Result<HintAnswer, Memory>
         ensures ok { IsOk result }
-        ensures answer { let seed = C.seed log.now in IfOk result (λ a. Answers a
+        ensures answer { let seed = C.seed log.now in IfOk result (λ a. IsAnswer a
             (bought_for seed (C.is_found log.now)
             (points_left seed (C.count log.now team slot) self.now.hints team slot)
             self.now.hints team slot (wanted_view wanted.now))) }

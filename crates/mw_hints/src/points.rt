@@ -1,4 +1,4 @@
-ghost use Rattle.std.specs.Prelude.{◌≡◌, ◌+◌, ◌-◌, ◌*◌, ◌<◌, ◌^◌, IfOk, length};
+ghost use Rattle.std.specs.Prelude.{◌≡◌, ◌+◌, ◌-◌, ◌*◌, IfOk, length};
 ghost use Rattle.mw_protocol.specs.HintList.{bought_by};
 ghost use Rattle.mw_protocol.specs.Standing.{cost, points_left};
 
@@ -39,13 +39,14 @@ impl HintBook {
         left_after(slot, checked, self.bought_len(team, slot), log)
     }
 
-    /// The points of a slot of a team of which this many locations are checked: what these are
-    /// worth, less what its hints cost. It takes no memory.
+    /// The points of a slot of a team of which the log has this many locations checked: what these
+    /// are worth, less what its hints cost. It takes no memory.
     pub fn points<C: Checks>(&self, team: TeamId, slot: SlotId, checked: u64, log: &C) -> u64
-        requires { checked < 2 ^ 32 }
+        requires { checked ≡ C.count log.now team slot }
         ensures { result ≡ points_left (C.seed log.now) checked self.now.hints team slot }
     {
         let _kept = log.tables().multidata();
+        let _few = log.checked_len(team, slot);
         self.left(team, slot, checked, log) as u64
     }
 

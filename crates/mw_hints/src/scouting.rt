@@ -2,13 +2,14 @@ ghost use Rattle.std.specs.Prelude.{◌≡◌, ◌++◌, ◌∷◌, [], IfOk, On
 ghost use Rattle.std.specs.Prelude.{if◌then◌else◌};
 ghost use Rattle.mw_model.specs.Seed.{held_at};
 ghost use Rattle.mw_protocol.specs.HintList.{hint_at};
-ghost use Rattle.mw_protocol.specs.Hints.{differs, marks, receives, scouted_among};
+ghost use Rattle.mw_protocol.specs.Checks.{checks_at};
+ghost use Rattle.mw_protocol.specs.Hints.{differs, marks, receives, scouted_among, scouted_for};
 ghost use Rattle.mw_protocol.specs.Records.{hint, hint_status};
 ghost use Rattle.mw_records.specs.Records.{hint_view};
-ghost use Rattle.mw_hints.specs.Scouted.{scouted_checks};
 
 use crate::book::HintBook;
 use crate::kept::find;
+use crate::known::known_locations;
 use mw_base::{HintRecord, HintStatus, List, LocId, Memory, SlotId, TeamId};
 use mw_multidata::Checks;
 
@@ -44,7 +45,7 @@ impl HintBook {
     ) -> Result<(), Memory>
         ensures { OnOk result (map hint_view found.new ≡ map hint_view found.old
             ++ map hint (scouted_among (C.is_found log.now) self.now.hints team slot
-            (scouted_checks team ((slot, location) ∷ [])))) }
+            (checks_at team slot (location ∷ [])))) }
     {
         if !log.is_checked(team, slot, location) && self.hint_at(team, slot, location).is_none() {
             found.push(HintRecord::Made {
@@ -59,24 +60,41 @@ impl HintBook {
         Ok(())
     }
 
-    /// The hints that a slot of a team makes by scouting its locations, each of them once: one for
-    /// each that isn't checked and has no hint. The book stays: `add` enters them.
-    pub fn scout<C: Checks>(
+    /// The hints that scouted locations of a slot get: one for each that isn't checked and has none.
+    fn scouted_of<C: Checks>(
         &self,
         team: TeamId,
         slot: SlotId,
-        locs: &[(SlotId, LocId)],
+        locations: &[LocId],
         log: &C,
     ) -> Result<List<HintRecord>, Memory>
         ensures { IfOk result (λ rs. map hint_view rs
             ≡ map hint (scouted_among (C.is_found log.now) self.now.hints team slot
-            (scouted_checks team locs.now))) }
+            (checks_at team slot locations.now))) }
     {
         let mut found = List::new(self.alloc);
-        for (_, location) in locs {
+        for location in locations {
             self.add_scouted(&mut found, team, slot, *location, log)?;
         }
         Ok(found)
+    }
+
+    /// The hints that a slot of a team makes by scouting these numbers, as a client sends them: one
+    /// for each that is a location of the slot, where it stands first, unless the location is
+    /// checked or has a hint. The book stays: `add` enters them.
+    pub fn scout<C: Checks>(
+        &self,
+        team: TeamId,
+        slot: SlotId,
+        numbers: &[i128],
+        log: &C,
+    ) -> Result<List<HintRecord>, Memory>
+        ensures { IfOk result (λ rs. map hint_view rs
+            ≡ map hint (scouted_for (C.seed log.now) (C.is_found log.now) self.now.hints team slot
+            numbers.now)) }
+    {
+        let known = known_locations(self.alloc, team, slot, numbers, log)?;
+        self.scouted_of(team, slot, known.as_slice(), log)
     }
 
     /// The record by which a slot of a team gives the hint of a finder's location a status; None

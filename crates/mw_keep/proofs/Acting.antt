@@ -11,7 +11,7 @@ use Rattle.mw_journal.specs.Journal.{disk_of}
 use Rattle.mw_journal.specs.declared.error.AppendError.{AppendError}
 use Rattle.mw_journal.specs.declared.error.AppendError.TheVariants.{DiskFault, JournalFull, Memory}
 use Rattle.mw_journal.specs.declared.journal.Journal.{Journal}
-use Rattle.mw_room.specs.Stands.{Stands}
+use Rattle.mw_room.specs.Represents.{Represents}
 use Rattle.mw_keep.specs.Acts.{Acts, Goes}
 use Rattle.mw_keep.specs.Appends.{Appends, StaysSettled, HoldsAfter, outcome_view}
 use Rattle.mw_keep.specs.Holds.{AreRecords, Holds}
@@ -135,21 +135,21 @@ module _ {D : Type 0} (may_leave : D → List ℕ → Type 0) (moment : D → �
         → stopped_view after.stopped ≡ stopped_by (outcome_view (Err error)) (stopped_view before.stopped)
         → Keeps may_leave digest (life_of life call records (outcome_view (Err error))) after
     stops_keeps DiskFault j after holds room journal calls stopped = record {
-      room = subst (λ r. Stands r life.room) (sym room) keeps.room;
+      room = subst (λ r. Represents r life.room) (sym room) keeps.room;
       records = keeps.records;
       holds = subst (λ x. Holds may_leave digest life.room.journal life.place (with_risk life.risked records) (Some disk_fault) x) (sym journal) holds;
       stopped = stopped;
       calls = calls ∙ keeps.calls;
     }
     stops_keeps (JournalFull len) j after holds room journal calls stopped = record {
-      room = subst (λ r. Stands r life.room) (sym room) keeps.room;
+      room = subst (λ r. Represents r life.room) (sym room) keeps.room;
       records = keeps.records;
       holds = subst (λ x. Holds may_leave digest life.room.journal life.place life.risked (Some (journal_full len)) x) (sym journal) holds;
       stopped = stopped;
       calls = calls ∙ keeps.calls;
     }
     stops_keeps Memory j after holds room journal calls stopped = record {
-      room = subst (λ r. Stands r life.room) (sym room) keeps.room;
+      room = subst (λ r. Represents r life.room) (sym room) keeps.room;
       records = keeps.records;
       holds = subst (λ x. Holds may_leave digest life.room.journal life.place (with_risk life.risked records) x (journal_of after)) (sym running)
           (subst (λ x. Holds may_leave digest life.room.journal life.place (with_risk life.risked records) None x) (sym journal) holds);
@@ -181,7 +181,7 @@ module _ {D : Type 0} (may_leave : D → List ℕ → Type 0) (moment : D → �
         → Appends may_leave moment left_since faults digest life.room.journal life.place life.risked records (journal_of before) (Ok tt) j
         → (records ≡ [] → j ≡ journal_of before)
         → reply ≡ answer_to life.room event
-        → Stands (room_of after) (next life.room event) → journal_of after ≡ j → after.calls ≡ before.calls
+        → Represents (room_of after) (next life.room event) → journal_of after ≡ j → after.calls ≡ before.calls
         → stopped_view after.stopped ≡ stopped_view before.stopped
         → Goes may_leave moment left_since faults digest life call before reply after
     goes_done j reply after appends quiet replies stands journal calls stopped =

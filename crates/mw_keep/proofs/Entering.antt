@@ -4,7 +4,7 @@ use Rattle.std.proofs.lemmas.List.{append-nil}
 use Rattle.mw_model.specs.Seed.{Seed}
 use Rattle.mw_protocol.specs.Rooms.{replayed, empty_room}
 use Rattle.mw_protocol.specs.Spelled.{record_bytes, records_bytes}
-use Rattle.mw_room.specs.Stands.{Stands}
+use Rattle.mw_room.specs.Represents.{Represents}
 use Rattle.mw_room.specs.declared.room.Room.{Room}
 use Rattle.mw_keep.specs.Entered.{IsEntered, HasEntered, RefusesRecord, RefusesText}
 use Rattle.mw_keep.specs.declared.error.KeepError.{KeepError}
@@ -12,7 +12,7 @@ use Rattle.mw_keep.specs.declared.error.KeepError.TheVariants.{BadSeed, DiskFaul
 use Rattle.mw_keep.proofs.Appending.{bytes_joined}
 use Rattle.mw_keep.proofs.Parsing.{both_sound, one_sound}
 
-pub none_entered : (seed : Seed) (text : List ℕ) (room : Room) → Stands room (empty_room seed) → HasEntered seed text 0 room
+pub none_entered : (seed : Seed) (text : List ℕ) (room : Room) → Represents room (empty_room seed) → HasEntered seed text 0 room
 none_entered seed text room stands = record {
   journal = [];
   stands = stands;

@@ -2,7 +2,7 @@
 use Rattle.std.proofs.Common.{◌≡◌, ◌++◌, ◌∷◌, [], ℕ, List, refl, sym, subst, inl}
 use Rattle.mw_protocol.specs.Lives.{Life, Luck, life_after, reply_to}
 use Rattle.mw_protocol.specs.Rooms.{replayed}
-use Rattle.mw_room.specs.Stands.{Stands}
+use Rattle.mw_room.specs.Represents.{Represents}
 use Rattle.mw_keep.specs.Holds.{IsSafe}
 use Rattle.mw_keep.specs.Keeps.{IsFresh}
 use Rattle.mw_keep.specs.Standing.{HasLived, Replied, lived}
@@ -34,7 +34,7 @@ fresh_lived may_leave k fresh digest seed journal place began = (
   [],
   tt,
   record {
-    room = subst (λ r. Stands r (replayed seed journal)) (sym fresh.room) began.room;
+    room = subst (λ r. Represents r (replayed seed journal)) (sym fresh.room) began.room;
     records = began.records;
     holds = inl (subst (λ j. IsSafe may_leave digest journal place j) (sym fresh.journal) began.journal_holds);
     stopped = fresh.stopped;

@@ -6,7 +6,7 @@ use Rattle.mw_protocol.specs.Named.{are_named, is_named}
 use Rattle.mw_protocol.specs.Records.{Record}
 use Rattle.mw_protocol.specs.Rooms.{Room as Plain, replayed}
 use Rattle.mw_protocol.specs.Spelled.{IsRecord, Begins, Spells, record_bytes, records_bytes}
-use Rattle.mw_room.specs.Stands.{Stands}
+use Rattle.mw_room.specs.Represents.{Represents}
 use Rattle.mw_room.specs.declared.room.Room.{Room}
 use Rattle.mw_keep.specs.Holds.{AreRecords}
 use Rattle.mw_keep.specs.declared.error.KeepError.{KeepError}
@@ -35,7 +35,7 @@ pub record IsEntered (r : Plain) (text : List ℕ) (at next : ℕ) (room : Room)
   pub entry : Record
   pub spells : Spells text at next entry
   pub named : IsTrue (is_named r.seed entry)
-  pub stands : Stands room (recording_more (entry ∷ []) r)
+  pub stands : Represents room (recording_more (entry ∷ []) r)
 
 -- none was: no record begins at the place, or one that names what the seed hasn't; or memory ran out
 abbrev pub RefusesRecord : Seed → List ℕ → ℕ → KeepError → Type 0
@@ -52,7 +52,7 @@ RefusesRecord seed text at Memory = Unit {0}
 -- those of a text up to a place were entered
 pub record HasEntered (seed : Seed) (text : List ℕ) (at : ℕ) (room : Room) : Type 0 where
   pub journal : List Record
-  pub stands : Stands room (replayed seed journal)
+  pub stands : Represents room (replayed seed journal)
   pub sound : AreSound seed journal
   pub layout : text ≡ records_bytes journal ++ drop at text
   pub place : at ≡ length (records_bytes journal)

@@ -3,7 +3,7 @@ use Rattle.std.specs.Prelude.{◌≡◌, ◌^◌, ℕ, List, Option, Some, None,
 use Rattle.mw_protocol.specs.Lives.{Life, Outcome, passes, lacks, stops, StopCause}
 use Rattle.mw_journal.specs.Journal.{disk_of}
 use Rattle.mw_journal.specs.declared.journal.Journal.{Journal}
-use Rattle.mw_room.specs.Stands.{Stands}
+use Rattle.mw_room.specs.Represents.{Represents}
 use Rattle.mw_room.specs.declared.room.Room.{Room}
 use Rattle.mw_keep.specs.Holds.{AreRecords, Holds}
 use Rattle.mw_keep.specs.Views.{stopped_view}
@@ -26,7 +26,7 @@ kept_disk k = disk_of (journal_of k)
 -- its room stands for the life's, its journal holds the life's, and it knows why it has stopped and how many calls it has had, up to 2^63
 pub record Keeps {D : Type 0} (may_leave : D → List ℕ → Type 0) (digest : List ℕ) (life : Life)
     (k : KeptRoom D) : Type 0 where
-  pub room : Stands (room_of k) life.room
+  pub room : Represents (room_of k) life.room
   pub records : AreRecords life.room.journal
   pub holds : Holds may_leave digest life.room.journal life.place life.risked life.stopped
       (journal_of k)

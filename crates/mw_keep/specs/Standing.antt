@@ -4,7 +4,7 @@ use Rattle.mw_model.specs.Seed.{Seed}
 use Rattle.mw_protocol.specs.Lives.{Life, Luck, life_after, new_life, reply_to}
 use Rattle.mw_protocol.specs.Records.{Record}
 use Rattle.mw_protocol.specs.Rooms.{replayed}
-use Rattle.mw_room.specs.Stands.{Stands}
+use Rattle.mw_room.specs.Represents.{Represents}
 use Rattle.mw_keep.specs.Holds.{AreRecords, IsSafe}
 use Rattle.mw_keep.specs.Keeps.{Keeps, origin_of}
 use Rattle.mw_keep.specs.Views.{call_view, reply_view}
@@ -17,7 +17,7 @@ use Rattle.mw_keep.specs.declared.reply.Reply.{Reply}
 pub record Began {D : Type 0} (may_leave : D → List ℕ → Type 0) (digest : List ℕ) (seed : Seed)
     (journal : List Record) (place : ℕ) (origin : Origin D)
     : Type 0 where
-  pub room : Stands origin.room.value (replayed seed journal)
+  pub room : Represents origin.room.value (replayed seed journal)
   pub records : AreRecords journal
   pub journal_holds : IsSafe may_leave digest journal place origin.journal.value
 

@@ -2,7 +2,7 @@ ghost use Rattle.std.specs.Prelude.{◌≡◌, ◌≤◌, ℕ, List, None, Err, 
 ghost use Rattle.mw_protocol.specs.Lives as plain;
 ghost use Rattle.mw_protocol.specs.Rooms.{Room as Plain, session_in};
 ghost use Rattle.mw_room.specs.Events.{event_view};
-ghost use Rattle.mw_room.specs.Stands.{Stands};
+ghost use Rattle.mw_room.specs.Represents.{Represents};
 ghost use Rattle.mw_keep.specs.Keeps.{IsFresh, IsSameButStopped, Keeps, journal_of, kept_disk, origin_of, room_of, stopped_by};
 ghost use Rattle.mw_keep.specs.Acts.{Acts, Goes};
 ghost use Rattle.mw_keep.specs.Appends.{outcome_view};
@@ -239,7 +239,7 @@ impl<D: Disk> KeptRoom<D> {
 
 /// What is answered to an event that is done.
 fn answer_to(room: &Room, event: &Event) -> Reply
-    ensures { (r : Plain) → Stands room.now r
+    ensures { (r : Plain) → Represents room.now r
         → reply_view result ≡ plain.answer_to r (event_view event.now) }
 {
     match event {

@@ -9,7 +9,7 @@ ghost use Rattle.mw_multidata.specs.SeedOf.{SeedOf};
 ghost use Rattle.mw_protocol.specs.Records.{Record};
 ghost use Rattle.mw_protocol.specs.Rooms.{Room as Plain, empty_room};
 ghost use Rattle.mw_protocol.specs.Spelled.{records_bytes};
-ghost use Rattle.mw_room.specs.Stands.{Stands};
+ghost use Rattle.mw_room.specs.Represents.{Represents};
 ghost use Rattle.mw_keep.specs.Entered.{AreSound, IsEntered, HasEntered, RefusesRecord, RefusesText};
 ghost use Rattle.mw_keep.specs.Standing.{HasLived};
 ghost use Rattle.mw_keep.specs.Recovers.{IsNoJournal, IsOutside, Resumes, Recovers, RefusesResume, RefusesRecover, disk_left, keep_error_of};
@@ -26,7 +26,7 @@ use std::alloc::Global;
 
 /// A room that nobody has entered.
 fn room_of(alloc: Global, multidata: Multidata) -> Result<Room, Memory>
-    ensures { IfOk result (λ r. Stands r (empty_room multidata)) }
+    ensures { IfOk result (λ r. Represents r (empty_room multidata)) }
 {
     let tables = RoomTables::of(alloc, multidata)?;
     Room::new(alloc, tables)
@@ -35,10 +35,10 @@ fn room_of(alloc: Global, multidata: Multidata) -> Result<Room, Memory>
 /// Enters the record that begins at a place, and gives the place after it.
 #[tactic(auto, using(crate::proofs::Appending::some_bytes))]
 fn enter_one(alloc: Global, room: &mut Room, text: &[u8], at: u64) -> Result<u64, KeepError>
-    ensures entered { IfOk result (λ next. (r : Plain) → Stands room.old r
+    ensures entered { IfOk result (λ next. (r : Plain) → Represents room.old r
         → IsEntered r text.now at next room.new) }
     ensures further { IfOk result (λ next. at < next) }
-    ensures refused { IfErr result (λ e. (r : Plain) → Stands room.old r
+    ensures refused { IfErr result (λ e. (r : Plain) → Represents room.old r
         → RefusesRecord r.seed text.now at e) }
 {
     match decode(alloc, text, at) {
@@ -54,9 +54,9 @@ fn enter_one(alloc: Global, room: &mut Room, text: &[u8], at: u64) -> Result<u64
 
 /// Enters the records of a journal's text, one after another.
 fn enter_all(alloc: Global, room: &mut Room, text: &[u8]) -> Result<(), KeepError>
-    ensures entered { OnOk result ((seed : Seed) → Stands room.old (empty_room seed)
+    ensures entered { OnOk result ((seed : Seed) → Represents room.old (empty_room seed)
         → HasEntered seed text.now (length text.now) room.new) }
-    ensures refused { IfErr result (λ e. (seed : Seed) → Stands room.old (empty_room seed)
+    ensures refused { IfErr result (λ e. (seed : Seed) → Represents room.old (empty_room seed)
         → RefusesText seed text.now e) }
 {
     let mut at = 0;

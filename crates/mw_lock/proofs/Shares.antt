@@ -14,7 +14,7 @@ use Rattle.mw_lock.specs.declared.view.Turn.TheVariants.{Free}
 use Rattle.mw_lock.specs.declared.view.View.{View}
 use Rattle.mw_lock.specs.declared.view.Desk.{Desk}
 use Rattle.mw_lock.specs.History.{events, calls_by, AllBelow, IsLegal}
-use Rattle.mw_lock.specs.Rule.{Each, Has, Apart, is_holding, spent, listed, KnowsAll, Stood, Sits, Seated, StandsFor, Kept}
+use Rattle.mw_lock.specs.Rule.{Each, Has, Apart, is_holding, spent, listed, KnowsAll, Stood, Sits, Seated, DeskStands, Kept}
 use Rattle.mw_lock.specs.Told.{with_made, numbered, without_last, given, left_of, right_of, met, named, counted, glanced}
 use Rattle.mw_lock.proofs.Lists.{set_there, one_value, prefix_self, prefix_empty, each_map, each_both, each_append, at_end, apart_append, has_all, put, put_here, put_else}
 use Rattle.mw_lock.proofs.Histories.{below_higher, calls_none, below_front}
@@ -364,7 +364,7 @@ module _ {V C R B : Type 0} (base : V → B) (replies : B → List (C × R) → 
 
   -- where a pass stands for as many numbers as were given, the value is at home, and the pass has seen the whole history
   pub closes : (s : St) (r : Rule s) (id : ℕ) (v : Vw) → get_elem? s.views id ≡ some v → v.turn ≡ Free → v.live ≡ true → v.told ≡ [] → v.made ≡ length (listed v)
-      → (x : D) × (s.homes ≡ some x ∷ []) × StandsFor base replies stands v.base.value (events v.seen) x
+      → (x : D) × (s.homes ≡ some x ∷ []) × DeskStands base replies stands v.base.value (events v.seen) x
       × Each (λ e. Has e.by (listed v)) v.seen × Each (λ y. calls_by y.0 v.seen ≡ y.1) (listed v)
   closes s r id v at free live told many = let mine = r.each_seat id v at live in let all : r.made ≡ length (listed v) = mine.whole many ∙ many in let k = r.known_all in
       let is_v : k.1 ≡ v = one_value s.views id k.1 v (ap (get_elem? s.views) (sym (alone s r id k.0 v k.1 at live all k.2 k.3)) ∙ k.2) at in

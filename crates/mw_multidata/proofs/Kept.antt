@@ -1,4 +1,4 @@
--- What the readers of numbers and names give keeps their rules, and members are read in their order.
+-- What the readers of numbers and names give keeps their rules.
 use Rattle.std.proofs.Common.{◌≡◌, ◌≤◌, ◌<◌, ◌==◌, ℕ, List, [], ◌∷◌, true, false, Result, Ok, Less, nat_cmp, length, map, refl, sym, subst, arith}
 use Rattle.std.specs.Prelude.{All, IfOk, chars, codes, bytes_eq, nat_lt}
 use Rattle.std.specs.Cmp.Lexicographic.{slice_cmp}
@@ -16,7 +16,7 @@ use Rattle.mw_json.specs.declared.refusal.Kind.TheVariants.{WrongKind, NameTooLo
 use Rattle.mw_json.specs.declared.refusal.Step.TheVariants.{Name}
 use Rattle.mw_json.proofs.Kept.{either, unless, IsBetween, number_kept}
 use Rattle.mw_json.proofs.Passing.{past, after, within, where_true}
-use Rattle.mw_multidata.specs.Ascending.{ComesBefore, NamesAscend}
+use Rattle.mw_model.specs.Ascending.{ComesBefore, NamesAscend}
 use Rattle.mw_multidata.specs.Parts.{flags_at}
 use Rattle.mw_multidata.specs.SeedKept.{IsName, IsId, is_class, is_remaining, is_permission}
 use Rattle.mw_multidata.specs.Shape.{seed_name_of, seed_name_at}
@@ -100,23 +100,3 @@ unfolding permission_at
 permission_kept j =
     let P : ℕ → Type 0 = IsPermission in
     past P (text_at j) _ (λ s. either P (bytes_eq s (codes "auto")) (Ok 6) _ refl (either P (bytes_eq s (codes "auto_enabled")) (Ok 7) (remaining_of s) refl (one_of_three P s refl refl refl)))
-
--- ---- members in order
-
--- a reader of members whose values have the members' names
-module _ {A : Type 0} (P : A → Type 0) (called : A → List ℕ) (read : List ℕ → Json → Result A Breach) (one : (k : List ℕ) (j : Json) → IsValid j → IfOk (read k j) (λ x. (called x ≡ k) × P x)) where
-  pub record AreNamed (ms : Members) (xs : List A) : Type 0 where
-    pub each : All P xs
-    pub follow : (k : List ℕ) → ComeAfter k ms → ComesBefore (slice_cmp nat_cmp) k (map called xs)
-    pub ascend : NamesAscend (map called xs)
-
-  pub members_kept : (ms : Members) → MembersAreValid ms → IfOk (each_member_at read ms) (AreNamed ms)
-  members_kept no_members o = record { each = All-nil P; follow = λ k h. tt; ascend = tt }
-  members_kept (member k j ms) o =
-      let Q : A → Type 0 = λ x. (called x ≡ k) × P x in
-      after Q (AreNamed (member k j ms)) (under (Name k) (read k j)) _ (within Q (Name k) (read k j) (one k j o.0)) (λ first h.
-      after (AreNamed ms) (AreNamed (member k j ms)) (each_member_at read ms) _ (members_kept ms o.2) (λ others l. record {
-        each = All-cons P first others h.1 l.each;
-        follow = λ n a. (subst (λ m. slice_cmp nat_cmp n m ≡ Less) (sym h.0) a.0, l.follow n a.1);
-        ascend = (l.follow (called first) (subst (λ n. ComeAfter n ms) (sym h.0) o.1), l.ascend);
-      }))

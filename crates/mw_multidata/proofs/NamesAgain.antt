@@ -6,7 +6,7 @@ use Rattle.std.specs.Ordering.{int_eq}
 use Rattle.std.specs.declared.cmp.Ordering.TheVariants.{Less}
 use Rattle.std.proofs.lemmas.List.Elements.{All-head, All-tail}
 use Rattle.mw_model.specs.Seed.{Seed, Slot, StartItem, Game, NamedId, Held, Spot}
-use Rattle.mw_multidata.specs.Ascending.{Ascend}
+use Rattle.mw_model.specs.Ascending.{Ascend}
 use Rattle.mw_multidata.specs.Names.{known, has_id, ids_differ, game_named, games_named, find_game, has_name, names_differ, start_named, all_names, slot_named, slots_named, played_by, comes_after, held_named, locations_named, spot_named, sphere_named, spheres_named, names_named}
 use Rattle.mw_multidata.specs.SeedKept.{entry_id, GameKept, StartKept, has_item, has_location, held_cmp}
 use Rattle.mw_multidata.proofs.Bools.{both_false}

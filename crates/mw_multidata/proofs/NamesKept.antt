@@ -14,7 +14,7 @@ use Rattle.mw_json.specs.declared.refusal.Kind.{Kind}
 use Rattle.mw_json.specs.declared.refusal.Kind.TheVariants.{DuplicateName, DuplicateId, UnknownName, WrongOrder}
 use Rattle.mw_json.specs.declared.refusal.Step.TheVariants.{Name, Index}
 use Rattle.mw_json.proofs.Passing.{after, within}
-use Rattle.mw_multidata.specs.Ascending.{Ascend, ComesBefore}
+use Rattle.mw_model.specs.Ascending.{Ascend, ComesBefore}
 use Rattle.mw_multidata.specs.Names.{demand, known, has_id, ids_differ, game_named, games_named, find_game, has_name, names_differ, start_named, all_names, slot_named, slots_named, played_by, comes_after, held_named, locations_named, spot_named, sphere_named, spheres_named, names_named}
 use Rattle.mw_multidata.specs.SeedKept.{entry_id, has_item, has_location, held_cmp}
 use Rattle.mw_multidata.proofs.Bools.{neither}

@@ -4,7 +4,7 @@ use Rattle.std.specs.List.{filter, AllWithin}
 use Rattle.std.specs.List.Sorted.{IsNonDecreasingBy, IsPartitionPoint}
 use Rattle.std.proofs.lemmas.List.{length-drop, get_or-drop}
 use Rattle.mw_model.specs.Seed.{Held}
-use Rattle.mw_multidata.specs.Ascending.{Ascend, ComesBefore}
+use Rattle.mw_model.specs.Ascending.{Ascend, ComesBefore}
 use Rattle.mw_multidata.specs.OfSlot.{held_of}
 use Rattle.mw_multidata.specs.SeedKept.{held_cmp}
 

@@ -9,13 +9,13 @@ use Rattle.mw_json.specs.Parts.{id_at, not_empty, list_of_length, element_at}
 use Rattle.mw_json.specs.Readers.{each_from, list_of_at, each_member_at}
 use Rattle.mw_json.specs.Settings.{password_at, remaining_at, permission_at}
 use Rattle.mw_json.specs.Valid.{IsValid, MembersAreValid}
-use Rattle.mw_json.proofs.Kept.{IsBetween, number_kept, counted, bounded, some_kept, AreKept, each_kept, list_kept, element_kept, object_valid, in_valid_field}
+use Rattle.mw_json.proofs.Kept.{IsBetween, number_kept, counted, bounded, some_kept, AreKept, each_kept, list_kept, element_kept, object_valid, in_valid_field, AreNamed, members_kept}
 use Rattle.mw_json.proofs.Passing.{past, after, in_field}
-use Rattle.mw_multidata.specs.Ascending.{NamesAscend}
+use Rattle.mw_model.specs.Ascending.{NamesAscend}
 use Rattle.mw_multidata.specs.Parts.{slot_number_at, flags_at}
 use Rattle.mw_multidata.specs.SeedKept.{IsName, IsId, ServerKept, EntryKept, entry_name, game_name}
 use Rattle.mw_multidata.specs.Shape.{server_at, named_id_at, ids_at, game_at, games_at, names_at, start_item_at, slot_at, slots_at, held_at, spot_at, sphere_at, spheres_at, format_at, seed_name_at, members_at, shape_at}
-use Rattle.mw_multidata.proofs.Kept.{id_kept, IsClass, flags_kept, IsShort, name_kept, named_kept, password_kept, IsSeedName, seed_name_kept, IsRemaining, IsPermission, remaining_kept, permission_kept, AreNamed, members_kept}
+use Rattle.mw_multidata.proofs.Kept.{id_kept, IsClass, flags_kept, IsShort, name_kept, named_kept, password_kept, IsSeedName, seed_name_kept, IsRemaining, IsPermission, remaining_kept, permission_kept}
 
 -- ---- the settings
 

@@ -14,7 +14,7 @@ use Rattle.mw_json.specs.Readers.{list_of_at}
 use Rattle.mw_model.specs.Trees.{items_of}
 use Rattle.mw_json.specs.View.{members_of}
 use Rattle.mw_json.proofs.Again.{reads_back}
-use Rattle.mw_multidata.specs.Ascending.{ComesBefore, NamesAscend}
+use Rattle.mw_model.specs.Ascending.{ComesBefore, NamesAscend}
 use Rattle.mw_multidata.specs.Names.{has_id, find_game, played_by, names_named}
 use Rattle.mw_multidata.specs.SeedKept.{IsName, IsId, EntryKept, GameKept, SlotKept, HeldKept, SpotKept, SphereKept, IsSeed, entry_name, game_name, has_item, has_location, game_of, played}
 use Rattle.mw_multidata.specs.SeedOf.{seed_at, SeedOf}

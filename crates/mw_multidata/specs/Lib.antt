@@ -1,4 +1,3 @@
-pub mod Ascending
 pub mod Digest
 pub mod Names
 pub mod OfSlot

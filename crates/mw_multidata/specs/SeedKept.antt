@@ -4,7 +4,7 @@ use Rattle.std.specs.List.{IsDistinct}
 use Rattle.std.specs.Ordering.{nat_cmp, int_cmp, int_eq, ordering_then}
 use Rattle.std.specs.declared.cmp.Ordering.{Ordering}
 use Rattle.mw_model.specs.Seed.{Seed, Slot, StartItem, Game, NamedId, Held, RoomOptions, Spot, slot_of}
-use Rattle.mw_multidata.specs.Ascending.{Ascend, NamesAscend}
+use Rattle.mw_model.specs.Ascending.{Ascend, NamesAscend}
 use Rattle.mw_multidata.specs.Names.{has_id, find_game, all_names}
 
 -- 1 to so many characters, none below U+0020

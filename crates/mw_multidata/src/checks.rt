@@ -1,4 +1,4 @@
-ghost use Rattle.std.specs.Prelude.{◌≡◌, ◌==◌, ℕ, ℤ, Bool, count_by};
+ghost use Rattle.std.specs.Prelude.{◌≡◌, ◌==◌, ◌&&◌, ℕ, ℤ, Bool, None, IfNone, IfSome, count_by};
 ghost use Rattle.std.specs.Option.{option_copied};
 ghost use Rattle.mw_model.specs.Seed.{Seed, held_at};
 
@@ -29,9 +29,17 @@ pub trait Checks {
     fn is_checked(&self, team: TeamId, slot: SlotId, location: LocId) -> bool
         ensures { result ≡ is_found self.now team slot location };
 
-    /// How many locations of a slot are checked in a team.
+    /// How many locations of a slot are checked in a team: as many as of the seed's locations are
+    /// the slot's and checked.
     fn checked_len(&self, team: TeamId, slot: SlotId) -> u64
-        ensures { result ≡ count self.now team slot };
+        ensures count { result ≡ count self.now team slot }
+        ensures found { result ≡ count_by (λ h. (h.slot == slot)
+            && is_found self.now team slot h.location) (seed self.now).locations };
+
+    /// The location of a number, if it is an id's; else no slot has it.
+    fn id_of(&self, number: i128) -> Option<LocId>
+        ensures some { IfSome result (λ l. l ≡ number) }
+        ensures none { IfNone result ((slot : ℕ) → held_at (seed self.now) slot number ≡ None) };
 
     /// How many locations a slot has.
     fn locations_len(&self, slot: SlotId) -> u64

@@ -9,20 +9,19 @@ ghost use Rattle.mw_effects.specs.Parts.{standing_of, grown, news_of, paid_by, I
 
 use mw_base::{List, Memory, NetItem};
 use mw_checks::CheckLog;
-use mw_effects::{Effect, Member, Standing, add_locations, items_for_member};
+use mw_effects::{Effect, Member, Standing, items_for_member, locations_for_member};
 use mw_packets_out::ServerPacket;
 use std::alloc::Global;
 
 /// The points of the member's slot.
-#[tactic(auto, using(mw_effects::proofs::Grown::points_now))]
-pub fn points_of(standing: &Standing, member: &Member) -> Result<u64, Memory>
-    ensures { IfOk result (λ p. p ≡ points_before standing.now member.now) }
+pub fn points_of(standing: &Standing, member: &Member) -> u64
+    ensures { result ≡ points_before standing.now member.now }
 {
     let log = &standing.log;
-    let count = log.checked_len(member.team, member.slot);
+    let checked = log.checked_len(member.team, member.slot);
     standing
         .hints
-        .points_once(member.team, member.slot, count, 0, log)
+        .points(member.team, member.slot, checked, log)
 }
 
 /// How many hints more the member's slot has paid for.
@@ -90,9 +89,8 @@ fn add_update(
         (points_after standing.now effect.now member.now)
         (locations_in member.now.team member.now.slot (news_of effect.now))) }
 {
-    let mut locations = List::new(alloc);
-    add_locations(&mut locations, effect.team, effect.new.as_slice(), member)?;
-    let before = points_of(standing, member)?;
+    let locations = locations_for_member(alloc, effect, member)?;
+    let before = points_of(standing, member);
     let after = points_with(standing, effect, locations.len(), member)?;
     push_update(packets, before, after, locations)?;
     Ok(())

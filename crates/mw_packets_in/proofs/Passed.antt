@@ -21,6 +21,7 @@ use Rattle.mw_json.proofs.Passing.{past, after, within, if_told}
 use Rattle.mw_packets_in.specs.Fields.{whole_at, value_at, any_at, wholes_at, all_whole, further_at}
 use Rattle.mw_packets_in.specs.Kept.{IsRead, AreRead, IsBounce, bounce_names, get_names}
 use Rattle.mw_packets_in.specs.Rows.{operation_at, operations_at}
+use Rattle.mw_packets_in.proofs.Ranges.{wholes_are}
 use Rattle.mw_packets_in.specs.Whole.{has_not_whole, items_have_not_whole, members_have_not_whole}
 
 left_false : (a b : Bool) → (a || b) ≡ false → a ≡ false
@@ -230,29 +231,6 @@ operations_kept operations ms h e =
 
 -- ---- a message between clients
 
-whole_is : (j : Json) → IsValid j → IfOk (whole_at j) IsInRange
-whole_is (whole z) h = h
-whole_is null h = tt
-whole_is (flag b) h = tt
-whole_is not_whole h = tt
-whole_is (words s) h = tt
-whole_is (many js) h = tt
-whole_is (members ms) h = tt
-
-each_whole : (i : ℕ) (js : Items) → ItemsAreValid js → IfOk (each_from whole_at i js) (All IsInRange)
-each_whole i no_items h = All-nil IsInRange
-each_whole i (item j js) h =
-    after IsInRange (All IsInRange) (under (Index i) (whole_at j)) _ (within IsInRange (Index i) (whole_at j) (whole_is j h.0)) (λ first p.
-    after (All IsInRange) (All IsInRange) (each_from whole_at (i + 1) js) _ (each_whole (i + 1) js h.1) (λ rest q.
-    All-cons IsInRange first rest p q))
-
-wholes_are : (j : Json) → IsRead 62 j → IfOk (wholes_at j) (All IsInRange)
-unfolding wholes_at
-wholes_are j h =
-    after (λ js. list_at j ≡ Ok js) (All IsInRange) (list_at j) _ (if_told (λ js. list_at j ≡ Ok js) (list_at j) (λ js e. e)) (λ js e.
-    let read : ItemsAreRead js = items_read j js e h in
-    each_whole 0 js read.0)
-
 -- the slots, where they are given
 abbrev SlotsInRange : Option (List ℤ) → Type 0
 SlotsInRange slots = IfSome slots (All IsInRange)
@@ -260,7 +238,7 @@ SlotsInRange slots = IfSome slots (All IsInRange)
 slots_are : (found : Option Json) → IfSome found (IsRead 62) → IfOk (read_if (λ j. under (Name (codes "slots")) (wholes_at j)) found) SlotsInRange
 slots_are None h = tt
 slots_are (Some j) h =
-    after (All IsInRange) SlotsInRange (under (Name (codes "slots")) (wholes_at j)) _ (within (All IsInRange) (Name (codes "slots")) (wholes_at j) (wholes_are j h)) (λ zs p. p)
+    after (All IsInRange) SlotsInRange (under (Name (codes "slots")) (wholes_at j)) _ (within (All IsInRange) (Name (codes "slots")) (wholes_at j) (wholes_are j h.valid)) (λ zs p. p)
 
 slots_kept : (slots : Option (List ℤ)) (ms : Members) → AreRead 62 ms → field_if_at (codes "slots") wholes_at ms ≡ Ok slots → SlotsInRange slots
 unfolding field_if_at

@@ -3,7 +3,7 @@ use Rattle.std.specs.Prelude.{ℕ, ℤ, pos, ◌==◌, ◌≤◌, ◌||◌, List
 use Rattle.mw_model.specs.Json.{Json, Members, IsInRange, depth, members_depth}
 use Rattle.mw_model.specs.Passed.{AreFurther}
 use Rattle.mw_protocol.specs.Connecting.{is_mask}
-use Rattle.mw_protocol.specs.Packets.{Bounce}
+use Rattle.mw_protocol.specs.Packets.{Bounce, Connect, UpdateHint, Version}
 use Rattle.mw_json.specs.Valid.{IsValid, MembersAreValid}
 
 -- unspecified, no priority, avoid, priority
@@ -22,10 +22,30 @@ HasMask mask = IfSome mask (λ m. IsTrue (is_mask (pos m)))
 abbrev pub HasHintStatus : Option ℕ → Type 0
 HasHintStatus status = IfSome status (λ s. IsTrue (is_hint_status s))
 
+-- each number is one of a reading's
+pub record IsVersion (version : Version) : Type 0 where
+  pub major : IsInRange version.major
+  pub minor : IsInRange version.minor
+  pub build : IsInRange version.build
+
+pub record IsConnect (connect : Connect) : Type 0 where
+  pub version : IsVersion connect.version
+  pub items_handling : IfSome connect.items_handling IsInRange
+
+-- its numbers are a reading's, and the status is a hint's
+pub record IsUpdateHint (update : UpdateHint) : Type 0 where
+  pub player : IsInRange update.player
+  pub location : IsInRange update.location
+  pub status : HasHintStatus update.status
+
 -- what stands at locations is asked for, and whether hints are made: 0, 1 or 2
 pub record LocationScouts : Type 0 where
   pub locations : List ℤ
   pub create_as_hint : ℕ
+
+pub record IsScouts (scouts : LocationScouts) : Type 0 where
+  pub locations : All IsInRange scouts.locations
+  pub create_as_hint : scouts.create_as_hint ≤ 2
 
 -- ---- members that a packet has of its own
 

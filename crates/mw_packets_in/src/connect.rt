@@ -1,6 +1,7 @@
 ghost use Rattle.std.specs.Prelude.{◌≡◌};
 ghost use Rattle.mw_json.specs.View.{view, members_view};
 ghost use Rattle.mw_json.specs.Grammar.{Gives, GivesBy};
+ghost use Rattle.mw_packets_in.specs.Kept.{AreRead};
 ghost use Rattle.mw_packets_in.specs.Rows.{connect_at, connect_update_at, get_data_package_at, say_at, version_at};
 ghost use Rattle.mw_protocol.specs.Packets.{connect};
 ghost use Rattle.mw_packets_in.specs.View.{packet_view};
@@ -15,7 +16,7 @@ use mw_json::{
 use std::alloc::Global;
 use std::marker::Model;
 
-/// The version that a client speaks, each number from -2^63 to 2^64 - 1.
+/// The version that a client speaks; in a Connect each number is from -2^63 to 2^64 - 1.
 #[derive(Clone, Copy)]
 pub struct Version {
     /// The first number.
@@ -47,7 +48,8 @@ pub struct Connect {
     pub game: Option<Text>,
     /// The client's version.
     pub version: Version,
-    /// Which items the session wants to hear of; none where it is null or absent.
+    /// Which items the session wants to hear of, from -2^63 to 2^64 - 1; none where it is null or
+    /// absent.
     pub items_handling: Option<i128>,
     /// What kind of client it is; none where it is absent.
     pub tags: Option<List<Text>>,
@@ -55,10 +57,20 @@ pub struct Connect {
 
 impl Model for Connect {
     ghost use Rattle.mw_protocol.specs.Packets as plain;
+    ghost use Rattle.mw_packets_in.specs.Kept.{IsConnect};
 
     ghost Value = { plain.Connect };
 
     ghost view = { λ c. record {
+      name = c.name;
+      password = c.password;
+      game = c.game;
+      version = c.version;
+      items_handling = c.items_handling;
+      tags = c.tags;
+    } };
+
+    ghost invariant = { λ c. IsConnect record {
       name = c.name;
       password = c.password;
       game = c.game;
@@ -110,6 +122,7 @@ fn version_of(alloc: Global, tree: &Tree) -> Result<Version, Refusal>
 /// A Connect's members.
 #[tactic(auto, unfolding(crate::specs::Rows::connect_at))]
 fn fields_of(alloc: Global, members: &[Member]) -> Result<Connect, Refusal>
+    requires { AreRead 62 (members_view members.now) }
     ensures { GivesBy connect result (connect_at (members_view members.now)) }
 {
     let name = field_in(alloc, members, "name", text_in)?;
@@ -134,6 +147,7 @@ fn fields_of(alloc: Global, members: &[Member]) -> Result<Connect, Refusal>
 
 /// A Connect.
 pub(crate) fn connect_of(alloc: Global, members: &[Member]) -> Result<Packet, Refusal>
+    requires { AreRead 62 (members_view members.now) }
     ensures { GivesBy packet_view result (connect_at (members_view members.now)) }
 {
     let fields = fields_of(alloc, members)?;

@@ -22,7 +22,7 @@ pub use bad::{Bad, BadKind};
 pub use connect::{Connect, ConnectUpdate, Version};
 pub use hints::UpdateHint;
 pub use inbound::Inbound;
-pub use locations::LocationScouts;
+pub use locations::{LocationChecks, LocationScouts};
 pub use message::packets_of;
 pub use packet::Packet;
 pub use status::StatusUpdate;

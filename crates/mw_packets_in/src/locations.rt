@@ -1,6 +1,7 @@
 ghost use Rattle.std.specs.Prelude.{◌≡◌};
 ghost use Rattle.mw_json.specs.View.{view, members_view};
 ghost use Rattle.mw_json.specs.Grammar.{Gives, GivesBy, number_at};
+ghost use Rattle.mw_packets_in.specs.Kept.{AreRead};
 ghost use Rattle.mw_packets_in.specs.Rows.{checks_at, scouts_at};
 ghost use Rattle.mw_packets_in.specs.View.{packet_view};
 
@@ -11,10 +12,28 @@ use mw_json::{Member, Refusal, Tree, field_in, field_or, number_between};
 use std::alloc::Global;
 use std::marker::Model;
 
+/// Locations of the session's own slot are checked.
+#[derive(Drop)]
+pub struct LocationChecks {
+    /// Their numbers, from -2^63 to 2^64 - 1, some of which may be no location's.
+    pub locations: List<i128>,
+}
+
+impl Model for LocationChecks {
+    ghost use Rattle.std.specs.Prelude.{ℤ, All, List};
+    ghost use Rattle.mw_model.specs.Json.{IsInRange};
+
+    ghost Value = { List ℤ };
+
+    ghost view = { λ c. c.locations };
+
+    ghost invariant = { λ c. All IsInRange c.locations };
+}
+
 /// A question for what stands at locations of the session's own slot.
 #[derive(Drop)]
 pub struct LocationScouts {
-    /// Their numbers, some of which may be no location's.
+    /// Their numbers, from -2^63 to 2^64 - 1, some of which may be no location's.
     pub locations: List<i128>,
     /// Whether hints are made of them: 0 for none, 1 for hints, 2 for hints of which the new ones
     /// alone are told.
@@ -22,23 +41,27 @@ pub struct LocationScouts {
 }
 
 impl Model for LocationScouts {
-    ghost use Rattle.std.specs.Prelude.{◌≤◌};
     ghost use Rattle.mw_packets_in.specs.Kept as plain;
+    ghost use Rattle.mw_packets_in.specs.Kept.{IsScouts};
 
     ghost Value = { plain.LocationScouts };
 
     ghost view = { λ s. record { locations = s.locations; create_as_hint = s.create_as_hint } };
 
-    ghost invariant = { λ s. s.create_as_hint ≤ 2 };
+    ghost invariant = { λ s. IsScouts record {
+      locations = s.locations;
+      create_as_hint = s.create_as_hint;
+    } };
 }
 
 /// The members of a LocationChecks.
 #[tactic(auto, unfolding(crate::specs::Rows::checks_at))]
 pub(crate) fn checks_of(alloc: Global, members: &[Member]) -> Result<Packet, Refusal>
+    requires { AreRead 62 (members_view members.now) }
     ensures { GivesBy packet_view result (checks_at (members_view members.now)) }
 {
     let locations = field_in(alloc, members, "locations", wholes_in)?;
-    Ok(Packet::LocationChecks { locations })
+    Ok(Packet::LocationChecks(LocationChecks { locations }))
 }
 
 /// Whether hints are made.
@@ -51,6 +74,7 @@ fn hint_choice_in(alloc: Global, tree: &Tree) -> Result<u8, Refusal>
 /// The members of a LocationScouts.
 #[tactic(auto, unfolding(crate::specs::Rows::scouts_at))]
 pub(crate) fn scouts_of(alloc: Global, members: &[Member]) -> Result<Packet, Refusal>
+    requires { AreRead 62 (members_view members.now) }
     ensures { GivesBy packet_view result (scouts_at (members_view members.now)) }
 {
     let locations = field_in(alloc, members, "locations", wholes_in)?;

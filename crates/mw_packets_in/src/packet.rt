@@ -1,6 +1,6 @@
 use crate::connect::{Connect, ConnectUpdate};
 use crate::hints::UpdateHint;
-use crate::locations::LocationScouts;
+use crate::locations::{LocationChecks, LocationScouts};
 use crate::status::StatusUpdate;
 use crate::storage::{Bounce, Get};
 use mw_base::{List, Text};
@@ -15,10 +15,7 @@ pub enum Packet {
     /// The whole list of items again.
     Sync,
     /// Locations of the session's own slot are checked.
-    LocationChecks {
-        /// Their numbers, some of which may be no location's.
-        locations: List<i128>,
-    },
+    LocationChecks(LocationChecks),
     /// What stands at locations of the session's own slot is asked for.
     LocationScouts(LocationScouts),
     /// A hint gets another status.
@@ -55,7 +52,7 @@ impl Drop for Packet {
             Packet::Connect(_) => {}
             Packet::ConnectUpdate(_) => {}
             Packet::Sync => {}
-            Packet::LocationChecks { locations: _ } => {}
+            Packet::LocationChecks(_) => {}
             Packet::LocationScouts(_) => {}
             Packet::UpdateHint(_) => {}
             Packet::StatusUpdate(_) => {}

@@ -10,7 +10,7 @@ use Rattle.mw_model.specs.Json.{Json}
 use Rattle.mw_model.specs.Trees.{items_of}
 use Rattle.mw_model.specs.Spelling.{spelling, outline, items_outline}
 use Rattle.mw_protocol.specs.Messages.{ServerPacket, packet_json, packet_text, message_text}
-use Rattle.mw_packets_out.specs.Joined.{one_more, joined, some_after}
+use Rattle.mw_packets_out.specs.Joined.{one_more, joined, in_brackets, some_after}
 
 -- ---- tokens of a value
 
@@ -69,7 +69,7 @@ unfolding packet_text
 spelt [] = refl
 spelt (p ∷ ps) = ap (λ t. spelling (packet_json p) ∷ t) (spelt ps)
 
-pub message_joined : (ps : List ServerPacket) → message_text ps ≡ 91 ∷ (joined false (map packet_text ps) ++ 93 ∷ [])
+message_joined : (ps : List ServerPacket) → message_text ps ≡ in_brackets (map packet_text ps)
 unfolding message_text print_from
 message_joined ps =
     ap (λ t. 91 ∷ t) (list_text false (map packet_json ps) ∙ ap (λ ts. joined false ts ++ 93 ∷ []) (spelt ps))
@@ -113,14 +113,19 @@ joined_next text after now i xs x d t start old new within here is follows befor
     made ∙ ap (λ o. o ++ one_more now t) before ∙ append_assoc start (joined after done) (one_more now t)
     ∙ ap (λ r. start ++ r) (sym (joined_more after now i done t long follows) ∙ ap (joined after) (sym mapped))
 
--- ---- a message of packets, of which the last are there as texts
+-- packets, of which the last are there as texts
+pub message_in_brackets : (ps qs : List ServerPacket) (ws : List (List ℕ)) → map packet_text qs ≡ ws → in_brackets (map packet_text ps ++ ws) ≡ message_text (ps ++ qs)
+message_in_brackets ps qs ws texts =
+    ap (λ ts. in_brackets (map packet_text ps ++ ts)) (sym texts) ∙ ap in_brackets (sym (map-append packet_text ps qs)) ∙ sym (message_joined (ps ++ qs))
 
-all_texts : (xs ys ps : List ServerPacket) → joined false (map packet_text (xs ++ ys ++ ps))
-    ≡ joined false (map packet_text xs) ++ joined (some_after false (map packet_text xs)) (map packet_text ys) ++ joined (some_after (some_after false (map packet_text xs)) (map packet_text ys)) (map packet_text ps)
-all_texts xs ys ps =
-    ap (joined false) (map-append packet_text (xs ++ ys) ps ∙ ap (λ ts. ts ++ map packet_text ps) (map-append packet_text xs ys))
-    ∙ joined_append false (map packet_text xs ++ map packet_text ys) (map packet_text ps)
-    ∙ ap₂ (λ t b. t ++ joined b (map packet_text ps)) (joined_append false (map packet_text xs) (map packet_text ys)) (some_append false (map packet_text xs) (map packet_text ys))
+-- ---- a list of packets and of what was written
+
+all_texts : (xs ys : List ServerPacket) (ws : List (List ℕ)) → joined false (map packet_text (xs ++ ys) ++ ws)
+    ≡ joined false (map packet_text xs) ++ joined (some_after false (map packet_text xs)) (map packet_text ys) ++ joined (some_after (some_after false (map packet_text xs)) (map packet_text ys)) ws
+all_texts xs ys ws =
+    ap (λ ts. joined false (ts ++ ws)) (map-append packet_text xs ys)
+    ∙ joined_append false (map packet_text xs ++ map packet_text ys) ws
+    ∙ ap₂ (λ t b. t ++ joined b ws) (joined_append false (map packet_text xs) (map packet_text ys)) (some_append false (map packet_text xs) (map packet_text ys))
 
 map_both : {A : Type 0} (packet : A → ServerPacket) (xs : List A) → map packet_text (map packet xs) ≡ map (λ x. packet_text (packet x)) xs
 map_both packet [] = refl
@@ -132,15 +137,14 @@ same_some packet true (x ∷ xs) = refl
 same_some packet false [] = refl
 same_some packet false (x ∷ xs) = grind arith
 
-pub message_with : {A : Type 0} (packet : A → ServerPacket) (xs ys : List A) (ps : List ServerPacket) (ws : List (List ℕ)) (after more : Bool)
-    → map packet_text ps ≡ ws → after ≡ not (length xs == 0) → more ≡ (after || not (length ys == 0))
+pub brackets_with : {A : Type 0} (packet : A → ServerPacket) (xs ys : List A) (ws : List (List ℕ)) (after more : Bool)
+    → after ≡ not (length xs == 0) → more ≡ (after || not (length ys == 0))
     → (91 ∷ []) ++ joined false (map (λ x. packet_text (packet x)) xs) ++ joined after (map (λ y. packet_text (packet y)) ys) ++ joined more ws ++ 93 ∷ []
-    ≡ message_text (map packet xs ++ map packet ys ++ ps)
-message_with packet xs ys ps ws after more texts first second =
+    ≡ in_brackets (map packet_text (map packet xs ++ map packet ys) ++ ws)
+brackets_with packet xs ys ws after more first second =
     let first_texts = map packet_text (map packet xs) in
     let second_texts = map packet_text (map packet ys) in
     let before : some_after false first_texts ≡ after = same_some packet false xs ∙ sym first in
     let all : some_after (some_after false first_texts) second_texts ≡ more = ap (λ b. some_after b second_texts) before ∙ same_some packet after ys ∙ sym second in
-    sym (message_joined (map packet xs ++ map packet ys ++ ps)
-    ∙ ap (λ t. 91 ∷ (t ++ 93 ∷ [])) (all_texts (map packet xs) (map packet ys) ps
-    ∙ (λ i. joined false (map_both packet xs i) ++ joined (before i) (map_both packet ys i) ++ joined (all i) (texts i))))
+    sym (ap (λ t. 91 ∷ (t ++ 93 ∷ [])) (all_texts (map packet xs) (map packet ys) ws
+    ∙ (λ i. joined false (map_both packet xs i) ++ joined (before i) (map_both packet ys i) ++ joined (all i) ws)))

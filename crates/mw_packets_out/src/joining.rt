@@ -1,6 +1,6 @@
-ghost use Rattle.std.specs.Prelude.{◌≡◌, ◌++◌, IfOk, List as Listed, OnOk, map, string_bytes};
-ghost use Rattle.mw_protocol.specs.Messages.{ServerPacket as Told, message_text, packet_text};
-ghost use Rattle.mw_packets_out.specs.Joined.{joined, one_more};
+ghost use Rattle.std.specs.Prelude.{◌≡◌, ◌++◌, IfOk, OnOk, map, string_bytes};
+ghost use Rattle.mw_protocol.specs.Messages.{message_text, packet_text};
+ghost use Rattle.mw_packets_out.specs.Joined.{joined, in_brackets, one_more};
 ghost use Rattle.mw_packets_out.specs.View.{packet_view};
 
 use crate::packet::ServerPacket;
@@ -47,17 +47,17 @@ fn push_written(out: &mut String, after: bool, written: &[&str]) -> Result<(), M
     Ok(())
 }
 
-/// The text of a message of some packets, then others, and then packets whose texts are there
-/// already, each of which is copied as it stands. Memory is its only error.
+/// The text of a message of some packets, then others, and then texts that were written already,
+/// each of which is copied as it stands. Memory is its only error.
 pub fn write_with(
     alloc: Global,
     answers: &[ServerPacket],
     others: &[ServerPacket],
     written: &[&str],
 ) -> Result<Text, Memory>
-    ensures { IfOk result (λ t. (ps : Listed Told)
-        → map packet_text ps ≡ map (λ w. w.now) written.now
-        → t ≡ message_text (map packet_view answers.now ++ map packet_view others.now ++ ps)) }
+    ensures { IfOk result (λ t. t
+        ≡ in_brackets (map packet_text (map packet_view answers.now ++ map packet_view others.now)
+        ++ map (λ w. w.now) written.now)) }
 {
     let mut out = String::from_str(alloc, "[")?;
     push_packets(alloc, &mut out, false, answers)?;

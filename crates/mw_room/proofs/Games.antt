@@ -8,7 +8,7 @@ use Rattle.mw_model.specs.Seed.{Slot, Game}
 use Rattle.mw_model.specs.Games.{checksum_of}
 use Rattle.mw_protocol.specs.Messages.{GameSum, checksum_members}
 use Rattle.mw_protocol.specs.Players.{plays, games_played}
-use Rattle.mw_multidata.specs.Ascending.{ComesBefore, NamesAscend}
+use Rattle.mw_model.specs.Ascending.{ComesBefore, NamesAscend}
 use Rattle.mw_multidata.specs.SeedKept.{game_name}
 use Rattle.mw_packets_out.specs.Room.{GamesAscend}
 

@@ -2,13 +2,13 @@
 use Rattle.std.proofs.Common.{◌≡◌, ℕ, ℤ, ◌==◌, ◌+◌, ◌&&◌, true, false, cond, List, [], ◌∷◌, Bool, Option, Some, None, not, is_some, map, length, refl, sym, ap, ap₂, ◌∙◌}
 use Rattle.std.proofs.lemmas.Bool.Decides.{Decides-eqb}
 use Rattle.mw_model.specs.Seed.{Seed, held_at}
-use Rattle.mw_protocol.specs.Checks.{Check}
+use Rattle.mw_protocol.specs.Checks.{Check, checks_at}
 use Rattle.mw_protocol.specs.Connecting.{Member}
 use Rattle.mw_protocol.specs.Heard.{Announced}
 use Rattle.mw_protocol.specs.HintList.{bought_by, hinted_all, made}
 use Rattle.mw_protocol.specs.Hints.{scouted_among}
 use Rattle.mw_protocol.specs.Hints as plain_hints
-use Rattle.mw_protocol.specs.Locating.{hint_told, hints_at, hints_told, mark_record, scouting, slot_number, marking}
+use Rattle.mw_protocol.specs.Locating.{hint_told, hints_at, hints_scouted, hints_told, mark_record, scouting, slot_number, marking}
 use Rattle.mw_protocol.specs.Locations.{known_checks, scouted_at}
 use Rattle.mw_protocol.specs.Messages.{location_info}
 use Rattle.mw_protocol.specs.Packets.{UpdateHint}
@@ -16,11 +16,10 @@ use Rattle.mw_protocol.specs.Records as recorded
 use Rattle.mw_protocol.specs.Records.{Hint, hint}
 use Rattle.mw_protocol.specs.Speaking.{buying}
 use Rattle.mw_protocol.specs.Standing as plain_standing
-use Rattle.mw_checks.specs.Log.{checks_of}
 use Rattle.mw_hints.proofs.Counting.{bought_made, bought_marked, bought_scouted}
 use Rattle.mw_records.specs.Records.{record_view, hint_view}
 use Rattle.mw_base.specs.declared.hint.HintRecord.{HintRecord}
-use Rattle.mw_room.specs.Hinting.{IsBought, all_told, scouted_where, told_with}
+use Rattle.mw_room.specs.Hinting.{IsBought, all_told, told_with}
 use Rattle.mw_effects.specs.Parts.{paid_by, standing_of}
 use Rattle.mw_effects.specs.Views.{effect_view, IsEffect}
 use Rattle.mw_effects.specs.declared.effect.Effect.{Effect}
@@ -29,18 +28,22 @@ use Rattle.mw_effects.proofs.Effects.{none_paid}
 use Rattle.mw_room.proofs.HintsAgain.{again_told}
 use Rattle.mw_room.proofs.HintsMade.{hints_logged, new_told}
 
-told_is : (seed : Seed) (now : plain_standing.Standing) (t s : ℕ) (ps : List (ℕ × ℤ)) (n : ℕ)
-    → told_with n seed now t s ps
-    ≡ hints_told seed now (cond (n == 1) (hints_at (hinted_all now.hints (map hint (scouted_where n now t s (checks_of t ps)))) t s (checks_of t ps)) (scouted_where n now t s (checks_of t ps)))
-told_is seed now t s ps n =
-    let cs = checks_of t ps in
+-- with 0 a scouting makes no hints
+abbrev scouted_where : ℕ → plain_standing.Standing → ℕ → ℕ → List Check → List Hint
+scouted_where n now t s cs = cond (n == 0) [] (scouted_among (plain_standing.is_checked now) now.hints t s cs)
+
+told_is : (seed : Seed) (now : plain_standing.Standing) (t s : ℕ) (ls : List ℤ) (n : ℕ)
+    → told_with n seed now t s ls
+    ≡ hints_told seed now (cond (n == 1) (hints_at (hinted_all now.hints (map hint (scouted_where n now t s (checks_at t s ls)))) t s (checks_at t s ls)) (scouted_where n now t s (checks_at t s ls)))
+told_is seed now t s ls n =
+    let cs = checks_at t s ls in
     let new = scouted_among (plain_standing.is_checked now) now.hints t s cs in
-    (elim (n == 0) as (λ b. (n == 0) ≡ b → cond b [] (all_told seed now t s (n == 1) ps)
+    (elim (n == 0) as (λ b. (n == 0) ≡ b → cond b [] (all_told seed now t s (n == 1) ls)
     ≡ hints_told seed now (cond (n == 1) (hints_at (hinted_all now.hints (map hint (cond b [] new))) t s cs) (cond b [] new))) [
       | true ↦ (λ e. sym (ap (λ (k : ℕ). hints_told seed now (cond (k == 1) (hints_at (hinted_all now.hints []) t s cs) [])) ((Decides-eqb n 0).0 e)))
-      | false ↦ (λ e. elim (n == 1) as (λ b. all_told seed now t s b ps ≡ hints_told seed now (cond b (hints_at (hinted_all now.hints (map hint new)) t s cs) new)) [
-        | true ↦ sym (again_told seed now t s ps)
-        | false ↦ sym (new_told seed now t s ps)
+      | false ↦ (λ e. elim (n == 1) as (λ b. all_told seed now t s b ls ≡ hints_told seed now (cond b (hints_at (hinted_all now.hints (map hint new)) t s cs) new)) [
+        | true ↦ sym (again_told seed now t s ls)
+        | false ↦ sym (new_told seed now t s ls)
       ])
     ]) refl
 
@@ -52,12 +55,12 @@ scouts_unpaid now t s n team slot cs =
     ]
 
 -- of a scouting
-pub scouts_effect : (e : Effect) (s : Standing) (m : Member) (numbers : List ℤ) (n : ℕ) (known : List (ℕ × ℤ))
-    → checks_of m.team known ≡ known_checks s.log.seed m.team m.slot numbers
+pub scouts_effect : (e : Effect) (s : Standing) (m : Member) (numbers : List ℤ) (n : ℕ) (known : List ℤ)
+    → checks_at m.team m.slot known ≡ known_checks s.log.seed m.team m.slot numbers
     → map record_view e.records ≡ map hint_view e.hints
-    → map hint_view e.hints ≡ map hint (scouted_where n (standing_of s) m.team m.slot (checks_of m.team known))
+    → map hint_view e.hints ≡ map hint (hints_scouted s.log.seed (standing_of s) m numbers n)
     → e.new ≡ [] → e.status ≡ None → e.payer ≡ None → e.stored ≡ None
-    → effect_view e ≡ record { records = map record_view e.records; answers = location_info (scouted_at s.log.seed m.slot (checks_of m.team known)) ∷ []; whole = false; member = None; announced = told_with n s.log.seed (standing_of s) m.team m.slot known }
+    → effect_view e ≡ record { records = map record_view e.records; answers = location_info (scouted_at s.log.seed m.slot (checks_at m.team m.slot known)) ∷ []; whole = false; member = None; announced = told_with n s.log.seed (standing_of s) m.team m.slot known }
     → IsEffect e s (scouting s.log.seed (standing_of s) m numbers n)
 scouts_effect e s m numbers n known is records hints new status payer stored view =
     let now = standing_of s in
@@ -65,10 +68,10 @@ scouts_effect e s m numbers n known is records hints new status payer stored vie
     record {
       is =
           view
-          ∙ ap₂ (λ (rs : List recorded.Record) (ps : List Announced). record { records = rs; answers = location_info (scouted_at seed m.slot (checks_of m.team known)) ∷ []; whole = false; member = None; announced = ps })
+          ∙ ap₂ (λ (rs : List recorded.Record) (ps : List Announced). record { records = rs; answers = location_info (scouted_at seed m.slot (checks_at m.team m.slot known)) ∷ []; whole = false; member = None; announced = ps })
           (records ∙ hints) (told_is seed now m.team m.slot known n)
           ∙ ap (λ (cs : List Check). record {
-            records = map hint (scouted_where n now m.team m.slot cs);
+            records = map hint (hints_scouted seed now m numbers n);
             answers = location_info (scouted_at seed m.slot cs) ∷ [];
             whole = false;
             member = None;
@@ -78,7 +81,7 @@ scouts_effect e s m numbers n known is records hints new status payer stored vie
           hints_logged e s new status stored records
           (λ team slot.
           ap (λ (rs : List recorded.Record). length (bought_by (hinted_all now.hints rs) team slot)) hints
-          ∙ scouts_unpaid now m.team m.slot n team slot (checks_of m.team known)
+          ∙ scouts_unpaid now m.team m.slot n team slot (known_checks s.log.seed m.team m.slot numbers)
           ∙ none_paid e (length (bought_by now.hints team slot)) team slot payer);
     }
 

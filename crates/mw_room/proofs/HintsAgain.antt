@@ -4,14 +4,13 @@ use Rattle.std.specs.Option.{unwrap_or}
 use Rattle.std.specs.Ordering.{int_eq}
 use Rattle.std.proofs.lemmas.Bool.Decides.{Decides-and, Decides-eqb, Decides-int_eq}
 use Rattle.mw_model.specs.Seed.{Seed, held_at}
-use Rattle.mw_protocol.specs.Checks.{Check, CheckedAt}
+use Rattle.mw_protocol.specs.Checks.{Check, CheckedAt, checks_at}
 use Rattle.mw_protocol.specs.HintList.{is_at, hint_at, made, hinted_all}
 use Rattle.mw_protocol.specs.Hints.{scouted_among, scouted_hint}
 use Rattle.mw_protocol.specs.Locating.{hint_list, hint_told, hints_at, hints_told}
 use Rattle.mw_protocol.specs.Records.{Hint, hint}
 use Rattle.mw_protocol.specs.Standing as plain
 use Rattle.mw_protocol.specs.Standing.{is_checked}
-use Rattle.mw_checks.specs.Log.{checks_of}
 use Rattle.mw_room.specs.Hinting.{all_told, is_told, told_at, told_if, told_where}
 use Rattle.mw_room.proofs.HintsMade.{told_same}
 
@@ -143,21 +142,21 @@ told_by None false = refl
 told_by (Some h) found = refl
 
 -- those of all scouted locations, once the new ones are made
-again_among : (seed : Seed) (now : plain.Standing) (t s : ℕ) (all ps : List (ℕ × ℤ)) → ((l : ℤ) → has_location (checks_of t ps) l ≡ true → has_location (checks_of t all) l ≡ true)
-    → hints_told seed now (hints_at (hinted_all now.hints (map hint (scouted_among (is_checked now) now.hints t s (checks_of t all)))) t s (checks_of t ps)) ≡ all_told seed now t s true ps
+again_among : (seed : Seed) (now : plain.Standing) (t s : ℕ) (all ls : List ℤ) → ((l : ℤ) → has_location (checks_at t s ls) l ≡ true → has_location (checks_at t s all) l ≡ true)
+    → hints_told seed now (hints_at (hinted_all now.hints (map hint (scouted_among (is_checked now) now.hints t s (checks_at t s all)))) t s (checks_at t s ls)) ≡ all_told seed now t s true ls
 again_among seed now t s all [] within = refl
-again_among seed now t s all (p ∷ ps) within =
-    let after = hinted_all now.hints (map hint (scouted_among (is_checked now) now.hints t s (checks_of t all))) in
-    let o = hint_at after t s p.1 in
-    let here : has_location (checks_of t all) p.1 ≡ true = within p.1 (ap (λ (b : Bool). b || has_location (checks_of t ps) p.1) ((Decides-int_eq p.1 p.1).1 refl)) in
-    let is : is_some o ≡ is_told now t s true p.1 =
-    news_there (is_checked now) now.hints now.hints t s (checks_of t all) p.1
-    ∙ ap (λ (b : Bool). is_some (hint_at now.hints t s p.1) || (b && not (is_spent (is_checked now) now.hints t s p.1))) here
-    ∙ told_by (hint_at now.hints t s p.1) (is_checked now t s p.1) in
-    hints_told-append seed now (hint_list o) (hints_at after t s (checks_of t ps))
-    ∙ ap₂ (λ xs ys. xs ++ ys) (one_told seed now t s p.1 o is (found_is_at after t s p.1))
-    (again_among seed now t s all ps (λ l h. within l (ap (λ (b : Bool). int_eq p.1 l || b) h ∙ or_true (int_eq p.1 l))))
+again_among seed now t s all (x ∷ ls) within =
+    let after = hinted_all now.hints (map hint (scouted_among (is_checked now) now.hints t s (checks_at t s all))) in
+    let o = hint_at after t s x in
+    let here : has_location (checks_at t s all) x ≡ true = within x (ap (λ (b : Bool). b || has_location (checks_at t s ls) x) ((Decides-int_eq x x).1 refl)) in
+    let is : is_some o ≡ is_told now t s true x =
+    news_there (is_checked now) now.hints now.hints t s (checks_at t s all) x
+    ∙ ap (λ (b : Bool). is_some (hint_at now.hints t s x) || (b && not (is_spent (is_checked now) now.hints t s x))) here
+    ∙ told_by (hint_at now.hints t s x) (is_checked now t s x) in
+    hints_told-append seed now (hint_list o) (hints_at after t s (checks_at t s ls))
+    ∙ ap₂ (λ xs ys. xs ++ ys) (one_told seed now t s x o is (found_is_at after t s x))
+    (again_among seed now t s all ls (λ l h. within l (ap (λ (b : Bool). int_eq x l || b) h ∙ or_true (int_eq x l))))
 
-pub again_told : (seed : Seed) (now : plain.Standing) (t s : ℕ) (ps : List (ℕ × ℤ))
-    → hints_told seed now (hints_at (hinted_all now.hints (map hint (scouted_among (is_checked now) now.hints t s (checks_of t ps)))) t s (checks_of t ps)) ≡ all_told seed now t s true ps
-again_told seed now t s ps = again_among seed now t s ps ps (λ l h. h)
+pub again_told : (seed : Seed) (now : plain.Standing) (t s : ℕ) (ls : List ℤ)
+    → hints_told seed now (hints_at (hinted_all now.hints (map hint (scouted_among (is_checked now) now.hints t s (checks_at t s ls)))) t s (checks_at t s ls)) ≡ all_told seed now t s true ls
+again_told seed now t s ls = again_among seed now t s ls ls (λ l h. h)

@@ -1,7 +1,7 @@
 -- Records of hints: what they come to, and which are told.
 use Rattle.std.proofs.Common.{◌≡◌, ℕ, ℤ, ◌+◌, ◌||◌, true, false, cond, List, [], ◌∷◌, ◌++◌, Option, Some, None, is_some, map, length, refl, sym, ap, ap₂, ◌∙◌, subst, append-nil}
 use Rattle.mw_model.specs.Seed.{Seed, Held, held_at}
-use Rattle.mw_protocol.specs.Checks.{Check}
+use Rattle.mw_protocol.specs.Checks.{Check, checks_at}
 use Rattle.mw_protocol.specs.HintList.{bought_by, hint_at, hinted, hinted_all}
 use Rattle.mw_protocol.specs.Hints.{scouted_among}
 use Rattle.mw_protocol.specs.Locating.{hint_told, hints_told}
@@ -53,21 +53,21 @@ told_same now h None = refl
 told_same now h (Some at) = refl
 
 -- those that a scouting makes, where it tells no others
-pub new_told : (seed : Seed) (now : plain.Standing) (team slot : ℕ) (ps : List (ℕ × ℤ))
-    → hints_told seed now (scouted_among (is_checked now) now.hints team slot (checks_of team ps)) ≡ all_told seed now team slot false ps
+pub new_told : (seed : Seed) (now : plain.Standing) (team slot : ℕ) (ls : List ℤ)
+    → hints_told seed now (scouted_among (is_checked now) now.hints team slot (checks_at team slot ls)) ≡ all_told seed now team slot false ls
 new_told seed now team slot [] = refl
-new_told seed now team slot (p ∷ ps) =
-    let rest = scouted_among (is_checked now) now.hints team slot (checks_of team ps) in
-    let h : Hint = record { team = team; finder = slot; location = p.1; bought = false; buyer = slot; status = 0 } in
-    let told = told_at now team slot p.1 (held_at seed slot p.1) in
-    (elim (is_checked now team slot p.1) as (λ b. hints_told seed now (cond (b || is_some (hint_at now.hints team slot p.1)) rest (h ∷ rest))
-    ≡ cond (told_where (hint_at now.hints team slot p.1) false b) told [] ++ all_told seed now team slot false ps) [
-      | true ↦ elim (hint_at now.hints team slot p.1) as (λ o. hints_told seed now rest ≡ cond (told_where o false true) told [] ++ all_told seed now team slot false ps) [
-        | None ↦ new_told seed now team slot ps
-        | Some x ↦ new_told seed now team slot ps
+new_told seed now team slot (l ∷ ls) =
+    let rest = scouted_among (is_checked now) now.hints team slot (checks_at team slot ls) in
+    let h : Hint = record { team = team; finder = slot; location = l; bought = false; buyer = slot; status = 0 } in
+    let told = told_at now team slot l (held_at seed slot l) in
+    (elim (is_checked now team slot l) as (λ b. hints_told seed now (cond (b || is_some (hint_at now.hints team slot l)) rest (h ∷ rest))
+    ≡ cond (told_where (hint_at now.hints team slot l) false b) told [] ++ all_told seed now team slot false ls) [
+      | true ↦ elim (hint_at now.hints team slot l) as (λ o. hints_told seed now rest ≡ cond (told_where o false true) told [] ++ all_told seed now team slot false ls) [
+        | None ↦ new_told seed now team slot ls
+        | Some x ↦ new_told seed now team slot ls
       ]
-      | false ↦ elim (hint_at now.hints team slot p.1) as (λ o. hints_told seed now (cond (is_some o) rest (h ∷ rest)) ≡ cond (told_where o false false) told [] ++ all_told seed now team slot false ps) [
-        | None ↦ ap₂ (λ xs ys. xs ++ ys) (told_same now h (held_at seed slot p.1)) (new_told seed now team slot ps)
-        | Some x ↦ new_told seed now team slot ps
+      | false ↦ elim (hint_at now.hints team slot l) as (λ o. hints_told seed now (cond (is_some o) rest (h ∷ rest)) ≡ cond (told_where o false false) told [] ++ all_told seed now team slot false ls) [
+        | None ↦ ap₂ (λ xs ys. xs ++ ys) (told_same now h (held_at seed slot l)) (new_told seed now team slot ls)
+        | Some x ↦ new_told seed now team slot ls
       ]
     ])

@@ -1,12 +1,13 @@
 -- Plans, from what is kept to every plain room that the code stands for.
-use Rattle.std.proofs.Common.{◌≡◌, ℕ, ◌+◌, List, [], ◌∷◌, ◌++◌, Option, Some, None, option_map, length, map, refl, sym, ap, ap₂, ◌∙◌, arith, append-nil, cond, true, false, ◌==◌}
+use Rattle.std.proofs.Common.{◌≡◌, ℕ, ◌+◌, ◌≤◌, ◌^◌, List, [], ◌∷◌, ◌++◌, Option, Some, None, option_map, length, map, refl, sym, ap, ap₂, ◌∙◌, arith, append-nil, cond, true, false, ◌==◌}
 use Rattle.std.proofs.lemmas.List.{length-map}
 use Rattle.mw_protocol.specs.Rooms as plain
 use Rattle.mw_protocol.specs.Standing.{Standing, steps}
 use Rattle.mw_records.specs.Records.{record_view}
 use Rattle.mw_records.specs.declared.record.Record.{Record}
+use Rattle.mw_room.specs.Fits.{Fits}
 use Rattle.mw_room.specs.Known.{Shown, Known, shown, shown_at, told, dropped, with_text, with_member, known_closed, shown_after, greeted, leaves, known_effect, known_affected, known_next}
-use Rattle.mw_room.specs.Stands.{Stands, Plans, IsPlan}
+use Rattle.mw_room.specs.Represents.{Represents, Plans, IsPlan}
 use Rattle.mw_room.specs.States.{state_of}
 use Rattle.mw_effects.specs.Views.{effect_view}
 use Rattle.mw_room.specs.Views.{session_view, room_view, planned, made, changed, shown_state}
@@ -19,14 +20,14 @@ use Rattle.mw_room.specs.declared.session.Session.{Session}
 use Rattle.mw_room.proofs.Keeping.{effect_is, known_is, sound_next, shown_is}
 
 -- a plan of what is kept is one in each plain room that the room stands for
-pub lifted : (room : Room) (plan : Plan) (r : plain.Room) (e : plain.Event) → IsPlan plan (room_view room) e → Stands room r → Plans plan r e
+pub lifted : (room : Room) (plan : Plan) (r : plain.Room) (e : plain.Event) → IsPlan plan (room_view room) e → Represents room r → Plans plan r e
 lifted room plan r e h st = record {
   records = h.records ∙ ap (λ k. (known_effect k e).records) st.known ∙ ap (λ x. x.records) (effect_is r e);
   after = ap (planned plan) (sym st.known) ∙ h.after ∙ ap (λ k. known_next k e) st.known ∙ sym (known_is r e st.sound);
 }
 
 -- and what it makes of the room stands for the next plain room
-pub applied : (old new : Room) (plan : Plan) (r : plain.Room) (e : plain.Event) → room_view new ≡ planned plan (room_view old) → Stands old r → Plans plan r e → Stands new (plain.next r e)
+pub applied : (old new : Room) (plan : Plan) (r : plain.Room) (e : plain.Event) → room_view new ≡ planned plan (room_view old) → Represents old r → Plans plan r e → Represents new (plain.next r e)
 applied old new plan r e h st p = record { known = h ∙ ap (planned plan) st.known ∙ p.after; sound = sound_next r e st.sound }
 
 -- ---- the parts of a plan
@@ -102,3 +103,11 @@ state_shown (Some s) = refl
 
 pub state_is : (n : ℕ) (ss : List plain.Session) → shown_state (shown_at n (map shown ss)) ≡ state_of (plain.session_in ss n)
 state_is n ss = ap shown_state (shown_is n ss) ∙ state_shown (plain.session_in ss n)
+
+-- once 2^63 sessions were opened no plan opens one more
+pub never_more : (room : Room) (plan : Plan) (r : plain.Room) (e : plain.Event) (time : ℕ) → Fits room plan → IsPlan plan (room_view room) e → Represents room r → 2 ^ 63 ≤ r.opened → e ≡ plain.opened time → ⊥
+never_more room plan r e time fits is st full opens =
+    let count : plan.opened ≡ room.opened + 1 = ap (λ (k : Known). k.opened) is.after ∙ ap (λ (x : plain.Event). (known_next (room_view room) x).opened) opens in
+    let same : room.opened ≡ r.opened = ap (λ (k : Known). k.opened) st.known in
+    let few : plan.opened ≤ 2 ^ 63 = fits.opened in
+    omega arith

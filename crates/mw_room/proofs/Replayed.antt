@@ -13,7 +13,7 @@ use Rattle.mw_records.specs.Records.{record_view}
 use Rattle.mw_records.specs.declared.record.Record.{Record as RustRecord}
 use Rattle.mw_room.specs.Known.{known, shown}
 use Rattle.mw_room.specs.Replayed.{known_more}
-use Rattle.mw_room.specs.Stands.{Stands}
+use Rattle.mw_room.specs.Represents.{Represents}
 use Rattle.mw_room.specs.Views.{room_view}
 use Rattle.mw_room.specs.declared.room.Room.{Room}
 
@@ -24,18 +24,18 @@ known_recording r x =
     (standing-append r.seed r.journal (x ∷ [])) (length-append r.journal (x ∷ []))
 
 -- the room stands for each plain room that it stood for, with a record more
-pub recorded : (old new : Room) (x : Record) (r : plain.Room) → room_view new ≡ known_more (room_view old) x → Stands old r → Stands new (recording_more (x ∷ []) r)
+pub recorded : (old new : Room) (x : Record) (r : plain.Room) → room_view new ≡ known_more (room_view old) x → Represents old r → Represents new (recording_more (x ∷ []) r)
 recorded old new x r h st = record { known = h ∙ ap (λ k. known_more k x) st.known ∙ sym (known_recording r x); sound = st.sound }
 
 -- ---- a record more of a list
 
 pub stands_next : (seed : Seed) (new : Room) (rs : List RustRecord) (i : ℕ) (x : RustRecord) → i < length rs → x ≡ get_or rs i x
-    → Stands new (recording_more (record_view x ∷ []) (plain.replayed seed (map record_view (take i rs))))
-    → Stands new (plain.replayed seed (map record_view (take (i + 1) rs)))
+    → Represents new (recording_more (record_view x ∷ []) (plain.replayed seed (map record_view (take i rs))))
+    → Represents new (plain.replayed seed (map record_view (take (i + 1) rs)))
 stands_next seed new rs i x within here st =
     let grown : take (i + 1) rs ≡ take i rs ++ x ∷ [] = take_more rs i x within ∙ ap (λ (y : RustRecord). take i rs ++ y ∷ []) (sym here) in
     let viewed : map record_view (take (i + 1) rs) ≡ map record_view (take i rs) ++ record_view x ∷ [] = ap (map record_view) grown ∙ map-append record_view (take i rs) (x ∷ []) in
-    subst (λ (js : List Record). Stands new (plain.replayed seed js)) (sym viewed) st
+    subst (λ (js : List Record). Represents new (plain.replayed seed js)) (sym viewed) st
 
 pub named_next : (seed : Seed) (rs : List RustRecord) (i : ℕ) (x : RustRecord) → i < length rs → x ≡ get_or rs i x → are_named seed (map record_view (drop i rs)) ≡ true
     → (is_named seed (record_view x) ≡ true) × (are_named seed (map record_view (drop (i + 1) rs)) ≡ true)

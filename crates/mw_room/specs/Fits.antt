@@ -1,9 +1,9 @@
 -- A plan that was made of a room.
 use Rattle.std.specs.Prelude.{ℕ, ◌<◌, ◌≤◌, ◌+◌, ◌^◌, ◌∷◌, [], List, length, get_or, vec_len}
 use Rattle.mw_base.specs.Space.{HasSpace}
-use Rattle.mw_checks.specs.Log.{HasRoom}
-use Rattle.mw_hints.specs.Room.{HasRoom as HasHintRoom}
-use Rattle.mw_storage.specs.Stored.{HasRoom as HasKeyRoom}
+use Rattle.mw_checks.specs.Log.{HasLogRoom}
+use Rattle.mw_hints.specs.Room.{HasHintRoom}
+use Rattle.mw_storage.specs.Stored.{HasStoreRoom}
 use Rattle.mw_effects.specs.Parts.{IsLogged, keys_in}
 use Rattle.mw_effects.specs.declared.effect.Effect.{Effect}
 use Rattle.mw_room.specs.declared.growths.Growths.{Growths}
@@ -21,9 +21,9 @@ ChangesFit from ss (c ∷ cs) =
 
 -- the memory for an effect, and for so many new sessions
 pub record HasGrowths (room : Room) (effect : Effect) (new : ℕ) (growths : Growths) : Type 0 where
-  pub log : HasRoom room.standing.log growths.log (length effect.new)
+  pub log : HasLogRoom room.standing.log growths.log (length effect.new)
   pub hints : HasHintRoom room.standing.hints growths.hints (length effect.hints)
-  pub keys : HasKeyRoom room.standing.store growths.store (keys_in effect.stored)
+  pub keys : HasStoreRoom room.standing.store growths.store (keys_in effect.stored)
   pub statuses : HasSpace room.standing.statuses growths.statuses 1
   pub sessions : HasSpace room.sessions growths.sessions new
 
@@ -31,5 +31,5 @@ pub record HasGrowths (room : Room) (effect : Effect) (new : ℕ) (growths : Gro
 pub record Fits (room : Room) (plan : Plan) : Type 0 where
   pub growths : HasGrowths room plan.effect (vec_len plan.new_sessions) plan.growths
   pub changes : ChangesFit 0 room.sessions.items plan.changes.items
-  pub opened : plan.opened < 2 ^ 63
+  pub opened : plan.opened ≤ 2 ^ 63
   pub logged : IsLogged room.standing plan.effect

@@ -3,10 +3,9 @@ use Rattle.std.specs.Prelude.{◌≡◌, ℕ, ℤ, ◌==◌, ◌++◌, ◌∷◌
 use Rattle.mw_model.specs.Seed.{Seed, Held, held_at}
 use Rattle.mw_protocol.specs.Checks.{found_item}
 use Rattle.mw_protocol.specs.Heard.{Announced, slots_hear}
-use Rattle.mw_protocol.specs.Checks.{Check}
 use Rattle.mw_protocol.specs.HintList.{hint_at}
 use Rattle.mw_protocol.specs.Connecting.{Member}
-use Rattle.mw_protocol.specs.Hints.{Answer, Wanted, bought_for, scouted_among}
+use Rattle.mw_protocol.specs.Hints.{Answer, Wanted, bought_for}
 use Rattle.mw_protocol.specs.Prints.{printed, hint_print}
 use Rattle.mw_protocol.specs.Records.{Hint}
 use Rattle.mw_protocol.specs.Standing.{Standing, is_checked, points}
@@ -39,17 +38,13 @@ told_if seed now team slot again location =
     then told_at now team slot location (held_at seed slot location) else []
 
 -- of the locations of a slot
-abbrev pub all_told : Seed → Standing → ℕ → ℕ → Bool → List (ℕ × ℤ) → List Announced
+abbrev pub all_told : Seed → Standing → ℕ → ℕ → Bool → List ℤ → List Announced
 all_told seed now team slot again [] = []
-all_told seed now team slot again (p ∷ ps) =
-    told_if seed now team slot again p.1 ++ all_told seed now team slot again ps
+all_told seed now team slot again (l ∷ ls) =
+    told_if seed now team slot again l ++ all_told seed now team slot again ls
 
--- with 0 a scouting makes and tells no hints, with 1 those that are there are told again
-abbrev pub scouted_where : ℕ → Standing → ℕ → ℕ → List Check → List Hint
-scouted_where as_hint now team slot known =
-    if as_hint == 0 then [] else scouted_among (is_checked now) now.hints team slot known
-
-abbrev pub told_with : ℕ → Seed → Standing → ℕ → ℕ → List (ℕ × ℤ) → List Announced
+-- with 0 a scouting tells no hints, with 1 those that are there are told again
+abbrev pub told_with : ℕ → Seed → Standing → ℕ → ℕ → List ℤ → List Announced
 told_with as_hint seed now team slot known =
     if as_hint == 0 then [] else all_told seed now team slot (as_hint == 1) known
 

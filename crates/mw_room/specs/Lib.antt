@@ -6,6 +6,6 @@ pub mod Hinting
 pub mod Joining
 pub mod Known
 pub mod Replayed
-pub mod Stands
+pub mod Represents
 pub mod States
 pub mod Views

@@ -1,9 +1,9 @@
-ghost use Rattle.std.specs.Prelude.{◌≡◌, ◌+◌, ◌++◌, ◌∷◌, ◌<◌, ◌^◌, ℕ, [], IfOk, map, length};
+ghost use Rattle.std.specs.Prelude.{◌≡◌, ◌+◌, ◌++◌, ◌∷◌, ◌≤◌, ◌^◌, ℕ, [], IfOk, IsErr, map, length};
 ghost use Rattle.mw_protocol.specs.Rooms as plain;
 ghost use Rattle.mw_packets_in.specs.View.{packet_view, bad_view};
 ghost use Rattle.mw_room.specs.Fits.{Fits, ChangesFit};
 ghost use Rattle.mw_room.specs.Known.{Known, greeted, texts_at, known_affected, known_next, known_taken};
-ghost use Rattle.mw_room.specs.Stands.{Stands, Plans, IsPlan};
+ghost use Rattle.mw_room.specs.Represents.{Represents, Plans, IsPlan};
 ghost use Rattle.mw_room.specs.Events.{event_view};
 ghost use Rattle.mw_room.specs.States.{state_of};
 ghost use Rattle.mw_effects.specs.Parts.{IsLogged};
@@ -27,7 +27,7 @@ use mw_packets_in::{Bad, Packet};
 use mw_packets_out::{ServerPacket, write_message};
 use std::alloc::Global;
 
-/// Fewer sessions than this are ever opened: 2^63.
+/// At most so many sessions are ever opened: 2^63.
 const MOST_OPENED: u64 = 0x8000_0000_0000_0000;
 
 /// A list of one session.
@@ -51,7 +51,7 @@ fn first_text(alloc: Global, text: Text) -> Result<Vec<Text>, Memory>
 impl Room {
     /// A room that nobody has entered, before its first record.
     pub fn new(alloc: Global, tables: RoomTables) -> Result<Room, Memory>
-        ensures { IfOk result (λ room. Stands room (plain.empty_room tables)) }
+        ensures { IfOk result (λ room. Represents room (plain.empty_room tables)) }
     {
         Ok(Room {
             alloc,
@@ -62,11 +62,14 @@ impl Room {
         })
     }
 
-    /// Decides what an event records and owes, and takes the memory for it.
+    /// Decides what an event records and owes, and takes the memory for it. Once 2^63 sessions were
+    /// opened, an `Open` is answered `Memory`.
     pub fn plan(&self, event: &Event) -> Result<Plan, Memory>
         ensures fits { IfOk result (λ p. Fits self.now p) }
-        ensures plans { IfOk result (λ p. (r : plain.Room) → Stands self.now r
+        ensures plans { IfOk result (λ p. (r : plain.Room) → Represents self.now r
             → Plans p r (event_view event.now)) }
+        ensures full { (r : plain.Room) (time : ℕ) → Represents self.now r → 2 ^ 63 ≤ r.opened
+            → event_view event.now ≡ plain.opened time → IsErr result }
     {
         let plan = self.plan_known(event)?;
         Ok(plan)
@@ -108,8 +111,7 @@ impl Room {
         ensures known { IfOk result (λ p. IsPlan p (room_view self.now) (plain.opened time)) }
     {
         let alloc = self.alloc;
-        let number = self.opened.checked_add(1).ok_or(Memory)?;
-        let sessions = only(alloc, self.new_session(number, time)?)?;
+        let sessions = only(alloc, self.new_session(self.opened + 1, time)?)?;
         let plan = self.finish(nothing(alloc), Vec::new(alloc), None, sessions)?;
         Ok(plan)
     }
@@ -164,11 +166,11 @@ impl Room {
     /// How many records there are after so many more, and how many sessions were ever opened.
     fn counts_after(&self, records: usize, sessions: usize) -> Result<(u64, u64), Memory>
         ensures { IfOk result (λ (counts : ℕ × ℕ). (counts.0 ≡ self.now.recorded + records)
-            × (counts.1 ≡ self.now.opened + sessions) × (counts.1 < 2 ^ 63)) }
+            × (counts.1 ≡ self.now.opened + sessions) × (counts.1 ≤ 2 ^ 63)) }
     {
         let length = self.recorded.checked_add(records as u64).ok_or(Memory)?;
         let opened = self.opened.checked_add(sessions as u64).ok_or(Memory)?;
-        if opened >= MOST_OPENED {
+        if opened > MOST_OPENED {
             return Err(Memory);
         }
         Ok((length, opened))
@@ -205,8 +207,8 @@ impl Room {
     /// Does what a plan of this room says. It takes no memory.
     pub fn apply(&mut self, plan: Plan)
         requires { Fits self.old plan }
-        ensures stands { (r : plain.Room) (e : plain.Event) → Stands self.old r
-            → Plans plan r e → Stands self.new (plain.next r e) }
+        ensures stands { (r : plain.Room) (e : plain.Event) → Represents self.old r
+            → Plans plan r e → Represents self.new (plain.next r e) }
     {
         self.apply_known(plan);
     }
@@ -245,10 +247,10 @@ impl Room {
 
     /// Gives a session's untaken messages, and leaves it none. It takes no memory.
     pub fn take(&mut self, session: SessionId) -> List<Text>
-        ensures given { (r : plain.Room) → Stands self.old r
+        ensures given { (r : plain.Room) → Represents self.old r
             → result ≡ map plain.text_of (plain.untaken_of (plain.session_in r.sessions session)) }
-        ensures left { (r : plain.Room) → Stands self.old r
-            → Stands self.new (plain.taken r session) }
+        ensures left { (r : plain.Room) → Represents self.old r
+            → Represents self.new (plain.taken r session) }
     {
         List::from_vec(self.take_known(session.get()))
     }
@@ -262,7 +264,7 @@ impl Room {
 
     /// How a session stands.
     pub fn state(&self, session: SessionId) -> SessionState
-        ensures { (r : plain.Room) → Stands self.now r
+        ensures { (r : plain.Room) → Represents self.now r
             → result ≡ state_of (plain.session_in r.sessions session) }
     {
         state_in(&self.sessions, session.get())
@@ -270,14 +272,14 @@ impl Room {
 
     /// The number that the next session gets.
     pub fn next_session(&self) -> SessionId
-        ensures { (r : plain.Room) → Stands self.now r → result ≡ r.opened + 1 }
+        ensures { (r : plain.Room) → Represents self.now r → result ≡ r.opened + 1 }
     {
         SessionId::new(self.opened + 1).unwrap()
     }
 
     /// How many records the journal has.
     pub fn length(&self) -> u64
-        ensures { (r : plain.Room) → Stands self.now r → result ≡ length r.journal }
+        ensures { (r : plain.Room) → Represents self.now r → result ≡ length r.journal }
     {
         self.recorded
     }

@@ -1,16 +1,13 @@
 ghost use Rattle.std.specs.Prelude.{◌≡◌, ◌++◌, ◌∷◌, [], ℤ, None, Some, false, IfNone, IfOk, IfSome, OnOk, map};
 ghost use Rattle.std.specs.Option.{option_to_list};
 ghost use Rattle.mw_model.specs.Seed.{held_at};
-ghost use Rattle.mw_protocol.specs.Locating.{hint_told, mark_record, marking as marking_lem, scouting as scouting_lem, slot_number};
-ghost use Rattle.mw_protocol.specs.Locations.{known_checks, scouted_at};
-ghost use Rattle.mw_protocol.specs.Messages.{location_info};
+ghost use Rattle.mw_protocol.specs.Locating.{hint_told, mark_record, marking as marking_lem, slot_number};
 ghost use Rattle.mw_protocol.specs.Records.{Hint, hint};
 ghost use Rattle.mw_protocol.specs.Speaking.{wanting as wanting_lem};
-ghost use Rattle.mw_hints.specs.Answers.{Answers, wanted_view};
+ghost use Rattle.mw_hints.specs.Answering.{IsAnswer, wanted_view};
 ghost use Rattle.mw_multidata.specs.SeedKept.{IsSeed};
 ghost use Rattle.mw_packets_out.specs.View.{packet_view};
-ghost use Rattle.mw_checks.specs.Log.{checks_of};
-ghost use Rattle.mw_room.specs.Hinting.{answered_in, scouted_where, told_if, told_with, all_told, is_told as is_told_lem, told_at};
+ghost use Rattle.mw_room.specs.Hinting.{answered_in, told_at};
 ghost use Rattle.mw_records.specs.Records.{hint_view, record_view};
 ghost use Rattle.mw_effects.specs.Parts.{standing_of};
 ghost use Rattle.mw_effects.specs.Views.{announced_view, effect_view, IsEffect};
@@ -18,13 +15,10 @@ ghost use Rattle.mw_effects.specs.Views.{announced_view, effect_view, IsEffect};
 use mw_answers::{no_such_name, nothing_to_hint, too_dear_text};
 use mw_base::{HintRecord, HintStatus, List, LocId, Memory, SlotId, TeamId};
 use mw_chat::hint_print;
-use mw_checks::CheckLog;
-use mw_effects::{
-    Announced, Audience, Effect, Member, Pair, Standing, found_item, kept, scouts_of, telling,
-};
+use mw_effects::{Announced, Audience, Effect, Member, Standing, found_item, kept, telling};
 use mw_hints::{HintAnswer, Wanted};
 use mw_multidata::{Held, Multidata};
-use mw_packets_in::{LocationScouts, UpdateHint};
+use mw_packets_in::UpdateHint;
 use mw_packets_out::ServerPacket;
 use mw_records::Record;
 use std::alloc::Global;
@@ -56,7 +50,7 @@ fn told_print(
 }
 
 /// Tells those who find or receive what is at a location that there is a hint of it.
-fn push_told(
+pub(crate) fn push_told(
     alloc: Global,
     prints: &mut List<Announced>,
     standing: &Standing,
@@ -75,59 +69,8 @@ fn push_told(
     Ok(())
 }
 
-/// Whether a scouting makes a hint of a location of the slot, or there is one that is told again.
-fn is_told(standing: &Standing, member: &Member, location: LocId, again: bool) -> bool
-    ensures { result ≡ is_told_lem (standing_of standing.now) member.now.team member.now.slot
-        again location }
-{
-    let (team, slot) = (member.team, member.slot);
-    match standing.hints.hint_at(team, slot, location) {
-        Some(_) => again,
-        None => !standing.log.is_checked(team, slot, location),
-    }
-}
-
-/// The prints of the hints that a scouting tells.
-fn scouts_told(
-    alloc: Global,
-    standing: &Standing,
-    member: &Member,
-    known: &[Pair],
-    again: bool,
-) -> Result<List<Announced>, Memory>
-    ensures { IfOk result (λ ps. map announced_view ps
-        ≡ all_told standing.now.log.seed (standing_of standing.now) member.now.team
-        member.now.slot again known.now) }
-{
-    let mut prints = List::new(alloc);
-    for pair in known {
-        let (_, location) = *pair;
-        push_where(alloc, &mut prints, standing, member, location, again)?;
-    }
-    Ok(prints)
-}
-
-/// The print of the hint of a location, where a scouting tells it.
-fn push_where(
-    alloc: Global,
-    prints: &mut List<Announced>,
-    standing: &Standing,
-    member: &Member,
-    location: LocId,
-    again: bool,
-) -> Result<(), Memory>
-    ensures { OnOk result (map announced_view prints.new ≡ map announced_view prints.old
-        ++ told_if standing.now.log.seed (standing_of standing.now) member.now.team
-        member.now.slot again location) }
-{
-    if is_told(standing, member, location, again) {
-        return push_told(alloc, prints, standing, member.team, member.slot, location);
-    }
-    Ok(())
-}
-
 /// The records of hints.
-fn hint_records(alloc: Global, hints: &[HintRecord]) -> Result<List<Record>, Memory>
+pub(crate) fn hint_records(alloc: Global, hints: &[HintRecord]) -> Result<List<Record>, Memory>
     ensures { IfOk result (λ rs. map record_view rs ≡ map hint_view hints.now) }
 {
     let mut records = List::new(alloc);
@@ -137,46 +80,8 @@ fn hint_records(alloc: Global, hints: &[HintRecord]) -> Result<List<Record>, Mem
     Ok(records)
 }
 
-/// The hints that a scouting makes, where it is asked to.
-fn hints_scouted(
-    alloc: Global,
-    standing: &Standing,
-    member: &Member,
-    known: &[Pair],
-    as_hint: u8,
-) -> Result<List<HintRecord>, Memory>
-    ensures { IfOk result (λ hs. map hint_view hs ≡ map hint (scouted_where as_hint
-        (standing_of standing.now) member.now.team member.now.slot
-        (checks_of member.now.team known.now))) }
-{
-    if as_hint == 0 {
-        return Ok(List::new(alloc));
-    }
-    standing
-        .hints
-        .scout(member.team, member.slot, known, &standing.log)
-}
-
-/// The prints of a scouting: with 1 the hints of all locations, with 2 those just made.
-fn prints_scouted(
-    alloc: Global,
-    standing: &Standing,
-    member: &Member,
-    known: &[Pair],
-    as_hint: u8,
-) -> Result<List<Announced>, Memory>
-    ensures { IfOk result (λ ps. map announced_view ps ≡ told_with as_hint
-        standing.now.log.seed (standing_of standing.now) member.now.team member.now.slot
-        known.now) }
-{
-    if as_hint == 0 {
-        return Ok(List::new(alloc));
-    }
-    scouts_told(alloc, standing, member, known, as_hint == 1)
-}
-
 /// The effect of hints that are recorded, and paid for by a slot, or by none.
-fn hinted(
+pub(crate) fn hinted(
     alloc: Global,
     member: &Member,
     records: List<Record>,
@@ -212,55 +117,6 @@ fn hinted(
         whole: false,
         member: None,
         announced: prints,
-    }
-}
-
-/// Those of the numbers that are locations of the member's slot, each once.
-fn known_of(log: &CheckLog, member: &Member, numbers: &[i128]) -> Result<List<Pair>, Memory>
-    ensures { IfOk result (λ ps. checks_of member.now.team ps
-        ≡ known_checks log.now.seed member.now.team member.now.slot numbers.now) }
-{
-    log.known_of(member.team, member.slot, numbers)
-}
-
-/// The answer that tells what stands at a slot's locations.
-fn located(
-    alloc: Global,
-    log: &CheckLog,
-    member: &Member,
-    known: &[Pair],
-) -> Result<List<ServerPacket>, Memory>
-    ensures { IfOk result (λ ps. map packet_view ps ≡ location_info
-        (scouted_at log.now.seed member.now.slot (checks_of member.now.team known.now)) ∷ []) }
-{
-    let locations = scouts_of(alloc, log, member, known)?;
-    let mut answers = List::new(alloc);
-    answers.push(ServerPacket::LocationInfo { locations })?;
-    Ok(answers)
-}
-
-/// The effect of a question for what stands at locations, which may make hints of them.
-pub fn scouting(
-    alloc: Global,
-    standing: &Standing,
-    member: &Member,
-    scouts: &LocationScouts,
-) -> Result<Effect, Memory>
-    ensures { IfOk result (λ e. IsEffect e standing.now (scouting_lem standing.now.log.seed
-        (standing_of standing.now) member.now scouts.now.locations scouts.now.create_as_hint)) }
-{
-    let log = &standing.log;
-    let as_hint = scouts.create_as_hint;
-    let known = known_of(log, member, scouts.locations.as_slice())?;
-    let hints = hints_scouted(alloc, standing, member, known.as_slice(), as_hint)?;
-    let records = hint_records(alloc, hints.as_slice());
-    let prints = prints_scouted(alloc, standing, member, known.as_slice(), as_hint);
-    let answers = located(alloc, log, member, known.as_slice());
-    match (records, prints, answers) {
-        (Ok(records), Ok(prints), Ok(answers)) => {
-            Ok(hinted(alloc, member, records, hints, None, answers, prints))
-        }
-        _ => Err(Memory),
     }
 }
 
@@ -389,7 +245,7 @@ fn bought(
     wanted: &Wanted,
     entry: HintRecord,
 ) -> Result<Effect, Memory>
-    requires { Answers (HintAnswer.Bought entry) (answered_in standing.now member.now
+    requires { IsAnswer (HintAnswer.Bought entry) (answered_in standing.now member.now
         (wanted_view wanted.now)) }
     ensures { IfOk result (λ e. IsEffect e standing.now (wanting_lem standing.now.log.seed
         (standing_of standing.now) member.now (wanted_view wanted.now))) }
@@ -411,7 +267,7 @@ fn bought(
 
 /// What a member is answered that wants a hint.
 fn answer_to(standing: &Standing, member: &Member, wanted: &Wanted) -> Result<HintAnswer, Memory>
-    ensures { IfOk result (λ a. Answers a (answered_in standing.now member.now
+    ensures { IfOk result (λ a. IsAnswer a (answered_in standing.now member.now
         (wanted_view wanted.now))) }
 {
     let log = &standing.log;

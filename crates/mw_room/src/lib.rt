@@ -13,6 +13,7 @@ mod people;
 mod plan;
 mod replay;
 mod room;
+mod scouting;
 mod session;
 mod sessions;
 mod speaking;

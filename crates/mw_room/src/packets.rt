@@ -12,7 +12,8 @@ ghost use Rattle.mw_effects.specs.Views.{effect_view, IsEffect};
 ghost use Rattle.mw_room.specs.Views.{session_view};
 
 use crate::entering::{joining, updating};
-use crate::hinting::{marking, scouting};
+use crate::hinting::marking;
+use crate::scouting::scouting;
 use crate::session::Session;
 use crate::speaking::{saying, stating};
 use mw_base::{List, Memory, Text};
@@ -100,8 +101,8 @@ fn member_effect(
         Packet::Connect(_) => refusing(alloc)?,
         Packet::ConnectUpdate(update) => updating(alloc, tables, member, update)?,
         Packet::Sync => syncing(alloc),
-        Packet::LocationChecks { locations } => {
-            return checking(alloc, standing, member, locations.as_slice());
+        Packet::LocationChecks(checks) => {
+            return checking(alloc, standing, member, checks.locations.as_slice());
         }
         Packet::LocationScouts(scouts) => return scouting(alloc, standing, member, scouts),
         Packet::UpdateHint(update) => return marking(alloc, standing, member, update),

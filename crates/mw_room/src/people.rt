@@ -171,23 +171,19 @@ pub fn connected(alloc: Global, standing: &Standing, member: &Member) -> Result<
     let missing = missing_locations(alloc, locations, standing, member);
     let checked = checked_locations(alloc, locations, standing, member);
     let infos = slot_infos(alloc, member.team.get(), slots);
-    let points = points_of(standing, member);
-    match (players, missing, checked, infos, points) {
-        (
-            Ok(players),
-            Ok(missing_locations),
-            Ok(checked_locations),
-            Ok(slot_info),
-            Ok(hint_points),
-        ) => Ok(Connected {
-            team: member.team,
-            slot: member.slot,
-            players,
-            missing_locations,
-            checked_locations,
-            slot_info,
-            hint_points,
-        }),
+    let hint_points = points_of(standing, member);
+    match (players, missing, checked, infos) {
+        (Ok(players), Ok(missing_locations), Ok(checked_locations), Ok(slot_info)) => Ok(
+            Connected {
+                team: member.team,
+                slot: member.slot,
+                players,
+                missing_locations,
+                checked_locations,
+                slot_info,
+                hint_points,
+            },
+        ),
         _ => Err(Memory),
     }
 }

@@ -4,7 +4,7 @@ ghost use Rattle.mw_protocol.specs.Named.{are_named, is_named};
 ghost use Rattle.mw_protocol.specs.Rooms as plain;
 ghost use Rattle.mw_records.specs.Records.{record_view};
 ghost use Rattle.mw_room.specs.Replayed.{known_more};
-ghost use Rattle.mw_room.specs.Stands.{Stands};
+ghost use Rattle.mw_room.specs.Represents.{Represents};
 ghost use Rattle.mw_room.specs.Views.{room_view};
 
 use crate::room::Room;
@@ -18,10 +18,10 @@ impl Room {
     /// exactly where the record names a team, a slot or a location that the seed hasn't. After
     /// `Memory`, which also tells of 2^64 records, the room is as before.
     pub fn enter(&mut self, entry: &Record) -> Result<bool, Memory>
-        ensures named { IfOk result (λ named. (r : plain.Room) → Stands self.old r
+        ensures named { IfOk result (λ named. (r : plain.Room) → Represents self.old r
             → named ≡ is_named r.seed (record_view entry.now)) }
-        ensures entered { result ≡ Ok true → (r : plain.Room) → Stands self.old r
-            → Stands self.new (recording_more (record_view entry.now ∷ []) r) }
+        ensures entered { result ≡ Ok true → (r : plain.Room) → Represents self.old r
+            → Represents self.new (recording_more (record_view entry.now ∷ []) r) }
         ensures refused { result ≡ Ok false → self.new ≡ self.old }
         ensures memory { OnErr result (self.new ≡ self.old) }
     {
@@ -50,7 +50,7 @@ impl Room {
     pub fn replay(alloc: Global, tables: RoomTables, records: &List<Record>) -> Result<Room, Memory>
         requires { IsTrue (are_named tables (map record_view records.now)) }
         ensures { IfOk result (λ room.
-            Stands room (plain.replayed tables (map record_view records.now))) }
+            Represents room (plain.replayed tables (map record_view records.now))) }
     {
         let mut room = Room::new(alloc, tables)?;
         for entry in records.as_slice() {

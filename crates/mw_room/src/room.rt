@@ -1,4 +1,4 @@
-ghost use Rattle.std.specs.Prelude.{◌<◌, ◌^◌};
+ghost use Rattle.std.specs.Prelude.{◌≤◌, ◌^◌};
 
 use crate::session::Session;
 use mw_effects::Standing;
@@ -12,7 +12,7 @@ pub struct Room {
     pub(crate) recorded: u64,
     pub(crate) opened: u64,
     pub(crate) sessions: Vec<Session>,
-    ghost few_opened: { opened < 2 ^ 63 },
+    ghost few_opened: { opened ≤ 2 ^ 63 },
 }
 
 /// By hand, so that whoever lets it go calls this, and what it frees is listed once.

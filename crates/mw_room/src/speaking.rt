@@ -301,7 +301,7 @@ fn priced(alloc: Global, standing: &Standing, member: &Member) -> Result<Effect,
         (standing_of standing.now) [] member.now (said.hint [])) }
 {
     let price = cost(member.slot, &standing.log);
-    let text = points_text(alloc, points_of(standing, member)?, price)?;
+    let text = points_text(alloc, points_of(standing, member), price)?;
     telling(alloc, text.as_str())
 }
 

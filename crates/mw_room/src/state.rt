@@ -1,5 +1,5 @@
 /// How a session stands.
-#[derive(Clone, Copy, Debug, PartialEq, Eq)]
+#[derive(Clone, Copy, PartialEq, Eq)]
 pub enum SessionState {
     /// It isn't open.
     Shut,

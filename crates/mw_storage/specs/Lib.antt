@@ -1,4 +1,4 @@
-pub mod Answers
+pub mod Results
 pub mod Places
 pub mod Refusals
 pub mod Sizes

@@ -34,7 +34,7 @@ pub record IsStore (kept : List Kept) (bytes : Option ℕ) : Type 0 where
   pub valid : AreKept kept
 
 -- this many more keys have their place, here or in the wider map
-abbrev pub HasRoom : Stored → StoreGrowth → ℕ → Type 0
-HasRoom store growth more =
+abbrev pub HasStoreRoom : Stored → StoreGrowth → ℕ → Type 0
+HasStoreRoom store growth more =
     MatchOption growth.wide (more ≤ store.room)
     (λ m. IsEmpty m × (length store.kept + more ≤ spare m))

@@ -1,7 +1,7 @@
 ghost use Rattle.std.specs.Prelude.{◌≡◌, ◌≢◌, ◌≤◌, ◌<◌, ◌^◌, ◌*ℤ◌, ◌+ℤ◌, ◌-ℤ◌, pos, IfSome, unsigned_abs};
 ghost use Rattle.mw_json.specs.View.{view};
 ghost use Rattle.mw_protocol.specs.Operations.{number_in, in_range, floor_quotient, modulo, remainder, shift_by, shifted_left, shifted_right, of_bits, of_numbers, by_number, itself};
-ghost use Rattle.mw_storage.specs.Answers.{Answers};
+ghost use Rattle.mw_storage.specs.Results.{IsResultOf};
 
 use crate::fault::Fault;
 use mw_json::Tree;
@@ -20,7 +20,7 @@ pub(crate) fn number_of(tree: &Tree) -> Option<i64>
 
 /// A result, which has to be a number again.
 fn ranged(z: i128) -> Result<Tree, Fault>
-    ensures { Answers result (in_range z) }
+    ensures { IsResultOf result (in_range z) }
 {
     if -0x8000_0000_0000_0000 <= z && z < 0x8000_0000_0000_0000 {
         Ok(Tree::Whole(z))
@@ -72,7 +72,7 @@ fn modulo(z: i64, divisor: i64) -> i128
 }
 
 fn remainder(z: i64, divisor: i64) -> Result<Tree, Fault>
-    ensures { Answers result (remainder z divisor) }
+    ensures { IsResultOf result (remainder z divisor) }
 {
     if divisor == 0 {
         return Err(Fault::Bad);
@@ -109,7 +109,7 @@ fn shift(n: i64) -> Option<u32>
 }
 
 fn shifted_left(z: i64, n: i64) -> Result<Tree, Fault>
-    ensures { Answers result (shifted_left z (shift_by n)) }
+    ensures { IsResultOf result (shifted_left z (shift_by n)) }
 {
     match shift(n) {
         Some(exponent) => ranged(product(i128::from(z), power(exponent))),
@@ -118,7 +118,7 @@ fn shifted_left(z: i64, n: i64) -> Result<Tree, Fault>
 }
 
 fn shifted_right(z: i64, n: i64) -> Result<Tree, Fault>
-    ensures { Answers result (shifted_right z (shift_by n)) }
+    ensures { IsResultOf result (shifted_right z (shift_by n)) }
 {
     match shift(n) {
         Some(exponent) => ranged(quotient(i128::from(z), power(exponent))),
@@ -129,7 +129,7 @@ fn shifted_right(z: i64, n: i64) -> Result<Tree, Fault>
 /// Two numbers as 64 bits in two's complement.
 #[tactic(auto, unfolding(mw_protocol::specs::Operations::of_bits))]
 fn of_bits(name: &str, z: i64, n: i64) -> Result<Tree, Fault>
-    ensures { Answers result (of_bits name.now z n) }
+    ensures { IsResultOf result (of_bits name.now z n) }
 {
     match name {
         "and" => ranged(i128::from(z & n)),
@@ -143,7 +143,7 @@ fn of_bits(name: &str, z: i64, n: i64) -> Result<Tree, Fault>
 
 #[tactic(auto, unfolding(mw_protocol::specs::Operations::of_numbers))]
 fn of_numbers(name: &str, z: i64, n: i64) -> Result<Tree, Fault>
-    ensures { Answers result (of_numbers name.now z n) }
+    ensures { IsResultOf result (of_numbers name.now z n) }
 {
     match name {
         "add" => ranged(sum(z, n)),
@@ -157,7 +157,7 @@ fn of_numbers(name: &str, z: i64, n: i64) -> Result<Tree, Fault>
 
 /// An operation that only numbers have.
 pub(crate) fn by_number(name: &str, value: &Tree, operand: &Tree) -> Result<Tree, Fault>
-    ensures { Answers result (by_number name.now (view value.now) (view operand.now)) }
+    ensures { IsResultOf result (by_number name.now (view value.now) (view operand.now)) }
 {
     match (number_of(value), number_of(operand)) {
         (Some(z), Some(n)) => of_numbers(name, z, n),
@@ -167,7 +167,7 @@ pub(crate) fn by_number(name: &str, value: &Tree, operand: &Tree) -> Result<Tree
 
 /// A number, which is whole.
 pub(crate) fn itself(value: Tree) -> Result<Tree, Fault>
-    ensures { Answers result (itself (view value)) }
+    ensures { IsResultOf result (itself (view value)) }
 {
     if number_of(&value).is_some() {
         Ok(value)

@@ -1,7 +1,7 @@
 ghost use Rattle.std.specs.Prelude.{◌≡◌};
 ghost use Rattle.mw_json.specs.View.{view, items_view, members_view};
 ghost use Rattle.mw_protocol.specs.Operations.{joined, added, removed, popped_index, popped_name, popped, updated_list, updated_object, updated, operated};
-ghost use Rattle.mw_storage.specs.Answers.{Answers};
+ghost use Rattle.mw_storage.specs.Results.{IsResultOf};
 
 use crate::fault::Fault;
 use crate::lists::{append, lacking, without_first, without_index};
@@ -12,7 +12,7 @@ use mw_json::{Member, Operation, Tree, copy};
 use std::alloc::Global;
 
 fn joined(alloc: Global, items: List<Tree>, operand: &Tree) -> Result<Tree, Fault>
-    ensures { Answers result (joined (items_view items) (view operand.now)) }
+    ensures { IsResultOf result (joined (items_view items) (view operand.now)) }
 {
     match copy(alloc, operand)? {
         Tree::Many(more) => Ok(Tree::Many(append(items, more)?)),
@@ -22,7 +22,7 @@ fn joined(alloc: Global, items: List<Tree>, operand: &Tree) -> Result<Tree, Faul
 
 /// The sum of two numbers, or two lists joined.
 fn added(alloc: Global, value: Tree, operand: &Tree) -> Result<Tree, Fault>
-    ensures { Answers result (added (view value) (view operand.now)) }
+    ensures { IsResultOf result (added (view value) (view operand.now)) }
 {
     match value {
         Tree::Many(items) => joined(alloc, items, operand),
@@ -32,7 +32,7 @@ fn added(alloc: Global, value: Tree, operand: &Tree) -> Result<Tree, Fault>
 
 /// A list without the first element that is the operand.
 fn removed(value: Tree, operand: &Tree) -> Result<Tree, Fault>
-    ensures { Answers result (removed (view value) (view operand.now)) }
+    ensures { IsResultOf result (removed (view value) (view operand.now)) }
 {
     match value {
         Tree::Many(items) => Ok(Tree::Many(without_first(items, operand))),
@@ -41,7 +41,7 @@ fn removed(value: Tree, operand: &Tree) -> Result<Tree, Fault>
 }
 
 fn popped_index(items: List<Tree>, index: Option<i64>) -> Result<Tree, Fault>
-    ensures { Answers result (popped_index (items_view items) index) }
+    ensures { IsResultOf result (popped_index (items_view items) index) }
 {
     match index {
         Some(index) => Ok(Tree::Many(without_index(items, index))),
@@ -50,7 +50,7 @@ fn popped_index(items: List<Tree>, index: Option<i64>) -> Result<Tree, Fault>
 }
 
 fn popped_name(members: List<Member>, operand: &Tree) -> Result<Tree, Fault>
-    ensures { Answers result (popped_name (members_view members) (view operand.now)) }
+    ensures { IsResultOf result (popped_name (members_view members) (view operand.now)) }
 {
     match operand {
         Tree::Words(name) => Ok(Tree::Members(without_member(members, name.as_str()))),
@@ -60,7 +60,7 @@ fn popped_name(members: List<Member>, operand: &Tree) -> Result<Tree, Fault>
 
 /// A list without the element at the operand, or an object without the member that it names.
 fn popped(value: Tree, operand: &Tree) -> Result<Tree, Fault>
-    ensures { Answers result (popped (view value) (view operand.now)) }
+    ensures { IsResultOf result (popped (view value) (view operand.now)) }
 {
     match value {
         Tree::Many(items) => popped_index(items, number_of(operand)),
@@ -70,7 +70,7 @@ fn popped(value: Tree, operand: &Tree) -> Result<Tree, Fault>
 }
 
 fn updated_list(alloc: Global, items: List<Tree>, operand: &Tree) -> Result<Tree, Fault>
-    ensures { Answers result (updated_list (items_view items) (view operand.now)) }
+    ensures { IsResultOf result (updated_list (items_view items) (view operand.now)) }
 {
     match operand {
         Tree::Many(more) => {
@@ -82,7 +82,7 @@ fn updated_list(alloc: Global, items: List<Tree>, operand: &Tree) -> Result<Tree
 }
 
 fn updated_object(alloc: Global, members: List<Member>, operand: &Tree) -> Result<Tree, Fault>
-    ensures { Answers result (updated_object (members_view members) (view operand.now)) }
+    ensures { IsResultOf result (updated_object (members_view members) (view operand.now)) }
 {
     match operand {
         Tree::Members(more) => {
@@ -95,7 +95,7 @@ fn updated_object(alloc: Global, members: List<Member>, operand: &Tree) -> Resul
 
 /// A list with the operand's elements that it lacks, or an object with the operand's members set.
 fn updated(alloc: Global, value: Tree, operand: &Tree) -> Result<Tree, Fault>
-    ensures { Answers result (updated (view value) (view operand.now)) }
+    ensures { IsResultOf result (updated (view value) (view operand.now)) }
 {
     match value {
         Tree::Many(items) => updated_list(alloc, items, operand),
@@ -107,7 +107,7 @@ fn updated(alloc: Global, value: Tree, operand: &Tree) -> Result<Tree, Fault>
 /// What an operation makes of a value.
 #[tactic(auto, unfolding(mw_protocol::specs::Operations::operated))]
 pub(crate) fn operated(alloc: Global, operation: &Operation, value: Tree) -> Result<Tree, Fault>
-    ensures { Answers result (operated operation.now (view value)) }
+    ensures { IsResultOf result (operated operation.now (view value)) }
 {
     let operand = &operation.value;
     match operation.name.as_str() {

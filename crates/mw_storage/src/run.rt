@@ -3,7 +3,7 @@ ghost use Rattle.mw_model.specs.Json.{Json};
 ghost use Rattle.mw_json.specs.View.{view};
 ghost use Rattle.mw_protocol.specs.Operations.{Fault as PlainFault};
 ghost use Rattle.mw_protocol.specs.Storage.{refused_at, run_from};
-ghost use Rattle.mw_storage.specs.Answers.{Answers};
+ghost use Rattle.mw_storage.specs.Results.{IsResultOf};
 ghost use Rattle.mw_storage.specs.Refusals.{GivesBy};
 
 use crate::fault::Fault;
@@ -14,7 +14,7 @@ use std::alloc::Global;
 
 /// The answer of the operation at a place.
 fn at_place(place: u64, answer: Result<Tree, Fault>) -> Result<Tree, StoreRefusal>
-    ensures { (made : Result Json PlainFault) → Answers answer made
+    ensures { (made : Result Json PlainFault) → IsResultOf answer made
         → GivesBy view result (refused_at place made) }
 {
     match answer {

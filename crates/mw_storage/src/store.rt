@@ -4,7 +4,7 @@ ghost use Rattle.mw_json.specs.Reading.{max_depth};
 ghost use Rattle.mw_json.specs.View.{view};
 ghost use Rattle.mw_protocol.specs.Storage.{put, value_of, set_case};
 ghost use Rattle.mw_storage.specs.Refusals.{GivesBy, changed_view};
-ghost use Rattle.mw_storage.specs.Stored.{HasRoom, IsKeepable};
+ghost use Rattle.mw_storage.specs.Stored.{HasStoreRoom, IsKeepable};
 
 use crate::apply::{Changed, first_value, is_private, within_limits};
 use crate::bytes::{bytes_after, keys_after};
@@ -18,7 +18,8 @@ use mw_json::{SetPacket, Tree, copy};
 use std::alloc::Global;
 use std::marker::Model;
 
-/// The data storage of a room: values under keys, in the order in which the keys came.
+/// The data storage of a room: values under keys, in the order in which the keys came. A value
+/// nests at most 64 deep, as deep as what is read.
 pub struct Store {
     alloc: Global,
     kept: IndexMap<String, Tree>,
@@ -74,14 +75,14 @@ impl Store {
 
     /// Room for this many more keys, which `put_grown` takes.
     pub fn room_for(&self, more: u64) -> Result<StoreGrowth, Memory>
-        ensures { IfOk result (λ growth. HasRoom self.now growth more) }
+        ensures { IfOk result (λ growth. HasStoreRoom self.now growth more) }
     {
         StoreGrowth::of(self.alloc, &self.kept, more)
     }
 
     /// Keeps a value under a key, in the room that was taken for it. It takes no memory.
     pub fn put_grown(&mut self, key: Text, value: Tree, growth: StoreGrowth)
-        requires room { HasRoom self.old growth 1 }
+        requires room { HasStoreRoom self.old growth 1 }
         requires writable { IsWritable (view value) }
         requires ordered { IsOrdered (view value) }
         requires shallow { depth (view value) ≤ max_depth }

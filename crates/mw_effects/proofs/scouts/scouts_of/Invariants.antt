@@ -1,7 +1,9 @@
 use Rattle.std.proofs.Common.{◌≡◌, ◌++◌, drop}
-use Rattle.mw_checks.specs.Log.{checks_of}
+use Rattle.mw_protocol.specs.Checks.{checks_at}
 use Rattle.mw_protocol.specs.Locations.{scouted_at}
 use Rattle.mw_effects.proofs.scouts.scouts_of.Given as goal
 
-abbrev pub invariant-loop-pair : goal.invariant-loop-pair
-invariant-loop-pair l = l.found ++ scouted_at l.log.seed l.member.slot (checks_of l.member.team (drop l.pair-index l.pairs)) ≡ scouted_at l.log.seed l.member.slot (checks_of l.member.team l.pairs)
+abbrev pub invariant-loop-location : goal.invariant-loop-location
+invariant-loop-location l =
+    l.found ++ scouted_at l.log.seed l.member.slot (checks_at l.member.team l.member.slot (drop l.location-index l.locations))
+    ≡ scouted_at l.log.seed l.member.slot (checks_at l.member.team l.member.slot l.locations)

@@ -2,7 +2,7 @@ use Rattle.std.proofs.Common.{◌≡◌, ◌∙◌, ℕ, List, inl, sym, ap, sub
 use Rattle.mw_disk.specs.Crash.{LeavesOnly}
 use Rattle.mw_protocol.specs.Rooms.{replayed}
 use Rattle.mw_protocol.specs.Spelled.{records_bytes}
-use Rattle.mw_room.specs.Stands.{Stands}
+use Rattle.mw_room.specs.Represents.{Represents}
 use Rattle.mw_journal.specs.Image.{StandsAt}
 use Rattle.mw_journal.specs.Journal.{StandsFor, disk_of, gate_of}
 use Rattle.mw_journal.specs.Settled.{IsSettled}
@@ -25,7 +25,7 @@ returns-in-Ok-enter_all-clause-resumes g c =
       journal = h.journal;
       place = gate_of c.in-Ok-open.journal;
       keeps = record {
-        room = subst (λ r. Stands r (replayed c.args.multidata h.journal)) (sym c.new.ensures.room) h.stands;
+        room = subst (λ r. Represents r (replayed c.args.multidata h.journal)) (sym c.new.ensures.room) h.stands;
         records = h.sound.spelled;
         holds = inl record {
           stands = subst (λ j. StandsFor g.D.Disk.may_leave digest (records_bytes h.journal) j) (sym c.new.ensures.journal)

@@ -11,7 +11,7 @@ returns-clause-value c =
     ∙ print_made (map member_view c.put.new.members) (map member_view c.in_ok-parts.parts) (map member_view c.as_slice-2.result.now)
     (map member_view c.it.inside.further) (map view c.it.inside.content) (view c.in_ok-kind.kind) c.it.inside.kind c.args.it.now
     (c.in_ok-parts.ensures.value _ (refl, refl, (refl, rw c.as_slice.ensures at c.copied_list.ensures, tt)))
-    (rw c.in_ok-put_copies.ensures at c.in_ok-put.ensures) (ap (map member_view) c.as_slice-2.ensures)
+    (rw c.in_ok-put_copies.ensures at c.in_ok-put.ensures.ok) (ap (map member_view) c.as_slice-2.ensures)
     (c.in_ok-kind.ensures ∙ ap words c.as_str.ensures) c.it.view_is
 
 pub returns-clause-writable : goal.returns-clause-writable

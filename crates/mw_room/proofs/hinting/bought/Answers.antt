@@ -2,7 +2,7 @@ use Rattle.std.proofs.Common.{arith, ◌≡◌, map, ap, ◌∙◌, sym, subst}
 use Rattle.mw_protocol.specs.Hints.{Answer}
 use Rattle.mw_protocol.specs.Speaking.{buying}
 use Rattle.mw_protocol.specs.Standing.{points}
-use Rattle.mw_hints.specs.Answers.{wanted_view}
+use Rattle.mw_hints.specs.Answering.{wanted_view}
 use Rattle.mw_records.specs.Records.{record_view, hint_view}
 use Rattle.mw_effects.specs.Parts.{standing_of}
 use Rattle.mw_effects.specs.Views.{IsEffect}

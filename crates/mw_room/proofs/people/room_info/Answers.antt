@@ -1,5 +1,5 @@
 use Rattle.std.proofs.Common.{map, subst, sym}
-use Rattle.mw_multidata.specs.Ascending.{NamesAscend}
+use Rattle.mw_model.specs.Ascending.{NamesAscend}
 use Rattle.mw_multidata.specs.SeedKept.{IsSeed, game_name}
 use Rattle.mw_packets_out.specs.Room.{GamesAscend}
 use Rattle.mw_room.proofs.Games.{played_ascend}

@@ -7,7 +7,7 @@ use Rattle.mw_protocol.specs.Checks.{is_owner}
 use Rattle.mw_multidata.specs.SeedKept.{IsId}
 use Rattle.mw_hints.proofs.Numbers.{item_id}
 use Rattle.mw_protocol.specs.Standing.{cost, points_left}
-use Rattle.mw_hints.specs.Answers.{Answers}
+use Rattle.mw_hints.specs.Answering.{IsAnswer}
 use Rattle.mw_hints.proofs.book.HintBook.buy_item.Goals as goal
 
 pub returns-in-Some : goal.returns-in-Some
@@ -26,5 +26,5 @@ returns-in-Some g c =
     c.first_open.ensures ∙ ap (λ (z : ℤ). first_where (λ h. is_owner seed h.receiver slot && int_eq h.item z && is_open (g.C.Checks.is_found c.args.log.now) hints team h) seed.locations) back in
     let named : Some c.in-Some.item ≡ item_named seed slot c.args.name.now =
     sym c.in-Some.is ∙ c.item_named.ensures ∙ ap (λ (s : Seed). item_named s slot c.args.name.now) (c.multidata.ensures.value ∙ c.tables.ensures) in
-    subst (λ (o : Option ℤ). Answers c.paid.result (item_bought seed (g.C.Checks.is_found c.args.log.now) left hints team slot o)) named
-    (subst (λ (h : Option Held). Answers c.paid.result (paid team slot (cost seed slot) left h)) found c.paid.ensures)
+    subst (λ (o : Option ℤ). IsAnswer c.paid.result (item_bought seed (g.C.Checks.is_found c.args.log.now) left hints team slot o)) named
+    (subst (λ (h : Option Held). IsAnswer c.paid.result (paid team slot (cost seed slot) left h)) found c.paid.ensures)

@@ -15,7 +15,7 @@ returns g c =
     let h : Held = c.in-Some.held.now in
     let price = cost seed slot in
     let left = points_left seed (g.C.Checks.count c.args.log.now team slot) c.args.self.now.hints team slot in
-    let points : c.left-points.result ≡ left = c.left-points.ensures ∙ ap (λ n. points_left seed n c.args.self.now.hints team slot) c.checked_len.ensures in
+    let points : c.left-points.result ≡ left = c.left-points.ensures ∙ ap (λ n. points_left seed n c.args.self.now.hints team slot) c.checked_len.ensures.count in
     let enough : price ≤ left = omega (arith, c.if-points-from.false, c.from.ensures, c.cost-cost.ensures, points) in
     let made : paid team slot price left (option_copied c.args.held) ≡ bought (bought_hint team slot h) =
     ap (λ o. paid team slot price left (option_copied o)) c.in-Some.is ∙ ap (λ (b : Bool). cond b (too_dear price left) (bought (bought_hint team slot h))) (le-ltb left price enough) in

@@ -3,7 +3,7 @@ use Rattle.std.specs.List.Sorted.{IsNonDecreasingBy}
 use Rattle.std.proofs.lemmas.List.{take_rest}
 use Rattle.std.proofs.lemmas.List.Sorted.{IsNonDecreasingBy-drop, IsPartitionedBy-leb, IsPartitionedBy-ltb, IsPartitionPoint-from_clause}
 use Rattle.mw_model.specs.Seed.{Seed, Held}
-use Rattle.mw_multidata.specs.Ascending.{Ascend}
+use Rattle.mw_model.specs.Ascending.{Ascend}
 use Rattle.mw_multidata.specs.OfSlot.{held_of}
 use Rattle.mw_multidata.specs.SeedKept.{held_cmp}
 use Rattle.mw_multidata.proofs.Runs.{slots_rise, run_is}

@@ -3,7 +3,7 @@ use Rattle.std.proofs.lemmas.List.{take_all}
 use Rattle.mw_protocol.specs.Rooms.{replayed}
 use Rattle.mw_records.specs.Records.{record_view}
 use Rattle.mw_records.specs.declared.record.Record.{Record}
-use Rattle.mw_room.specs.Stands.{Stands}
+use Rattle.mw_room.specs.Represents.{Represents}
 use Rattle.mw_room.proofs.Replayed.{named_next, stands_next}
 use Rattle.mw_room.proofs.room.Room.replay.Goals as goal
 
@@ -30,4 +30,4 @@ pub returns : goal.returns
 returns c =
     let rs : List Record = c.args.records.now in
     let past : length rs ≤ c.loop-entry.entry-index = subst (λ (xs : List Record). length xs ≤ c.loop-entry.entry-index) c.as_slice-entry-items.ensures c.loop-entry-test.false in
-    subst (λ (xs : List Record). Stands c.loop-entry.room (replayed c.args.tables (map record_view xs))) (take_all c.loop-entry.entry-index rs past) c.loop-entry.invariant.stands
+    subst (λ (xs : List Record). Represents c.loop-entry.room (replayed c.args.tables (map record_view xs))) (take_all c.loop-entry.entry-index rs past) c.loop-entry.invariant.stands
