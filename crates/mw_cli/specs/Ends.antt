@@ -1,7 +1,6 @@
 -- How a run ends.
 use Rattle.std.specs.Prelude.{◌≡◌, ◌⊎◌, ℕ, List, Option, codes}
 use Rattle.mw_causes.specs.Ends.{Told, IsTold}
-use Rattle.mw_words.specs.Commands.{drive_files, wanted_in, asked_in, room_in}
 use Rattle.mw_offline.specs.Driving.{DriveEnds}
 use Rattle.mw_offline.specs.Reaching.{ReachEnds}
 use Rattle.mw_offline.specs.Generating.{Wrote, GenerateEnds}
@@ -37,14 +36,14 @@ around wrote files left input after out told = record {
 
 -- what a command line asks for ended with this status
 abbrev pub LineEnds : {S : Type 0} → CommandLine → ℕ → Around S → Type 0
-LineEnds (Generate w) status a = GenerateEnds status a.wrote (wanted_in w) a.out a.told
+LineEnds (Generate w) status a = GenerateEnds status a.wrote w a.out a.told
 LineEnds (Check w) status a =
-    CheckEnds status a.wrote.before a.wrote.may_fail (asked_in w) a.out a.told
+    CheckEnds status a.wrote.before a.wrote.may_fail w a.out a.told
 LineEnds (Reach w) status a =
     ReachEnds status a.wrote.before a.wrote.may_fail w.players a.out a.told
-LineEnds (NewRoom w) status a = NewRoomEnds status a.files (room_in w) a.out a.told
+LineEnds (NewRoom w) status a = NewRoomEnds status a.files w a.out a.told
 LineEnds (Drive w) status a =
-    DriveEnds a.left status a.files (drive_files w) a.input a.input_after a.out a.told
+    DriveEnds a.left status a.files w a.input a.input_after a.out a.told
 
 -- the line for words that are no command
 abbrev pub bad_words : List ℕ

@@ -2,7 +2,8 @@
 use crate::harness::{Run, case_tells, cases_tell};
 use crate::session_harness::marks;
 use crate::team_tests::ROOM as ROOM_OF_TEAMS;
-use crate::tests::{FOLDER_A, ROOM_A};
+use crate::tests::FOLDER_A;
+use mw_cases::ROOM_A;
 use std::test::Fail;
 
 #[test]

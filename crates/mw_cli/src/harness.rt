@@ -3,6 +3,7 @@
 use crate::run::run;
 use crate::session_harness::script_of;
 use mw_base::{Bytes, List, Text};
+use mw_cases::ROOM_A_INFO;
 use mw_edges::{
     Faults, FileRead, Folder, FolderError, MemoryFolder, MemorySink, MemorySource, Sink,
 };
@@ -212,9 +213,11 @@ fn other_line<'a>(found: &'a str, wanted: &str) -> Option<&'a str> {
     Some("another number of lines")
 }
 
-/// Fails, with that line and the case, where these texts differ.
+/// Fails, with that line and the case, where these texts differ. In the wanted one `$info` stands
+/// for what Room A tells of itself.
 pub(crate) fn agree(alloc: Global, found: &str, wanted: &str, case: &str) -> Result<(), Fail> {
-    match other_line(found, wanted) {
+    let wanted = wanted.replace(alloc, "$info", ROOM_A_INFO)?;
+    match other_line(found, wanted.as_str()) {
         Some(line) => Err(Fail::new(format!(in alloc; "{line} | {case}")?)),
         None => Ok(()),
     }

@@ -2,8 +2,9 @@
 use crate::harness::{Run, add_file, case_tells, faults, fits, holds, runs_tell, told};
 use crate::new_room_tests::EMPTY;
 use crate::session_harness::room_with;
-use crate::tests::{FOLDER_A, ROOM_A};
+use crate::tests::FOLDER_A;
 use mw_base::{List, Text};
+use mw_cases::ROOM_A;
 use mw_disk::DiskError;
 use mw_edges::MemoryFolder;
 use std::alloc::Global;

@@ -1,5 +1,6 @@
 use crate::harness::{File, Run, cases_tell, folder_of, holds, runs_tell};
-use crate::tests::{FOLDER_A, ROOM_A};
+use crate::tests::FOLDER_A;
+use mw_cases::ROOM_A;
 use mw_edges::MemoryFolder;
 use std::alloc::Global;
 use std::test::Fail;

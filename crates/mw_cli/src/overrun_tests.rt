@@ -1,6 +1,7 @@
 use crate::harness::{Run, case_tells};
 use crate::session_harness::room_with;
-use crate::tests::{FIRST_RUN, ROOM_A};
+use crate::tests::FIRST_RUN;
+use mw_cases::ROOM_A;
 use std::alloc::Global;
 use std::test::Fail;
 

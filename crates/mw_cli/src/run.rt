@@ -1,7 +1,10 @@
 ghost use Rattle.std.specs.Prelude.{◌≡◌, ◌⊎◌, ℕ, List};
 ghost use Rattle.mw_edges.specs.Causes.{Rose};
 ghost use Rattle.mw_causes.specs.Ends.{told_by};
-ghost use Rattle.mw_words.specs.Commands.{DriveFiles, Wanted, Asked, RoomFiles};
+ghost use Rattle.mw_words.specs.declared.command_line.DriveWords.{DriveWords};
+ghost use Rattle.mw_words.specs.declared.command_line.GenerateWords.{GenerateWords};
+ghost use Rattle.mw_words.specs.declared.command_line.CheckWords.{CheckWords};
+ghost use Rattle.mw_words.specs.declared.command_line.NewRoomWords.{NewRoomWords};
 ghost use Rattle.mw_offline.specs.Driving.{DriveEnds};
 ghost use Rattle.mw_offline.specs.Reaching.{ReachEnds};
 ghost use Rattle.mw_offline.specs.Generating.{wrote_by, GenerateEnds};
@@ -9,7 +12,7 @@ ghost use Rattle.mw_offline.specs.Checking.{CheckEnds};
 ghost use Rattle.mw_offline.specs.FilesAround.{files_around};
 ghost use Rattle.mw_offline.specs.NewRooms.{NewRoomEnds};
 ghost use Rattle.mw_words.specs.Words.{IsGenerate, IsCheck, IsReach, IsNewRoom, IsDrive};
-ghost use Rattle.mw_words.specs.Lines.{IsNoCommand, HasTries, generate_line, new_room_line, drive_line};
+ghost use Rattle.mw_words.specs.Lines.{IsNoCommand, HasTries};
 ghost use Rattle.mw_cli.specs.Ends.{around, LineEnds, RefusalEnds};
 
 use mw_base::Text;
@@ -34,14 +37,14 @@ fn run_line<F: Folder, S: Source, O: Sink, E: Sink>(
         (files_around F.holds F.images F.is_open F.may_fail F.faults folder.old folder.new)
         S.left input.old input.new (told_by O.held O.faults out.old out.new)
         (told_by E.held E.refusals err.old err.new)) }
-    ensures input { ((files : DriveFiles) → line.now ≡ drive_line files → ⊥) → input.new
+    ensures input { ((files : DriveWords) → line.now ≡ CommandLine.Drive files → ⊥) → input.new
         ≡ input.old }
     ensures fault { result ≡ 5 → Rose (F.faults folder.old) (F.faults folder.new)
         ⊎ (Rose (S.faults input.old) (S.faults input.new)
         ⊎ Rose (O.faults out.old) (O.faults out.new)) }
-    ensures same { ((wanted : Wanted) → line.now ≡ generate_line wanted → ⊥)
-        → ((room : RoomFiles) → line.now ≡ new_room_line room → ⊥)
-        → ((files : DriveFiles) → line.now ≡ drive_line files → ⊥) → (name : List ℕ)
+    ensures same { ((wanted : GenerateWords) → line.now ≡ CommandLine.Generate wanted → ⊥)
+        → ((room : NewRoomWords) → line.now ≡ CommandLine.NewRoom room → ⊥)
+        → ((files : DriveWords) → line.now ≡ CommandLine.Drive files → ⊥) → (name : List ℕ)
         → F.holds folder.new name ≡ F.holds folder.old name }
 {
     match line {
@@ -83,20 +86,20 @@ pub fn run<F: Folder, S: Source, O: Sink, E: Sink>(
     out: &mut O,
     err: &mut E,
 ) -> u8
-    ensures generate { (wanted : Wanted) → IsGenerate words.now wanted
+    ensures generate { (wanted : GenerateWords) → IsGenerate words.now wanted
         → GenerateEnds result (wrote_by F.holds F.may_fail F.refusals folder.old folder.new) wanted
         (told_by O.held O.faults out.old out.new) (told_by E.held E.refusals err.old err.new) }
-    ensures check { (asked : Asked) → IsCheck words.now asked
+    ensures check { (asked : CheckWords) → IsCheck words.now asked
         → CheckEnds result (F.holds folder.old) (F.may_fail folder.old) asked
         (told_by O.held O.faults out.old out.new) (told_by E.held E.refusals err.old err.new) }
     ensures reach { (players : List ℕ) → IsReach words.now players
         → ReachEnds result (F.holds folder.old) (F.may_fail folder.old) players
         (told_by O.held O.faults out.old out.new) (told_by E.held E.refusals err.old err.new) }
-    ensures new_room { (room : RoomFiles) → IsNewRoom words.now room
+    ensures new_room { (room : NewRoomWords) → IsNewRoom words.now room
         → NewRoomEnds result
         (files_around F.holds F.images F.is_open F.may_fail F.faults folder.old folder.new) room
         (told_by O.held O.faults out.old out.new) (told_by E.held E.refusals err.old err.new) }
-    ensures drive { (files : DriveFiles) → IsDrive words.now files
+    ensures drive { (files : DriveWords) → IsDrive words.now files
         → DriveEnds S.left result
         (files_around F.holds F.images F.is_open F.may_fail F.faults folder.old folder.new) files
         input.old input.new (told_by O.held O.faults out.old out.new)
@@ -106,14 +109,14 @@ pub fn run<F: Folder, S: Source, O: Sink, E: Sink>(
     ensures other { IsNoCommand words.now → (out.new ≡ out.old) × (folder.new ≡ folder.old)
         × RefusalEnds result (told_by E.held E.refusals err.old err.new) }
 
-    ensures input { ((files : DriveFiles) → IsDrive words.now files → ⊥)
+    ensures input { ((files : DriveWords) → IsDrive words.now files → ⊥)
         → input.new ≡ input.old }
     ensures fault { result ≡ 5 → Rose (F.faults folder.old) (F.faults folder.new)
         ⊎ (Rose (S.faults input.old) (S.faults input.new)
         ⊎ Rose (O.faults out.old) (O.faults out.new)) }
-    ensures same { ((wanted : Wanted) → IsGenerate words.now wanted → ⊥)
-        → ((room : RoomFiles) → IsNewRoom words.now room → ⊥)
-        → ((files : DriveFiles) → IsDrive words.now files → ⊥) → (name : List ℕ)
+    ensures same { ((wanted : GenerateWords) → IsGenerate words.now wanted → ⊥)
+        → ((room : NewRoomWords) → IsNewRoom words.now room → ⊥)
+        → ((files : DriveWords) → IsDrive words.now files → ⊥) → (name : List ℕ)
         → F.holds folder.new name ≡ F.holds folder.old name }
 {
     match read_words(alloc, words) {

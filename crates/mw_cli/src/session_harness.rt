@@ -1,6 +1,6 @@
 //! Scripts of sessions: their lines in short, and what is printed after a mark.
 use crate::harness::{after_mark, agree, filled, folder_of, told};
-use crate::tests::ROOM_A;
+use mw_cases::ROOM_A;
 use std::alloc::Global;
 use std::test::Fail;
 

@@ -1,5 +1,5 @@
 use crate::session_harness::marks;
-use crate::tests::ROOM_A;
+use mw_cases::ROOM_A;
 use std::alloc::Global;
 use std::test::Fail;
 

@@ -2,16 +2,12 @@ ghost use Rattle.std.specs.Prelude.{None};
 
 use crate::harness::{File, Run, agree, case_tells, cases_tell, ended, folder_of, told_of};
 use crate::session_harness::marks;
+use mw_cases::ROOM_A;
 use mw_edges::{Sink, SinkError, Tally};
 use std::alloc::Global;
 use std::test::Fail;
 
-/// A room of one team: Ann starts with Boots, and finds Bob's Sword and her own Coin; Bob finds
-/// Ann's Map.
-pub(crate) const ROOM_A: &str =
-    r#"{"format":"mw-multidata-1","games":{"G":{"item_name_to_id":{"Boots":5,"Coin":8,"Map":9,"Sword":7},"location_name_to_id":{"A1":101,"A2":102,"B1":201}}},"locations":[[1,101,7,2,1],[1,102,8,1,0],[2,201,9,1,2]],"seed_name":"A","server":{"collect":"goal","hint_cost":10,"location_check_points":1,"password":"","release":"goal","remaining":"goal"},"slots":[{"game":"G","names":["Ann"],"start":[[5,0]]},{"game":"G","names":["Bob"],"start":[]}],"spheres":[],"teams":1}"#;
-
-/// The folder that has it as `A`.
+/// The folder that has Room A as `A`.
 pub(crate) const FOLDER_A: [File<'static>; 1] = [("A", ROOM_A)];
 
 /// Ann connects, and then comes a case's first part. Its second part is what her session is owed
@@ -19,7 +15,7 @@ pub(crate) const FOLDER_A: [File<'static>; 1] = [("A", ROOM_A)];
 pub(crate) const FIRST_RUN: [Run<'static>; 1] = [(
     "drive A",
     "open\nconnect 1 Ann 7\n$0take 1\n",
-    r#"0 1 [{"cmd":"RoomInfo","datapackage_checksums":{"G":"3140df20051ca1c7a5dd4f886f8945c613c6fbba"},"games":["G"],"generator_version":{"build":0,"class":"Version","major":0,"minor":5},"hint_cost":10,"location_check_points":1,"password":false,"permissions":{"collect":2,"release":2,"remaining":2},"seed_name":"A","tags":[],"time":0,"version":{"build":0,"class":"Version","major":0,"minor":5}}]
+    r#"0 1 $info
 1 [{"checked_locations":[],"cmd":"Connected","hint_points":0,"missing_locations":[101,102],"players":[{"alias":"Ann","class":"NetworkPlayer","name":"Ann","slot":1,"team":0},{"alias":"Bob","class":"NetworkPlayer","name":"Bob","slot":2,"team":0}],"slot":1,"slot_data":{},"slot_info":{"1":{"class":"NetworkSlot","game":"G","group_members":[],"name":"Ann","type":1},"2":{"class":"NetworkSlot","game":"G","group_members":[],"name":"Bob","type":1}},"team":0},{"cmd":"ReceivedItems","index":0,"items":[{"class":"NetworkItem","flags":0,"item":5,"location":-2,"player":0}]}]
 $1"#,
 )];

@@ -1,23 +1,21 @@
 -- What `check` finds.
-use Rattle.std.proofs.Common.{◌≡◌, ◌++◌, length, ℕ, List, Option, Result, Ok, Bool, inl, inr, subst}
+use Rattle.std.proofs.Common.{◌≡◌, ℕ, List, Option, Result, Ok, Bool, inl, inr, subst}
 use Rattle.std.specs.Prelude.{IfErr, IsErrAnd, IsTrue}
 use Rattle.mw_model.specs.Seed.{Seed, Spot}
 use Rattle.mw_multi.specs.World.{World}
 use Rattle.mw_multi.specs.Players.{Players}
 use Rattle.mw_multi.specs.Joint.{Joint}
 use Rattle.mw_multi.specs.JointOf.{joint_of}
-use Rattle.mw_multi.specs.Placement.{Put, what_stands}
-use Rattle.mw_spheres.specs.Playthrough.{IsPlaythrough}
-use Rattle.mw_seeds.specs.Played.{played_lines}
+use Rattle.mw_multi.specs.Placement.{Put}
 use Rattle.mw_seeds.specs.Judging.{IsRight, IsNotRight}
 use Rattle.mw_seeds.specs.declared.refusal.SeedRefusal.{SeedRefusal}
 use Rattle.mw_seeds.specs.declared.refusal.SeedRefusal.TheVariants as found
 use Rattle.mw_causes.specs.Ends.{stop_with}
 use Rattle.mw_causes.specs.Tables.{Files, TablesOf, JointIn, AreUnjoined, HasTableCause}
 use Rattle.mw_causes.specs.SeedFiles.{SeedIn, IsSeedStopped}
-use Rattle.mw_words.specs.Commands.{Asked}
+use Rattle.mw_words.specs.declared.command_line.CheckWords.{CheckWords}
 use Rattle.mw_causes.specs.CheckCauses.{wrong_stop}
-use Rattle.mw_offline.specs.Checking.{right_line, IsWrongFor, IsTextFor, CheckedText, IsUntextFor, HasCheckCause}
+use Rattle.mw_offline.specs.Checking.{HasPlaythrough, IsWrongFor, IsTextFor, CheckedText, IsUntextFor, HasCheckCause}
 use Rattle.mw_causes.specs.declared.stop.Stop.{Stop}
 use Rattle.mw_causes.specs.declared.stop.Stop.TheVariants.{Fault, Memory, Refused}
 use Rattle.mw_causes.specs.declared.table_cause.TableCause.{TableCause}
@@ -70,18 +68,14 @@ module _ (joined : Joint → Type 0) (unjoined : Stop TableCause → Type 0) (fi
       wrong_for answer refusal h is = passed_exit (IsUntextFor joined unjoined file may_fail) answer (wrong_stop refusal) (wrong_by refusal h) is
 
       -- it is
-      pub text_for : (puts : List Put) (spheres : List (List Spot)) (text : List ℕ) → spheres ≡ seed.spheres → IsRight joint seed puts
-          → (played : List (List Spot)) × IsPlaythrough joint puts spheres played × (text ≡ right_line (length spheres) ++ played_lines joint.slots (what_stands puts) 1 played) → IsTextFor joined file text
-      text_for puts spheres text same right made =
-          let now =
-          subst (λ ss. (ps : List (List Spot)) × IsPlaythrough joint puts ss ps × (text ≡ right_line (length ss) ++ played_lines joint.slots (what_stands puts) 1 ps)) same made in
-          record {
-            joint = joint;
-            is_joined = is_joined;
-            seed = seed;
-            seed_in = seed_in;
-            right = record { puts = puts; right = right; played = now.0; is_playthrough = now.1; printed = now.2 };
-          }
+      pub text_for : (puts : List Put) (spheres : List (List Spot)) (text : List ℕ) → spheres ≡ seed.spheres → IsRight joint seed puts → HasPlaythrough joint puts spheres text → IsTextFor joined file text
+      text_for puts spheres text same right played = record {
+        joint = joint;
+        is_joined = is_joined;
+        seed = seed;
+        seed_in = seed_in;
+        right = record { puts = puts; right = right; played = subst (λ ss. HasPlaythrough joint puts ss text) same played };
+      }
 
 -- ---- of the files that were read
 
@@ -91,11 +85,11 @@ refused_before file may_later may_fail (File kind path) h = h
 refused_before file may_later may_fail TooLong h = h
 
 -- tables that aren't read
-pub table_cause : {T : Type 0} (files : Files) (may_fail : Bool) (asked : Asked) (answer : Result T (Stop CheckCause)) (stop : Stop TableCause) → HasTableCause files may_fail asked.players stop → IsErrAnd answer (λ e. e ≡ stop_with Tables stop)
+pub table_cause : {T : Type 0} (files : Files) (may_fail : Bool) (asked : CheckWords) (answer : Result T (Stop CheckCause)) (stop : Stop TableCause) → HasTableCause files may_fail asked.players stop → IsErrAnd answer (λ e. e ≡ stop_with Tables stop)
     → IfErr answer (HasCheckCause files may_fail asked)
 table_cause files may_fail asked answer stop h is = unjoined_for (JointIn files asked.players) (HasTableCause files may_fail asked.players) (files asked.multidata) may_fail answer stop h is
 
-module _ (files : Files) (asked : Asked) (players : Players) (worlds : List World) (t : TablesOf files asked.players players worlds) where
+module _ (files : Files) (asked : CheckWords) (players : Players) (worlds : List World) (t : TablesOf files asked.players players worlds) where
   pub checked_text : (file : Option (Option (List ℕ))) → file ≡ files asked.multidata → (text : List ℕ) → IsTextFor (λ joint. joint_of worlds players ≡ Ok joint) file text → CheckedText files asked text
   checked_text file same text h = record {
     joint = h.joint;

@@ -26,7 +26,7 @@ use Rattle.mw_drive.specs.declared.error.DriveError.{DriveError}
 use Rattle.mw_drive.specs.declared.error.DriveError.TheVariants.{Fault, Memory, Full, Journal, Script}
 use Rattle.mw_drive.specs.declared.error.JournalRefusal.{JournalRefusal}
 use Rattle.mw_drive.proofs.Crashing.{left_by_shut, one_journal, one_place, settled_of}
-use Rattle.mw_words.specs.Commands.{DriveFiles}
+use Rattle.mw_words.specs.declared.command_line.DriveWords.{DriveWords}
 use Rattle.mw_causes.specs.DriveCauses.{drive_line, drive_status, drive_stop}
 use Rattle.mw_offline.specs.Driving.{DriveEnds, DriveKeeps, DriveStopped, IsNewJournal, JournalKeeps, JournalLeaves, JournalRead, NoImages, ScriptRun, run_of, RunsToEnd, RunsShort}
 use Rattle.mw_causes.specs.SeedFiles.{IsFile, IsSeedStopped}
@@ -240,7 +240,7 @@ module _ (files : FilesAround) (unmoved : AreUnmoved files) where
   unmoved_keeps (Some name) digest seed held = λ steps some left.
       unmoved_kept (files.might_leave name) (files.may_leave name) (λ c. ((unmoved.each name).crash c).0) digest seed steps held left
 
-  pub unmoved_all : (named : DriveFiles) (held : Option (List ℕ)) → DriveKeeps files named held held
+  pub unmoved_all : (named : DriveWords) (held : Option (List ℕ)) → DriveKeeps files named held held
   unmoved_all named held bytes seed told is = unmoved_keeps named.journal _ seed held
 
 module _ {F : Type 0} (holds : F → Files) (images : F → List ℕ → List ℕ → Type 0) (opened : F → List ℕ → Bool) (may_fail : F → Bool) (faults : F → ℕ) where
@@ -248,7 +248,7 @@ module _ {F : Type 0} (holds : F → Files) (images : F → List ℕ → List �
   same_folder folder = record { each = λ n. record { told = refl; crash = λ c. (λ x. x, λ x. x) }; opened = λ n. refl }
 
   -- memory ran out before a folder, an input or an out sink was touched
-  pub unstarted : {S : Type 0} (source : S → Option (List ℕ)) (folder : F) (named : DriveFiles) (input : S) (held : Option (List ℕ)) (count : ℕ) (told : Told) (status : ℕ)
+  pub unstarted : {S : Type 0} (source : S → Option (List ℕ)) (folder : F) (named : DriveWords) (input : S) (held : Option (List ℕ)) (count : ℕ) (told : Told) (status : ℕ)
       → status ≡ 6 → IsTold told (codes "no memory\n")
       → DriveEnds source status (files_around holds images opened may_fail faults folder folder) named input input (record { old = held; new = held; before = count; now = count }) told
   unstarted source folder named input held count told status is_status line = record {
@@ -317,7 +317,7 @@ told_bytes None bytes read told is = cc
 told_bytes (Some None) bytes read told is = absurd is
 told_bytes (Some (Some held)) bytes read told is = let same : Some (Some held) ≡ Some (Some bytes) = told in is.0 ∙ cc
 
-pub read_keeps : (files : FilesAround) (named : DriveFiles) (read : List ℕ) (seed : Seed) (old new : Option (List ℕ)) → IsFile (files.before named.multidata) read → SeedOf read (Ok seed)
+pub read_keeps : (files : FilesAround) (named : DriveWords) (read : List ℕ) (seed : Seed) (old new : Option (List ℕ)) → IsFile (files.before named.multidata) read → SeedOf read (Ok seed)
     → JournalKeeps files named.journal (digest_of read) seed old new → DriveKeeps files named old new
 read_keeps files named read seed old new is_file is keeps bytes other told other_is =
     let same : read ≡ bytes = told_bytes (files.before named.multidata) bytes read told is_file in
@@ -400,7 +400,7 @@ pub rose_since : {X : Type 0} (first second last : ℕ) → first ≤ second →
 rose_since first second last later (inl rose) = inl (omega (arith, later, rose))
 rose_since first second last later (inr x) = inr x
 
-module _ {S : Type 0} (source : S → Option (List ℕ)) (files : FilesAround) (named : DriveFiles) where
+module _ {S : Type 0} (source : S → Option (List ℕ)) (files : FilesAround) (named : DriveWords) where
   pub seed_exit : {T : Type 0} (input : S) (held : Option (List ℕ)) (answer : Result T (Stop DriveCause)) (why : Stop SeedCause) → IsSeedStopped (files.before named.multidata) files.may_fail why
       → AreUnmoved files → IsErrAnd answer (λ e. e ≡ stop_with SeedFile why) → IfErr answer (DriveStopped source files named input input held held)
   seed_exit input held answer why cause unmoved is =

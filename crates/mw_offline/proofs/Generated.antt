@@ -22,7 +22,7 @@ use Rattle.mw_spheres.specs.Spots.{placement_table}
 use Rattle.mw_spheres.proofs.Reaching.{with_events_kept}
 use Rattle.mw_causes.specs.Ends.{stop_with}
 use Rattle.mw_causes.specs.Tables.{Files, TablesOf, JointIn, AreUnjoined, HasTableCause}
-use Rattle.mw_words.specs.Commands.{Wanted}
+use Rattle.mw_words.specs.declared.command_line.GenerateWords.{GenerateWords}
 use Rattle.mw_causes.specs.GenerateCauses.{generate_stop}
 use Rattle.mw_offline.specs.Generating.{IsMade, Generates, IsTextFor, GeneratedText, IsRefusedFor, IsUntextFor, HasGenerateCause}
 use Rattle.mw_causes.specs.declared.stop.Stop.{Stop}
@@ -81,7 +81,7 @@ refused_late tries (refused.TooManyItems have room) e = cc
 refused_late tries refused.Exhausted e = cc
 refused_late tries refused.Memory e = cc
 
-module _ (joined : Joint → Type 0) (unjoined : Stop TableCause → Type 0) (wanted : Wanted) where
+module _ (joined : Joint → Type 0) (unjoined : Stop TableCause → Type 0) (wanted : GenerateWords) where
   -- there is no such joint
   unjoined_by : (stop : Stop TableCause) → unjoined stop → IsUntextFor joined unjoined wanted (stop_with Tables stop)
   unjoined_by Fault h = h
@@ -107,11 +107,11 @@ module _ (joined : Joint → Type 0) (unjoined : Stop TableCause → Type 0) (wa
     text_for bytes text made = record { joint = joint; is_joined = is_joined; made = made }
 
 -- tables that aren't read
-pub table_cause : {T : Type 0} (files : Files) (may_fail : Bool) (wanted : Wanted) (answer : Result T (Stop GenerateCause)) (stop : Stop TableCause) → HasTableCause files may_fail wanted.players stop → IsErrAnd answer (λ e. e ≡ stop_with Tables stop)
+pub table_cause : {T : Type 0} (files : Files) (may_fail : Bool) (wanted : GenerateWords) (answer : Result T (Stop GenerateCause)) (stop : Stop TableCause) → HasTableCause files may_fail wanted.players stop → IsErrAnd answer (λ e. e ≡ stop_with Tables stop)
     → IfErr answer (HasGenerateCause files may_fail wanted)
 table_cause files may_fail wanted answer stop h is = unjoined_for (JointIn files wanted.players) (HasTableCause files may_fail wanted.players) wanted answer stop h is
 
-module _ (files : Files) (wanted : Wanted) (players : Players) (worlds : List World) (t : TablesOf files wanted.players players worlds) where
+module _ (files : Files) (wanted : GenerateWords) (players : Players) (worlds : List World) (t : TablesOf files wanted.players players worlds) where
   abbrev joined_so : Joint → Type 0
   joined_so joint = joint_of worlds players ≡ Ok joint
 

@@ -10,7 +10,7 @@ use Rattle.mw_model.specs.Seed.{Seed}
 use Rattle.mw_journal.specs.Settled.{AllShut}
 use Rattle.mw_causes.specs.Ends.{HasLeft}
 use Rattle.mw_offline.specs.FilesAround.{files_around, IsOnlyRead}
-use Rattle.mw_words.specs.Commands.{RoomFiles}
+use Rattle.mw_words.specs.declared.command_line.NewRoomWords.{NewRoomWords}
 use Rattle.mw_offline.specs.NewRooms.{IsEmpty, HasByte, ShowsByte, HasJournalCause, HasRoomCause, HasSeed, IsRoom, NoRoom, MakesSome, MakesRoom, room_text}
 use Rattle.mw_causes.specs.SeedFiles.{DigestedIn}
 use Rattle.mw_causes.specs.Tables.{Files}
@@ -31,7 +31,7 @@ module _ {F : Type 0} (holds : F → Files) (images : F → List ℕ → List �
         → IsOnlyRead (files_around holds images opened may_fail faults first last) name
     bytes_read read shows = only_read (read (subst ShowsByte (sym (same name)) shows))
 
-  module _ (room : RoomFiles) (digest : List ℕ) (seed : (s : Seed) × DigestedIn (holds first room.multidata) s digest) where
+  module _ (room : NewRoomWords) (digest : List ℕ) (seed : (s : Seed) × DigestedIn (holds first room.multidata) s digest) where
     accepted : HasSeed (files_around holds images opened may_fail faults first last) room
     accepted = (seed.0, record { bytes = seed.1.bytes; is_file = seed.1.is_file; is = seed.1.is })
 

@@ -6,7 +6,7 @@ use Rattle.mw_edges.specs.Folders.{MayBeUnread}
 use Rattle.mw_model.specs.Seed.{Seed, Spot}
 use Rattle.mw_multi.specs.Joint.{Joint}
 use Rattle.mw_multi.specs.Placement.{Put, what_stands}
-use Rattle.mw_spheres.specs.Playthrough.{IsPlaythrough}
+use Rattle.mw_spheres.specs.Playthrough.{IsPlaythrough, NoneToSpare}
 use Rattle.mw_seeds.specs.Played.{played_lines}
 use Rattle.mw_seeds.specs.Judging.{IsRight, IsNotRight}
 use Rattle.mw_seeds.specs.declared.refusal.SeedRefusal.{SeedRefusal}
@@ -20,21 +20,27 @@ use Rattle.mw_causes.specs.declared.stop.Stop.TheVariants.{Fault, Memory, Refuse
 use Rattle.mw_causes.specs.declared.table_cause.TableCause.{TableCause}
 use Rattle.mw_causes.specs.declared.check_cause.CheckCause.{CheckCause}
 use Rattle.mw_causes.specs.declared.check_cause.CheckCause.TheVariants.{Tables, SeedFile, OtherTables, GoalMissed, Wrong, Missing}
-use Rattle.mw_words.specs.Commands.{Asked}
+use Rattle.mw_words.specs.declared.command_line.CheckWords.{CheckWords}
 
 -- ---- the text
 
 abbrev pub right_line : ℕ → List ℕ
 right_line spheres = codes "ok spheres " ++ decimal spheres ++ codes "\n"
 
+-- the text has the playthrough of a placement with these spheres, of which no entry can be left out
+pub record HasPlaythrough (joint : Joint) (puts : List Put) (spheres : List (List Spot))
+    (text : List ℕ) : Type 0 where
+  pub played : List (List Spot)
+  pub is_playthrough : IsPlaythrough joint puts spheres played
+  pub needed : NoneToSpare joint puts played
+  pub printed : text ≡ right_line (length spheres)
+      ++ played_lines joint.slots (what_stands puts) 1 played
+
 -- the seed file is right for the joint, and the text has the playthrough of its placement
 pub record IsRightText (joint : Joint) (seed : Seed) (text : List ℕ) : Type 0 where
   pub puts : List Put
   pub right : IsRight joint seed puts
-  pub played : List (List Spot)
-  pub is_playthrough : IsPlaythrough joint puts seed.spheres played
-  pub printed : text ≡ right_line (length seed.spheres)
-      ++ played_lines joint.slots (what_stands puts) 1 played
+  pub played : HasPlaythrough joint puts seed.spheres text
 
 -- the same of a joint that is so, and of the seed that a file stands for
 pub record IsTextFor (joined : Joint → Type 0) (file : Option (Option (List ℕ))) (text : List ℕ)
@@ -46,7 +52,7 @@ pub record IsTextFor (joined : Joint → Type 0) (file : Option (Option (List �
   pub right : IsRightText joint seed text
 
 -- the same of the tables that a players file names, and a seed file
-abbrev pub CheckedText : Files → Asked → List ℕ → Type 0
+abbrev pub CheckedText : Files → CheckWords → List ℕ → Type 0
 CheckedText files asked text = IsTextFor (JointIn files asked.players) (files asked.multidata) text
 
 -- ---- why there is none
@@ -85,7 +91,7 @@ IsUntextFor joined unjoined file may_fail (Refused (Missing sphere place)) =
     IsWrongFor joined file (found.Missing sphere place)
 
 -- the same of the tables that a players file names, and a seed file
-abbrev pub HasCheckCause : Files → Bool → Asked → Stop CheckCause → Type 0
+abbrev pub HasCheckCause : Files → Bool → CheckWords → Stop CheckCause → Type 0
 HasCheckCause files may_fail asked stop =
     IsUntextFor (JointIn files asked.players) (HasTableCause files may_fail asked.players)
     (files asked.multidata) may_fail stop
@@ -93,18 +99,19 @@ HasCheckCause files may_fail asked stop =
 -- ---- ends
 
 -- just its text was put
-pub record PrintsChecked (files : Files) (asked : Asked) (old new : Option (List ℕ)) : Type 0 where
+pub record PrintsChecked (files : Files) (asked : CheckWords)
+    (old new : Option (List ℕ)) : Type 0 where
   pub text : List ℕ
   pub checked : CheckedText files asked text
   pub put : Appends old new text
 
 -- a front of its text was put
-abbrev pub PutsFrontOfChecked : Files → Asked → Option (List ℕ) → Option (List ℕ) → Type 0
+abbrev pub PutsFrontOfChecked : Files → CheckWords → Option (List ℕ) → Option (List ℕ) → Type 0
 PutsFrontOfChecked files asked old new =
     (text : List ℕ) × CheckedText files asked text × PutsFront old new text
 
 -- how `check` ended with a status, with what the out sink held and how often it failed
-abbrev pub CheckEnds : ℕ → Files → Bool → Asked → Told → Told → Type 0
+abbrev pub CheckEnds : ℕ → Files → Bool → CheckWords → Told → Told → Type 0
 CheckEnds status files may_fail asked out told =
     Ends check_status check_line (HasCheckCause files may_fail asked) (Keeps out.old out.new)
     (PutsFrontOfChecked files asked out.old out.new) (Rose out.before out.now)

@@ -18,7 +18,7 @@ use Rattle.mw_offline.specs.FilesAround.{FilesAround, IsUntouched}
 use Rattle.mw_causes.specs.SeedFiles.{IsFile, IsSeedStopped}
 use Rattle.mw_causes.specs.declared.seed_cause.SeedCause.{SeedCause}
 use Rattle.mw_causes.specs.declared.stop.Stop.{Stop}
-use Rattle.mw_words.specs.Commands.{DriveFiles}
+use Rattle.mw_words.specs.declared.command_line.DriveWords.{DriveWords}
 use Rattle.mw_causes.specs.declared.drive_cause.DriveCause.{DriveCause}
 use Rattle.mw_causes.specs.declared.drive_cause.DriveCause.TheVariants.{SeedFile}
 
@@ -139,14 +139,14 @@ pub record SeedWas (files : FilesAround) (name bytes : List ℕ) (seed : Seed) :
 
 -- all was done
 pub record DriveDone {S : Type 0} (source : S → Option (List ℕ)) (files : FilesAround)
-    (named : DriveFiles) (before after : S) (old new : Option (List ℕ)) : Type 0 where
+    (named : DriveWords) (before after : S) (old new : Option (List ℕ)) : Type 0 where
   pub bytes : List ℕ
   pub seed : Seed
   pub seed_was : SeedWas files named.multidata bytes seed
   pub runs : RunsToEnd source files named.journal (run_of bytes seed before after old new)
 
 -- the seed file gave no seed: nothing else was touched
-pub record SeedStopped {S : Type 0} (files : FilesAround) (named : DriveFiles) (before after : S)
+pub record SeedStopped {S : Type 0} (files : FilesAround) (named : DriveWords) (before after : S)
     (old new : Option (List ℕ)) (stop : Stop DriveCause) : Type 0 where
   pub seed_stop : Stop SeedCause
   pub is : stop ≡ stop_with SeedFile seed_stop
@@ -157,7 +157,7 @@ pub record SeedStopped {S : Type 0} (files : FilesAround) (named : DriveFiles) (
 
 -- or it gave one, and what came after it was stopped
 pub record RunStopped {S : Type 0} (source : S → Option (List ℕ)) (files : FilesAround)
-    (named : DriveFiles) (before after : S) (old new : Option (List ℕ)) (stop : Stop DriveCause)
+    (named : DriveWords) (before after : S) (old new : Option (List ℕ)) (stop : Stop DriveCause)
     : Type 0 where
   pub bytes : List ℕ
   pub seed : Seed
@@ -167,14 +167,14 @@ pub record RunStopped {S : Type 0} (source : S → Option (List ℕ)) (files : F
   pub short : RunsShort source files named.journal
       (run_of bytes seed before after old new) why
 
-abbrev pub DriveStopped : {S : Type 0} → (S → Option (List ℕ)) → FilesAround → DriveFiles → S → S
+abbrev pub DriveStopped : {S : Type 0} → (S → Option (List ℕ)) → FilesAround → DriveWords → S → S
     → Option (List ℕ) → Option (List ℕ) → Stop DriveCause → Type 0
 DriveStopped source files named before after old new stop =
     SeedStopped files named before after old new stop
     ⊎ RunStopped source files named before after old new stop
 
 -- what was put is kept, where the seed file is told
-abbrev pub DriveKeeps : FilesAround → DriveFiles → Option (List ℕ) → Option (List ℕ) → Type 0
+abbrev pub DriveKeeps : FilesAround → DriveWords → Option (List ℕ) → Option (List ℕ) → Type 0
 DriveKeeps files named old new = (bytes : List ℕ) (seed : Seed)
     → files.before named.multidata ≡ Some (Some bytes) → SeedOf bytes (Ok seed)
     → JournalKeeps files named.journal (digest_of bytes) seed old new
@@ -182,7 +182,7 @@ DriveKeeps files named old new = (bytes : List ℕ) (seed : Seed)
 -- how `drive` ended with a status, the source telling so what is left of it, with what the out sink
 -- held: all was done, or a stop was told, or want of memory for its line
 pub record DriveEnds {S : Type 0} (source : S → Option (List ℕ)) (status : ℕ)
-    (files : FilesAround) (named : DriveFiles) (before after : S) (out told : Told)
+    (files : FilesAround) (named : DriveWords) (before after : S) (out told : Told)
     : Type 0 where
   pub ends : ((status ≡ 0) × DriveDone source files named before after out.old out.new
       × Keeps told.old told.new)

@@ -24,7 +24,7 @@ use Rattle.mw_causes.specs.declared.stop.Stop.TheVariants.{Fault, Memory, Refuse
 use Rattle.mw_causes.specs.declared.table_cause.TableCause.{TableCause}
 use Rattle.mw_causes.specs.declared.generate_cause.GenerateCause.{GenerateCause}
 use Rattle.mw_causes.specs.declared.generate_cause.GenerateCause.TheVariants.{Tables, NotBeatable, TooManyItems, Exhausted}
-use Rattle.mw_words.specs.Commands.{Wanted}
+use Rattle.mw_words.specs.declared.command_line.GenerateWords.{GenerateWords}
 
 -- what a folder's files were before and after, whether its reads might fail, and how often it had
 -- refused a write
@@ -80,20 +80,20 @@ pub record Generates (joint : Joint) (seed tries : ℕ) (bytes text : List ℕ) 
   pub made : IsMade joint seed stream placement bytes text
 
 -- the same of a joint that is so
-pub record IsTextFor (joined : Joint → Type 0) (wanted : Wanted) (bytes text : List ℕ)
+pub record IsTextFor (joined : Joint → Type 0) (wanted : GenerateWords) (bytes text : List ℕ)
     : Type 0 where
   pub joint : Joint
   pub is_joined : joined joint
   pub made : Generates joint wanted.seed wanted.tries bytes text
 
 -- the same of the tables that a players file names
-abbrev pub GeneratedText : Files → Wanted → List ℕ → List ℕ → Type 0
+abbrev pub GeneratedText : Files → GenerateWords → List ℕ → List ℕ → Type 0
 GeneratedText files wanted bytes text = IsTextFor (JointIn files wanted.players) wanted bytes text
 
 -- ---- why there is none
 
 -- a joint that is so is refused
-pub record IsRefusedFor (joined : Joint → Type 0) (wanted : Wanted) (refusal : GenerateError)
+pub record IsRefusedFor (joined : Joint → Type 0) (wanted : GenerateWords) (refusal : GenerateError)
     : Type 0 where
   pub joint : Joint
   pub is_joined : joined joint
@@ -101,7 +101,7 @@ pub record IsRefusedFor (joined : Joint → Type 0) (wanted : Wanted) (refusal :
 
 -- why there is no seed file for a joint that is so, where these stops say why there is no such
 -- joint
-abbrev pub IsUntextFor : (Joint → Type 0) → (Stop TableCause → Type 0) → Wanted
+abbrev pub IsUntextFor : (Joint → Type 0) → (Stop TableCause → Type 0) → GenerateWords
     → Stop GenerateCause → Type 0
 IsUntextFor joined unjoined wanted Fault = unjoined Fault
 IsUntextFor joined unjoined wanted Memory = ⊤
@@ -114,7 +114,7 @@ IsUntextFor joined unjoined wanted (Refused (Exhausted tries)) =
     (tries ≡ wanted.tries) × IsRefusedFor joined wanted refused.Exhausted
 
 -- the same of the tables that a players file names
-abbrev pub HasGenerateCause : Files → Bool → Wanted → Stop GenerateCause → Type 0
+abbrev pub HasGenerateCause : Files → Bool → GenerateWords → Stop GenerateCause → Type 0
 HasGenerateCause files may_fail wanted stop =
     IsUntextFor (JointIn files wanted.players) (HasTableCause files may_fail wanted.players) wanted
     stop
@@ -139,7 +139,8 @@ HasFile wrote name bytes = IsWritten (wrote.before name) (wrote.after name) byte
 
 -- the due seed file is written and a front of the text is put; or the write was refused, and
 -- nothing is put
-pub record WritesSome (wrote : Wrote) (wanted : Wanted) (old new : Option (List ℕ)) : Type 0 where
+pub record WritesSome (wrote : Wrote) (wanted : GenerateWords)
+    (old new : Option (List ℕ)) : Type 0 where
   pub bytes : List ℕ
   pub text : List ℕ
   pub generated : GeneratedText wrote.before wanted bytes text
@@ -148,7 +149,8 @@ pub record WritesSome (wrote : Wrote) (wanted : Wanted) (old new : Option (List 
       ⊎ (Rose wrote.refused_before wrote.refused_after × Keeps old new)
 
 -- the seed file was written, and just the text was put
-pub record IsGenerated (wrote : Wrote) (wanted : Wanted) (old new : Option (List ℕ)) : Type 0 where
+pub record IsGenerated (wrote : Wrote) (wanted : GenerateWords)
+    (old new : Option (List ℕ)) : Type 0 where
   pub bytes : List ℕ
   pub text : List ℕ
   pub generated : GeneratedText wrote.before wanted bytes text
@@ -161,7 +163,7 @@ abbrev pub HasFailed : Wrote → Told → Type 0
 HasFailed wrote out = Rose out.before out.now ⊎ Rose wrote.refused_before wrote.refused_after
 
 -- how `generate` ended with a status, with what the out sink held and how often it failed
-abbrev pub GenerateEnds : ℕ → Wrote → Wanted → Told → Told → Type 0
+abbrev pub GenerateEnds : ℕ → Wrote → GenerateWords → Told → Told → Type 0
 GenerateEnds status wrote wanted out told =
     Ends generate_status generate_line (HasGenerateCause wrote.before wrote.may_fail wanted)
     (Untouched wrote out.old out.new) (WritesSome wrote wanted out.old out.new)

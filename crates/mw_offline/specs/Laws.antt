@@ -1,7 +1,7 @@
 -- What is true of any two runs.
 use Rattle.std.specs.Prelude.{◌≡◌, ℕ, List, Option, Some}
 use Rattle.mw_causes.specs.Tables.{Files}
-use Rattle.mw_words.specs.Commands.{Wanted}
+use Rattle.mw_words.specs.declared.command_line.GenerateWords.{GenerateWords}
 use Rattle.mw_offline.specs.Generating.{GeneratedText}
 
 -- a folder tells of each name what its file holds, or that there is none
@@ -12,6 +12,6 @@ AreTold files = (name : List ℕ) → (told : Option (List ℕ)) × (files name 
 -- one text
 abbrev pub GenerateIsOne : Type 0
 GenerateIsOne =
-    (files : Files) (wanted : Wanted) (bytes text others other : List ℕ) → AreTold files
+    (files : Files) (wanted : GenerateWords) (bytes text others other : List ℕ) → AreTold files
     → GeneratedText files wanted bytes text → GeneratedText files wanted others other
     → (bytes ≡ others) × (text ≡ other)

@@ -1,24 +1,20 @@
 //! The command `check`.
-ghost use Rattle.std.specs.Prelude.{◌≡◌, ◌≤◌, ◌⊎◌, ◌++◌, ℕ, List, Ok, IfOk, IfErr, OnOk, length, string_bytes};
+ghost use Rattle.std.specs.Prelude.{◌≡◌, ◌≤◌, ◌⊎◌, ℕ, List, Ok, IfOk, IfErr, OnOk, length, string_bytes};
 ghost use Rattle.std.specs.Io.KnownBytes.{Keeps};
 ghost use Rattle.mw_edges.specs.Causes.{Rose};
-ghost use Rattle.mw_model.specs.Seed.{Spot as PlainSpot};
 ghost use Rattle.mw_multi.specs.Files.{world_files};
 ghost use Rattle.mw_multi.specs.JointOf.{joint_of};
-ghost use Rattle.mw_multi.specs.Placement.{IsPlacement, what_stands};
+ghost use Rattle.mw_multi.specs.Placement.{IsPlacement};
 ghost use Rattle.mw_spheres.specs.Spheres.{IsSpheres};
-ghost use Rattle.mw_spheres.specs.Playthrough.{IsPlaythrough};
-ghost use Rattle.mw_seeds.specs.Played.{played_lines};
 ghost use Rattle.mw_causes.specs.Ends.{HasLeft, told_by};
 ghost use Rattle.mw_causes.specs.Tables.{AreUnjoined};
-ghost use Rattle.mw_words.specs.Commands.{asked_in};
-ghost use Rattle.mw_offline.specs.Checking.{right_line, CheckedText, IsTextFor, IsUntextFor, HasCheckCause, PrintsChecked, PutsFrontOfChecked, CheckEnds};
+ghost use Rattle.mw_offline.specs.Checking.{right_line, HasPlaythrough, CheckedText, IsTextFor, IsUntextFor, HasCheckCause, PrintsChecked, PutsFrontOfChecked, CheckEnds};
 
 use mw_base::{Memory, SphereList, Text};
 use mw_causes::{CheckCause, Stop, Tables, end, join, put_text, read_seed, read_tables};
 use mw_edges::{Folder, Sink};
 use mw_multi::{Joint, Placement};
-use mw_seeds::{add_played, check_seed};
+use mw_seeds::{check_seed, with_played};
 use mw_spheres::playthrough;
 use mw_words::CheckWords;
 use std::alloc::Global;
@@ -39,15 +35,12 @@ fn text_of(
 ) -> Result<String, Memory>
     requires placement { IsPlacement joint.now placement.now }
     requires spheres { IsSpheres joint.now placement.now spheres.now }
-    ensures { IfOk result (λ t. (played : List (List PlainSpot))
-        × IsPlaythrough joint.now placement.now spheres.now played
-        × (string_bytes t ≡ right_line (length spheres.now)
-        ++ played_lines joint.now.slots (what_stands placement.now) 1 played)) }
+    ensures { IfOk result
+        (λ t. HasPlaythrough joint.now placement.now spheres.now (string_bytes t)) }
 {
     let played = playthrough(alloc, joint, placement, spheres)?;
-    let mut text = first_line(alloc, spheres.len() as u64)?;
-    add_played(alloc, &mut text, joint, placement, &played)?;
-    Ok(text)
+    let text = first_line(alloc, spheres.len() as u64)?;
+    Ok(with_played(alloc, text, joint, placement, &played)?)
 }
 
 /// The text of tables that are read, and a seed file.
@@ -84,9 +77,9 @@ fn prepare<F: Folder>(
     folder: &mut F,
 ) -> Result<String, Stop<CheckCause>>
     ensures ok { IfOk result
-        (λ t. CheckedText (F.holds folder.old) (asked_in words.now) (string_bytes t)) }
+        (λ t. CheckedText (F.holds folder.old) words.now (string_bytes t)) }
     ensures err { IfErr result
-        (HasCheckCause (F.holds folder.old) (F.may_fail folder.old) (asked_in words.now)) }
+        (HasCheckCause (F.holds folder.old) (F.may_fail folder.old) words.now) }
     ensures fault { result ≡ Err Stop.Fault → Rose (F.faults folder.old) (F.faults folder.new) }
     ensures later { F.faults folder.old ≤ F.faults folder.new }
     ensures same { (n : List ℕ) → F.holds folder.new n ≡ F.holds folder.old n }
@@ -103,12 +96,12 @@ fn print_checked<F: Folder, O: Sink>(
     out: &mut O,
 ) -> Result<(), Stop<CheckCause>>
     ensures done { OnOk result
-        (PrintsChecked (F.holds folder.old) (asked_in words.now) (O.held out.old)
+        (PrintsChecked (F.holds folder.old) words.now (O.held out.old)
         (O.held out.new)) }
     ensures left { IfErr result
-        (HasLeft (HasCheckCause (F.holds folder.old) (F.may_fail folder.old) (asked_in words.now))
+        (HasLeft (HasCheckCause (F.holds folder.old) (F.may_fail folder.old) words.now)
         (Keeps (O.held out.old) (O.held out.new))
-        (PutsFrontOfChecked (F.holds folder.old) (asked_in words.now) (O.held out.old)
+        (PutsFrontOfChecked (F.holds folder.old) words.now (O.held out.old)
         (O.held out.new))
         (Rose (O.faults out.old) (O.faults out.new))) }
     ensures fault { result ≡ Err Stop.Fault
@@ -137,7 +130,7 @@ pub fn cmd_check<F: Folder, O: Sink, E: Sink>(
     err: &mut E,
 ) -> u8
     ensures ends { CheckEnds result (F.holds folder.old) (F.may_fail folder.old)
-        (asked_in words.now) (told_by O.held O.faults out.old out.new)
+        words.now (told_by O.held O.faults out.old out.new)
         (told_by E.held E.refusals err.old err.new) }
     ensures fault { result ≡ 5
         → Rose (F.faults folder.old) (F.faults folder.new)

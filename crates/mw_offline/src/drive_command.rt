@@ -8,7 +8,6 @@ ghost use Rattle.mw_drive.specs.Left.{KeepsShown};
 ghost use Rattle.mw_causes.specs.Ends.{told_by};
 ghost use Rattle.mw_offline.specs.FilesAround.{files_around};
 ghost use Rattle.mw_offline.specs.Driving.{NoImages, IsNewJournal, JournalLeaves, JournalKeeps};
-ghost use Rattle.mw_words.specs.Commands.{drive_files};
 ghost use Rattle.mw_offline.specs.Driving.{run_of, RunsToEnd, RunsShort};
 ghost use Rattle.mw_offline.specs.Driving.{DriveDone, DriveStopped, DriveEnds, DriveKeeps};
 
@@ -140,13 +139,13 @@ fn drive<F: Folder, S: Source, O: Sink>(
 ) -> Result<(), Stop<DriveCause>>
     ensures done { OnOk result (DriveDone S.left
         (files_around F.holds F.images F.is_open F.may_fail F.faults folder.old folder.new)
-        (drive_files words.now) input.old input.new (O.held out.old) (O.held out.new)) }
+        words.now input.old input.new (O.held out.old) (O.held out.new)) }
     ensures stopped { IfErr result (DriveStopped S.left
         (files_around F.holds F.images F.is_open F.may_fail F.faults folder.old folder.new)
-        (drive_files words.now) input.old input.new (O.held out.old) (O.held out.new)) }
+        words.now input.old input.new (O.held out.old) (O.held out.new)) }
     ensures kept { DriveKeeps
         (files_around F.holds F.images F.is_open F.may_fail F.faults folder.old folder.new)
-        (drive_files words.now) (O.held out.old) (O.held out.new) }
+        words.now (O.held out.old) (O.held out.new) }
     ensures leaves { JournalLeaves
         (files_around F.holds F.images F.is_open F.may_fail F.faults folder.old folder.new)
         words.now.journal }
@@ -184,7 +183,7 @@ pub fn cmd_drive<F: Folder, S: Source, O: Sink, E: Sink>(
 ) -> u8
     ensures ends { DriveEnds S.left result
         (files_around F.holds F.images F.is_open F.may_fail F.faults folder.old folder.new)
-        (drive_files words.now) input.old input.new (told_by O.held O.faults out.old out.new)
+        words.now input.old input.new (told_by O.held O.faults out.old out.new)
         (told_by E.held E.refusals err.old err.new) }
     ensures fault { result ≡ 5
         → Rose (F.faults folder.old) (F.faults folder.new)

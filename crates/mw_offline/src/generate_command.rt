@@ -6,7 +6,7 @@ ghost use Rattle.mw_multi.specs.Files.{world_files};
 ghost use Rattle.mw_multi.specs.JointOf.{joint_of};
 ghost use Rattle.mw_causes.specs.Ends.{HasLeft, told_by};
 ghost use Rattle.mw_causes.specs.Tables.{AreUnjoined};
-ghost use Rattle.mw_words.specs.Commands.{wanted_in};
+ghost use Rattle.mw_offline.specs.Laws.{GenerateIsOne};
 ghost use Rattle.mw_offline.specs.Generating.{wrote_by, IsTextFor, IsUntextFor, GeneratedText, HasGenerateCause, IsGenerated, Untouched, WritesSome, HasFailed, GenerateEnds};
 
 use crate::generating::{Made, make};
@@ -27,10 +27,10 @@ fn made_from(
     requires number { length tables.now.worlds ≡ length (world_files tables.now.players) }
     ensures ok { IfOk result
         (λ m. IsTextFor (λ joint. joint_of tables.now.worlds tables.now.players ≡ Ok joint)
-        (wanted_in words.now) m.bytes (string_bytes m.text)) }
+        words.now m.bytes (string_bytes m.text)) }
     ensures err { IfErr result
         (IsUntextFor (λ joint. joint_of tables.now.worlds tables.now.players ≡ Ok joint)
-        (AreUnjoined tables.now.worlds tables.now.players) (wanted_in words.now)) }
+        (AreUnjoined tables.now.worlds tables.now.players) words.now) }
     ensures fault { result ≢ Err Stop.Fault }
 {
     let joint = join(alloc, tables)?;
@@ -48,10 +48,10 @@ fn prepare<F: Folder>(
     folder: &mut F,
 ) -> Result<Made, Stop<GenerateCause>>
     requires tries { (1 ≤ words.now.tries) × (words.now.tries ≤ 1000) }
-    ensures ok { IfOk result (λ m. GeneratedText (F.holds folder.old) (wanted_in words.now) m.bytes
+    ensures ok { IfOk result (λ m. GeneratedText (F.holds folder.old) words.now m.bytes
         (string_bytes m.text)) }
     ensures err { IfErr result
-        (HasGenerateCause (F.holds folder.old) (F.may_fail folder.old) (wanted_in words.now)) }
+        (HasGenerateCause (F.holds folder.old) (F.may_fail folder.old) words.now) }
     ensures fault { result ≡ Err Stop.Fault → Rose (F.faults folder.old) (F.faults folder.new) }
     ensures later { F.faults folder.old ≤ F.faults folder.new }
     ensures same { (n : List ℕ) → F.holds folder.new n ≡ F.holds folder.old n }
@@ -93,14 +93,14 @@ fn write_and_print<F: Folder, O: Sink>(
     requires tries { (1 ≤ words.now.tries) × (words.now.tries ≤ 1000) }
     ensures done { OnOk result
         (IsGenerated (wrote_by F.holds F.may_fail F.refusals folder.old folder.new)
-        (wanted_in words.now) (O.held out.old) (O.held out.new)) }
+        words.now (O.held out.old) (O.held out.new)) }
     ensures left { IfErr result
         (HasLeft (HasGenerateCause (F.holds folder.old) (F.may_fail folder.old)
-        (wanted_in words.now))
+        words.now)
         (Untouched (wrote_by F.holds F.may_fail F.refusals folder.old folder.new) (O.held out.old)
         (O.held out.new))
         (WritesSome (wrote_by F.holds F.may_fail F.refusals folder.old folder.new)
-        (wanted_in words.now)
+        words.now
         (O.held out.old) (O.held out.new))
         (HasFailed (wrote_by F.holds F.may_fail F.refusals folder.old folder.new)
         (told_by O.held O.faults out.old out.new))) }
@@ -121,7 +121,8 @@ fn write_and_print<F: Folder, O: Sink>(
 /// stuck; 5 where the folder or the out sink failed; 6 where memory ran out. With 3 or 4 no file is
 /// touched; with 5 or 6 the named file is as it was or holds the seed file, or the folder refused
 /// to write it and it holds what that left. With a status other than 0 the error sink gets that
-/// status's line, or a front of it where it refuses.
+/// status's line, or a front of it where it refuses. What is due is one: of the same files, number
+/// and tries there are no two seed files or texts.
 pub fn cmd_generate<F: Folder, O: Sink, E: Sink>(
     alloc: Global,
     words: &GenerateWords,
@@ -131,11 +132,12 @@ pub fn cmd_generate<F: Folder, O: Sink, E: Sink>(
 ) -> u8
     requires tries { (1 ≤ words.now.tries) × (words.now.tries ≤ 1000) }
     ensures ends { GenerateEnds result
-        (wrote_by F.holds F.may_fail F.refusals folder.old folder.new) (wanted_in words.now)
+        (wrote_by F.holds F.may_fail F.refusals folder.old folder.new) words.now
         (told_by O.held O.faults out.old out.new) (told_by E.held E.refusals err.old err.new) }
     ensures fault { result ≡ 5
         → Rose (F.faults folder.old) (F.faults folder.new)
         ⊎ Rose (O.faults out.old) (O.faults out.new) }
+    ensures one { GenerateIsOne }
 {
     let outcome = write_and_print(alloc, words, folder, out);
     end(alloc, err, outcome)

@@ -13,7 +13,7 @@ use mw_base::{Bytes, Memory, SphereList};
 use mw_fill::{GenerateError, Seed, generate};
 use mw_multi::{Joint, Placement, Players};
 use mw_multidata::write;
-use mw_seeds::{add_played, seed_file};
+use mw_seeds::{seed_file, with_played};
 use mw_spheres::{playthrough, spheres};
 use std::alloc::Global;
 
@@ -44,9 +44,8 @@ fn text_of(
     ensures { IfOk result (λ t. string_bytes t ≡ generated_line seed found.now.stream many
         ++ played_lines joint.now.slots (what_stands found.now.placement) 1 played.now) }
 {
-    let mut text = first_line(alloc, seed, found.stream, many as u64)?;
-    add_played(alloc, &mut text, joint, &found.placement, played)?;
-    Ok(text)
+    let text = first_line(alloc, seed, found.stream, many as u64)?;
+    with_played(alloc, text, joint, &found.placement, played)
 }
 
 /// The seed file of a placement that can be beaten, and the text beside it.

@@ -5,7 +5,6 @@ ghost use Rattle.mw_journal.specs.Settled.{AllShut};
 ghost use Rattle.mw_causes.specs.Ends.{HasLeft, told_by};
 ghost use Rattle.mw_offline.specs.FilesAround.{files_around, OthersStay, IsOnlyRead};
 ghost use Rattle.mw_offline.specs.NewRooms.{IsEmpty, ShowsByte, HasJournalCause, HasRoomCause};
-ghost use Rattle.mw_words.specs.Commands.{room_in};
 ghost use Rattle.mw_offline.specs.NewRooms.{NoRoom, MakesSome, MakesRoom, NewRoomEnds};
 
 use crate::creating::create_on;
@@ -59,14 +58,14 @@ fn new_room<F: Folder, O: Sink>(
 ) -> Result<(), Stop<RoomCause>>
     ensures done { OnOk result
         (MakesRoom (files_around F.holds F.images F.is_open F.may_fail F.faults
-        folder.old folder.new) (room_in words.now) (O.held out.old) (O.held out.new)) }
+        folder.old folder.new) words.now (O.held out.old) (O.held out.new)) }
     ensures left { IfErr result
         (HasLeft (HasRoomCause (files_around F.holds F.images F.is_open F.may_fail F.faults
-        folder.old folder.new) (room_in words.now))
+        folder.old folder.new) words.now)
         (NoRoom (files_around F.holds F.images F.is_open F.may_fail F.faults
-        folder.old folder.new) (room_in words.now) (O.held out.old) (O.held out.new))
+        folder.old folder.new) words.now (O.held out.old) (O.held out.new))
         (MakesSome (files_around F.holds F.images F.is_open F.may_fail F.faults
-        folder.old folder.new) (room_in words.now) (O.held out.old) (O.held out.new))
+        folder.old folder.new) words.now (O.held out.old) (O.held out.new))
         (Rose (F.faults folder.old) (F.faults folder.new)
         ⊎ Rose (O.faults out.old) (O.faults out.new))) }
     ensures fault { result ≡ Err Stop.Fault
@@ -101,7 +100,7 @@ pub fn cmd_new_room<F: Folder, O: Sink, E: Sink>(
 ) -> u8
     ensures ends { NewRoomEnds result
         (files_around F.holds F.images F.is_open F.may_fail F.faults folder.old folder.new)
-        (room_in words.now) (told_by O.held O.faults out.old out.new)
+        words.now (told_by O.held O.faults out.old out.new)
         (told_by E.held E.refusals err.old err.new) }
     ensures fault { result ≡ 5
         → Rose (F.faults folder.old) (F.faults folder.new)

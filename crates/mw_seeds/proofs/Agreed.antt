@@ -8,7 +8,7 @@ use Rattle.mw_multi.specs.World.{Item}
 use Rattle.mw_multi.specs.Joint.{Slot, Joint, IsJoint}
 use Rattle.mw_multi.specs.Steps.{location_place}
 use Rattle.mw_multi.specs.Placement.{Put, slot_at, what_stands}
-use Rattle.mw_multidata.specs.Ascending.{Ascend}
+use Rattle.mw_model.specs.Ascending.{Ascend}
 use Rattle.mw_multidata.specs.SeedKept.{held_cmp}
 use Rattle.mw_seeds.specs.SeedFile.{held_where, location_held, slot_held, all_held, AreLocations}
 use Rattle.mw_seeds.specs.Agreeing.{has_location, held_index, index_among, slot_items, agrees_with, agrees_at, TablesAgree, IsFirstDifference}

@@ -8,7 +8,7 @@ use Rattle.std.proofs.lemmas.Bool.{cases_lt}
 use Rattle.std.proofs.lemmas.List.Sorted.{searchable_from_sorted}
 use Rattle.std.proofs.lemmas.List.Elements.{All-head, All-tail}
 use Rattle.mw_model.specs.Seed.{Held, held_among}
-use Rattle.mw_multidata.specs.Ascending.{Ascend, ComesBefore}
+use Rattle.mw_model.specs.Ascending.{Ascend, ComesBefore}
 use Rattle.mw_multidata.specs.SeedKept.{held_cmp}
 use Rattle.mw_seeds.specs.Agreeing.{location_cmp}
 use Rattle.mw_seeds.specs.Keys.{entry_at}

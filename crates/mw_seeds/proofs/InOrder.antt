@@ -5,7 +5,7 @@ use Rattle.std.specs.Ordering.{ordering_reverse}
 use Rattle.std.proofs.lemmas.List.Elements.{All-from_recursion, recursion_from_All}
 use Rattle.std.proofs.lemmas.List.Sorted.{All-permutation, IsPermutation-refl, IsPermutation-trans, IsPermutation-cons, IsPermutation-middle}
 use Rattle.mw_model.specs.Seed.{Held}
-use Rattle.mw_multidata.specs.Ascending.{Ascend, ComesBefore}
+use Rattle.mw_model.specs.Ascending.{Ascend, ComesBefore}
 use Rattle.mw_multidata.specs.SeedKept.{held_cmp}
 use Rattle.mw_multidata.proofs.NamesKept.{held_total}
 use Rattle.mw_seeds.proofs.Apart.{below}

@@ -10,7 +10,7 @@ use Rattle.mw_model.specs.Seed.{Seed, Game, NamedId, Held, Spot}
 use Rattle.mw_multi.specs.World.{World}
 use Rattle.mw_multi.specs.Joint as joined
 use Rattle.mw_multi.specs.Placement.{Put}
-use Rattle.mw_multidata.specs.Ascending.{Ascend, ComesBefore}
+use Rattle.mw_model.specs.Ascending.{Ascend, ComesBefore}
 use Rattle.mw_multidata.specs.SeedKept.{entry_name, game_name, held_cmp}
 use Rattle.mw_seeds.specs.SeedFile.{IsTable, IsGameOf, IsPlayed, HasGameOf, AreGames, AreLocations, SeedFile}
 use Rattle.mw_multidata.proofs.NamesKept.{held_total}

@@ -10,7 +10,7 @@ use Rattle.mw_model.specs.Seed.{Game}
 use Rattle.mw_multi.specs.Names.{NamesDiffer}
 use Rattle.mw_multi.specs.Joint.{Slot}
 use Rattle.mw_multidata.specs.Names.{has_name}
-use Rattle.mw_multidata.specs.Ascending.{NamesAscend}
+use Rattle.mw_model.specs.Ascending.{NamesAscend}
 use Rattle.mw_multidata.specs.SeedKept.{game_name}
 use Rattle.mw_seeds.specs.GamesMet.{has_game, IsGameAdded, AreDifferent}
 use Rattle.mw_seeds.specs.SeedFile.{IsGameOf, IsPlayed, HasGameOf, AreGames}

@@ -10,7 +10,7 @@ use Rattle.std.proofs.lemmas.List.Sorted.{IsPermutation-map}
 use Rattle.std.proofs.lemmas.Map.Keys.{IsDistinct-IsPermutation}
 use Rattle.mw_model.specs.Seed.{Game, NamedId, Held}
 use Rattle.mw_multi.specs.Names.{NamesDiffer}
-use Rattle.mw_multidata.specs.Ascending.{Ascend, ComesBefore, NamesAscend}
+use Rattle.mw_model.specs.Ascending.{Ascend, ComesBefore, NamesAscend}
 use Rattle.mw_multidata.specs.SeedKept.{entry_name, game_name, held_cmp}
 use Rattle.mw_multidata.proofs.NamesKept.{held_total}
 use Rattle.mw_seeds.specs.Keys.{Key, as_held}

@@ -4,7 +4,7 @@ use Rattle.std.specs.Prelude.{if◌then◌else◌, is_some}
 use Rattle.std.specs.Ordering.{ordering_reverse}
 use Rattle.mw_model.specs.Seed.{Held, held_among}
 use Rattle.mw_multi.specs.Joint.{Slot}
-use Rattle.mw_multidata.specs.Ascending.{Ascend}
+use Rattle.mw_model.specs.Ascending.{Ascend}
 use Rattle.mw_multidata.specs.SeedKept.{held_cmp}
 use Rattle.mw_multidata.proofs.NamesKept.{held_total}
 use Rattle.mw_seeds.specs.Agreeing.{held_index, agrees_with, location_cmp}

@@ -7,7 +7,7 @@ use Rattle.mw_model.specs.Seed.{Held}
 use Rattle.mw_multi.specs.World.{Item, Location}
 use Rattle.mw_multi.specs.Joint.{Slot}
 use Rattle.mw_multi.specs.Numbered.{each_numbered}
-use Rattle.mw_multidata.specs.Ascending.{Ascend}
+use Rattle.mw_model.specs.Ascending.{Ascend}
 use Rattle.mw_multidata.specs.SeedKept.{held_cmp}
 use Rattle.mw_seeds.specs.Agreeing.{index_among}
 use Rattle.mw_seeds.specs.FilePuts.{catalog_at, earlier_of}

@@ -2,7 +2,6 @@
 use Rattle.std.specs.Prelude.{◌≡◌, ℕ, ℤ, List, [], ◌∷◌, Option, Some, None, All, Contains, decimal, flat_map, map, replicate, slice_get}
 use Rattle.std.specs.Ordering.{nat_cmp, int_cmp, ordering_then}
 use Rattle.std.specs.declared.cmp.Ordering.{Ordering}
-use Rattle.std.specs.Cmp.Lexicographic.{slice_cmp}
 use Rattle.std.specs.List.Sorted.{IsPermutation}
 use Rattle.mw_model.specs.Seed.{Seed, Slot, StartItem, Game, NamedId, Held, Spot}
 use Rattle.mw_multi.specs.World.{World, Item, Location, PoolEntry}
@@ -12,7 +11,7 @@ use Rattle.mw_multi.specs.Placement.{Put, item_at, what_stands}
 use Rattle.mw_multi.specs.declared.item.Class.{Class}
 use Rattle.mw_multi.specs.declared.item.Class.TheVariants.{Progression, Useful, Filler, Trap}
 use Rattle.mw_multi.specs.Numbered.{each_numbered}
-use Rattle.mw_multidata.specs.Ascending.{Ascend}
+use Rattle.mw_model.specs.Ascending.{Ascend, NamesAscend}
 
 -- ---- classes
 
@@ -42,10 +41,6 @@ entry_name n = n.name
 
 abbrev pub game_name : Game → List ℕ
 game_name g = g.name
-
--- these names ascend in byte order
-abbrev pub NamesAscend : List (List ℕ) → Type 0
-NamesAscend names = Ascend (slice_cmp nat_cmp) names
 
 -- the same entries, in byte order of their names
 pub record IsTable (entries table : List NamedId) : Type 0 where

@@ -3,7 +3,7 @@ ghost use Rattle.std.specs.Prelude.{◌≡◌, ◌≤◌, ◌<◌, ◌+◌, ◌+
 ghost use Rattle.mw_model.specs.Seed.{held_among};
 ghost use Rattle.mw_multi.specs.Joint.{slot_places};
 ghost use Rattle.mw_multi.specs.Numbered.{each_numbered};
-ghost use Rattle.mw_multidata.specs.Ascending.{Ascend};
+ghost use Rattle.mw_model.specs.Ascending.{Ascend};
 ghost use Rattle.mw_multidata.specs.SeedKept.{held_cmp};
 ghost use Rattle.mw_seeds.specs.Agreeing.{index_among, location_cmp};
 ghost use Rattle.mw_seeds.specs.FilePuts.{catalog_at, file_put as plain_put, put_where, slot_puts};

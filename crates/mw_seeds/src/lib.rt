@@ -17,5 +17,5 @@ mod seed_slots;
 pub use agreeing::placement_in;
 pub use checking::check_seed;
 pub use making::seed_file;
-pub use played_lines::{add_played, first_name};
+pub use played_lines::{first_name, with_played};
 pub use refusal::SeedRefusal;

@@ -1,5 +1,5 @@
 //! The lines of a playthrough.
-ghost use Rattle.std.specs.Prelude.{◌≡◌, ◌++◌, ◌+◌, ◌<◌, ◌≤◌, ◌^◌, None, OnOk, Some, flat_map, length, slice_get, slice_index_or, string_bytes};
+ghost use Rattle.std.specs.Prelude.{◌≡◌, ◌++◌, ◌+◌, ◌<◌, ◌≤◌, ◌^◌, IfOk, None, OnOk, Some, flat_map, length, slice_get, slice_index_or, string_bytes};
 ghost use Rattle.mw_multi.specs.Joint.{slot_places, place_total};
 ghost use Rattle.mw_multi.specs.Placement.{slot_at, item_at, IsPlacement, what_stands};
 ghost use Rattle.mw_seeds.specs.Played.{first_name as plain_first_name, slot_name as plain_slot_name, name_of_item, name_of_location, receiver_name, put_name, stands_in, entry_line, found_line, spot_line, played_lines as plain_lines};
@@ -200,20 +200,21 @@ fn add_lines(
     Ok(())
 }
 
-/// Adds the lines of a playthrough: for each entry its sphere's number from 1, who finds it where,
-/// for whom, and what. `Memory` where memory ran out; what was added then stays.
-pub fn add_played(
+/// A text, and after it the lines of a playthrough: for each entry its sphere's number from 1, who
+/// finds it where, for whom, and what. `Memory` where memory ran out; the text is let go then.
+pub fn with_played(
     alloc: Global,
-    out: &mut String,
+    text: String,
     joint: &Joint,
     placement: &Placement,
     played: &SphereList,
-) -> Result<(), Memory>
+) -> Result<String, Memory>
     requires { IsPlacement joint.now placement.now }
-    ensures { OnOk result (string_bytes out.new
-        ≡ string_bytes out.old
+    ensures { IfOk result (λ t. string_bytes t ≡ string_bytes text
         ++ plain_lines joint.now.slots (what_stands placement.now) 1 played.now) }
 {
+    let mut text = text;
     let stands = stands_of(alloc, joint, placement)?;
-    add_lines(out, joint, stands.as_slice(), played.as_slice())
+    add_lines(&mut text, joint, stands.as_slice(), played.as_slice())?;
+    Ok(text)
 }

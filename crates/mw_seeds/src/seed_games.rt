@@ -5,7 +5,7 @@ ghost use Rattle.std.specs.List.Sorted.{IsPermutation};
 ghost use Rattle.std.specs.Cmp.Lexicographic.{slice_cmp};
 ghost use Rattle.mw_multi.specs.WorldKept.{item_name, location_name};
 ghost use Rattle.mw_multi.specs.Names.{NamesDiffer};
-ghost use Rattle.mw_multidata.specs.Ascending.{NamesAscend};
+ghost use Rattle.mw_model.specs.Ascending.{NamesAscend};
 ghost use Rattle.mw_multidata.specs.SeedKept.{entry_name, game_name};
 ghost use Rattle.mw_seeds.specs.GamesMet.{has_game, AreDifferent, IsGameAdded};
 ghost use Rattle.mw_seeds.specs.SeedFile.{named_where, item_entry, location_entry, IsTable, IsGameOf, AreGames};

@@ -5,10 +5,13 @@ use Rattle.std.proofs.lemmas.Slice.Eq.{bytes_eq-Decides}
 use Rattle.std.specs.Str.{bytes_eq}
 use Rattle.std.specs.Borrow.{Bor}
 use Rattle.clap.specs.Walk.{texts}
-use Rattle.mw_words.specs.Commands.{Asked, DriveFiles, Wanted, RoomFiles}
 use Rattle.mw_words.specs.Words.{IsGenerate, IsCheck, IsNewRoom, IsDrive}
 use Rattle.mw_words.specs.Lines.{AsksFor, HasOneMeaning, HasTries}
 use Rattle.mw_words.specs.declared.command_line.CommandLine.{CommandLine}
+use Rattle.mw_words.specs.declared.command_line.GenerateWords.{GenerateWords}
+use Rattle.mw_words.specs.declared.command_line.CheckWords.{CheckWords}
+use Rattle.mw_words.specs.declared.command_line.NewRoomWords.{NewRoomWords}
+use Rattle.mw_words.specs.declared.command_line.DriveWords.{DriveWords}
 use Rattle.mw_words.specs.declared.command_line.CommandLine.TheVariants.{Generate, Check, Reach, NewRoom, Drive}
 
 -- the first of borrowed words
@@ -44,22 +47,22 @@ apart o a b other first second =
     cc
 
 -- words that begin with `generate` ask for nothing else
-pub only_generate : (words : List (List ℕ)) (line : CommandLine) → slice_get words 0 ≡ Some (codes "generate") → ((wanted : Wanted) → IsGenerate words wanted → ⊥) → AsksFor words line → ⊥
+pub only_generate : (words : List (List ℕ)) (line : CommandLine) → slice_get words 0 ≡ Some (codes "generate") → ((wanted : GenerateWords) → IsGenerate words wanted → ⊥) → AsksFor words line → ⊥
 only_generate words (Generate w) first none asks = none _ asks
 only_generate words line first none asks = apart (slice_get words 0) (codes "generate") (name_of line) refl first (named words line asks)
 
 -- the same of `check`
-pub only_check : (words : List (List ℕ)) (line : CommandLine) → slice_get words 0 ≡ Some (codes "check") → ((asked : Asked) → IsCheck words asked → ⊥) → AsksFor words line → ⊥
+pub only_check : (words : List (List ℕ)) (line : CommandLine) → slice_get words 0 ≡ Some (codes "check") → ((asked : CheckWords) → IsCheck words asked → ⊥) → AsksFor words line → ⊥
 only_check words (Check w) first none asks = none _ asks
 only_check words line first none asks = apart (slice_get words 0) (codes "check") (name_of line) refl first (named words line asks)
 
 -- the same of `new-room`
-pub only_new_room : (words : List (List ℕ)) (line : CommandLine) → slice_get words 0 ≡ Some (codes "new-room") → ((room : RoomFiles) → IsNewRoom words room → ⊥) → AsksFor words line → ⊥
+pub only_new_room : (words : List (List ℕ)) (line : CommandLine) → slice_get words 0 ≡ Some (codes "new-room") → ((room : NewRoomWords) → IsNewRoom words room → ⊥) → AsksFor words line → ⊥
 only_new_room words (NewRoom w) first none asks = none _ asks
 only_new_room words line first none asks = apart (slice_get words 0) (codes "new-room") (name_of line) refl first (named words line asks)
 
 -- the same of `drive`
-pub only_drive : (words : List (List ℕ)) (line : CommandLine) → slice_get words 0 ≡ Some (codes "drive") → ((files : DriveFiles) → IsDrive words files → ⊥) → AsksFor words line → ⊥
+pub only_drive : (words : List (List ℕ)) (line : CommandLine) → slice_get words 0 ≡ Some (codes "drive") → ((files : DriveWords) → IsDrive words files → ⊥) → AsksFor words line → ⊥
 only_drive words (Drive w) first none asks = none _ asks
 only_drive words line first none asks = apart (slice_get words 0) (codes "drive") (name_of line) refl first (named words line asks)
 

@@ -1,4 +1,3 @@
-pub mod Commands
 pub mod Numbers
 pub mod Words
 pub mod Lines

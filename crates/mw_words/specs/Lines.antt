@@ -1,36 +1,16 @@
 -- A command line, and the words that ask for it.
 use Rattle.std.specs.Prelude.{◌≡◌, ◌≤◌, ℕ, List, ⊤}
-use Rattle.mw_words.specs.Commands.{Asked, DriveFiles, Wanted, RoomFiles}
 use Rattle.mw_words.specs.Words.{IsGenerate, IsCheck, IsReach, IsNewRoom, IsDrive}
 use Rattle.mw_words.specs.declared.command_line.CommandLine.{CommandLine}
 use Rattle.mw_words.specs.declared.command_line.CommandLine.TheVariants.{Generate, Check, Reach, NewRoom, Drive}
 
-abbrev pub generate_line : Wanted → CommandLine
-generate_line w =
-    Generate (record { players = w.players; out_name = w.out_name; seed = w.seed; tries = w.tries })
-
-abbrev pub check_line : Asked → CommandLine
-check_line a = Check (record { players = a.players; multidata = a.multidata })
-
-abbrev pub reach_line : List ℕ → CommandLine
-reach_line players = Reach (record { players = players })
-
-abbrev pub new_room_line : RoomFiles → CommandLine
-new_room_line room = NewRoom (record { multidata = room.multidata; journal = room.journal })
-
-abbrev pub drive_line : DriveFiles → CommandLine
-drive_line files = Drive (record { multidata = files.multidata; journal = files.journal })
-
 -- the words ask for this
 abbrev pub AsksFor : List (List ℕ) → CommandLine → Type 0
-AsksFor words (Generate w) =
-    IsGenerate words
-    (record { players = w.players; out_name = w.out_name; seed = w.seed; tries = w.tries })
-AsksFor words (Check w) = IsCheck words (record { players = w.players; multidata = w.multidata })
+AsksFor words (Generate w) = IsGenerate words w
+AsksFor words (Check w) = IsCheck words w
 AsksFor words (Reach w) = IsReach words w.players
-AsksFor words (NewRoom w) =
-    IsNewRoom words (record { multidata = w.multidata; journal = w.journal })
-AsksFor words (Drive w) = IsDrive words (record { multidata = w.multidata; journal = w.journal })
+AsksFor words (NewRoom w) = IsNewRoom words w
+AsksFor words (Drive w) = IsDrive words w
 
 -- they ask for nothing
 abbrev pub IsNoCommand : List (List ℕ) → Type 0

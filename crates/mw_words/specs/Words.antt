@@ -2,7 +2,10 @@
 use Rattle.std.specs.Prelude.{◌≡◌, ◌<◌, ◌≤◌, ◌^◌, ℕ, true, List, [], ◌∷◌, Option, Some, codes, decimal, slice_get}
 use Rattle.clap.specs.Words.{App, Kinds, Rule, fault_of, first_of, matches_of, new_rule}
 use Rattle.clap.specs.Simple.{new_shape}
-use Rattle.mw_words.specs.Commands.{Asked, DriveFiles, Wanted, RoomFiles}
+use Rattle.mw_words.specs.declared.command_line.GenerateWords.{GenerateWords}
+use Rattle.mw_words.specs.declared.command_line.CheckWords.{CheckWords}
+use Rattle.mw_words.specs.declared.command_line.NewRoomWords.{NewRoomWords}
+use Rattle.mw_words.specs.declared.command_line.DriveWords.{DriveWords}
 
 -- ---- the commands, as clap reads their words
 
@@ -76,7 +79,7 @@ pub record IsTaken (app : App) (words : List (List ℕ)) : Type 0 where
   pub faultless : faults app words ≡ []
 
 -- `generate` with two names and two numbers, which are digits with no 0 before others
-pub record IsGenerate (words : List (List ℕ)) (wanted : Wanted) : Type 0 where
+pub record IsGenerate (words : List (List ℕ)) (wanted : GenerateWords) : Type 0 where
   pub taken : IsTaken generate_app words
   pub players : given generate_app words (codes "players") ≡ Some wanted.players
   pub out_name : given generate_app words (codes "out") ≡ Some wanted.out_name
@@ -86,7 +89,7 @@ pub record IsGenerate (words : List (List ℕ)) (wanted : Wanted) : Type 0 where
   pub tries_range : (1 ≤ wanted.tries) × (wanted.tries ≤ 1000)
 
 -- `check` of a players file and a seed file
-pub record IsCheck (words : List (List ℕ)) (asked : Asked) : Type 0 where
+pub record IsCheck (words : List (List ℕ)) (asked : CheckWords) : Type 0 where
   pub taken : IsTaken check_app words
   pub players : given check_app words (codes "players") ≡ Some asked.players
   pub multidata : given check_app words (codes "multidata") ≡ Some asked.multidata
@@ -97,13 +100,13 @@ pub record IsReach (words : List (List ℕ)) (players : List ℕ) : Type 0 where
   pub players_given : given reach_app words (codes "players") ≡ Some players
 
 -- `new-room` of a seed file and a journal
-pub record IsNewRoom (words : List (List ℕ)) (room : RoomFiles) : Type 0 where
+pub record IsNewRoom (words : List (List ℕ)) (room : NewRoomWords) : Type 0 where
   pub taken : IsTaken new_room_app words
   pub multidata : given new_room_app words (codes "multidata") ≡ Some room.multidata
   pub journal : given new_room_app words (codes "journal") ≡ Some room.journal
 
 -- `drive` of a seed file, and of a journal where one is named
-pub record IsDrive (words : List (List ℕ)) (files : DriveFiles) : Type 0 where
+pub record IsDrive (words : List (List ℕ)) (files : DriveWords) : Type 0 where
   pub taken : IsTaken drive_app words
   pub multidata : given drive_app words (codes "multidata") ≡ Some files.multidata
   pub journal : given drive_app words (codes "journal") ≡ files.journal

@@ -1,6 +1,9 @@
 ghost use Rattle.std.specs.Prelude.{◌≡◌, ℕ, List, Some, IfOk, codes, slice_get};
 ghost use Rattle.clap.specs.Walk.{texts};
-ghost use Rattle.mw_words.specs.Commands.{Asked, DriveFiles, Wanted, RoomFiles};
+ghost use Rattle.mw_words.specs.declared.command_line.GenerateWords.{GenerateWords};
+ghost use Rattle.mw_words.specs.declared.command_line.CheckWords.{CheckWords};
+ghost use Rattle.mw_words.specs.declared.command_line.NewRoomWords.{NewRoomWords};
+ghost use Rattle.mw_words.specs.declared.command_line.DriveWords.{DriveWords};
 ghost use Rattle.mw_words.specs.Words.{IsGenerate, IsCheck, IsReach, IsNewRoom, IsDrive};
 ghost use Rattle.mw_words.specs.Lines.{AsksFor, IsNoCommand, HasOneMeaning};
 
@@ -29,11 +32,8 @@ fn borrowed<'a>(alloc: Global, words: &'a [Text]) -> Result<Vec<&'a str>, AllocE
 /// The words of `generate`.
 fn read_generate(alloc: Global, words: &[&str]) -> Result<GenerateWords, WordsError>
     requires { slice_get (texts words.now) 0 ≡ Some (codes "generate") }
-    ensures ok { IfOk result
-        (λ w. IsGenerate
-        (texts words.now)
-        record { players = w.players; out_name = w.out_name; seed = w.seed; tries = w.tries }) }
-    ensures bad { result ≡ Err WordsError.BadWords → (wanted : Wanted)
+    ensures ok { IfOk result (IsGenerate (texts words.now)) }
+    ensures bad { result ≡ Err WordsError.BadWords → (wanted : GenerateWords)
         → IsGenerate (texts words.now) wanted → ⊥ }
 {
     let matches = parse(generate_command(alloc)?, words)?;
@@ -48,9 +48,8 @@ fn read_generate(alloc: Global, words: &[&str]) -> Result<GenerateWords, WordsEr
 /// The words of `check`.
 fn read_check(alloc: Global, words: &[&str]) -> Result<CheckWords, WordsError>
     requires { slice_get (texts words.now) 0 ≡ Some (codes "check") }
-    ensures ok { IfOk result
-        (λ w. IsCheck (texts words.now) record { players = w.players; multidata = w.multidata }) }
-    ensures bad { result ≡ Err WordsError.BadWords → (asked : Asked)
+    ensures ok { IfOk result (IsCheck (texts words.now)) }
+    ensures bad { result ≡ Err WordsError.BadWords → (asked : CheckWords)
         → IsCheck (texts words.now) asked → ⊥ }
 {
     let matches = parse(check_command(alloc)?, words)?;
@@ -76,10 +75,8 @@ fn read_reach(alloc: Global, words: &[&str]) -> Result<ReachWords, WordsError>
 /// The words of `new-room`.
 fn read_new_room(alloc: Global, words: &[&str]) -> Result<NewRoomWords, WordsError>
     requires { slice_get (texts words.now) 0 ≡ Some (codes "new-room") }
-    ensures ok { IfOk result
-        (λ w. IsNewRoom (texts words.now)
-        record { multidata = w.multidata; journal = w.journal }) }
-    ensures bad { result ≡ Err WordsError.BadWords → (room : RoomFiles)
+    ensures ok { IfOk result (IsNewRoom (texts words.now)) }
+    ensures bad { result ≡ Err WordsError.BadWords → (room : NewRoomWords)
         → IsNewRoom (texts words.now) room → ⊥ }
 {
     let matches = parse(new_room_command(alloc)?, words)?;
@@ -92,10 +89,8 @@ fn read_new_room(alloc: Global, words: &[&str]) -> Result<NewRoomWords, WordsErr
 /// The words of `drive`.
 fn read_drive(alloc: Global, words: &[&str]) -> Result<DriveWords, WordsError>
     requires { slice_get (texts words.now) 0 ≡ Some (codes "drive") }
-    ensures ok { IfOk result
-        (λ w. IsDrive (texts words.now)
-        record { multidata = w.multidata; journal = w.journal }) }
-    ensures bad { result ≡ Err WordsError.BadWords → (files : DriveFiles)
+    ensures ok { IfOk result (IsDrive (texts words.now)) }
+    ensures bad { result ≡ Err WordsError.BadWords → (files : DriveWords)
         → IsDrive (texts words.now) files → ⊥ }
 {
     let matches = parse(drive_command(alloc)?, words)?;

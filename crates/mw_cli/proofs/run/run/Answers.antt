@@ -1,40 +1,41 @@
 use Rattle.std.proofs.Common.{Err, ap, refl, subst, inl, inr}
 use Rattle.std.proofs.KnownBytes.{Keeps-refl}
 use Rattle.mw_causes.specs.declared.stop.Stop.TheVariants.{Memory}
-use Rattle.mw_words.specs.Lines.{AsksFor, generate_line, check_line, reach_line, new_room_line, drive_line}
+use Rattle.mw_words.specs.Lines.{AsksFor}
+use Rattle.mw_words.specs.declared.command_line.CommandLine.TheVariants.{Generate, Check, Reach, NewRoom, Drive}
 use Rattle.mw_offline.proofs.Driving.{unstarted}
 use Rattle.mw_words.proofs.Asking.{asks_one}
 use Rattle.mw_cli.proofs.run.run.Goals as goal
 
 pub returns-in-Ok-clause-generate : goal.returns-in-Ok-clause-generate
-returns-in-Ok-clause-generate g c = λ wanted is. rw (asks_one c.args.words.now c.in-Ok.line (generate_line wanted) c.in-Ok.ensures.ok is) at c.run_line.ensures.ends
+returns-in-Ok-clause-generate g c = λ wanted is. rw (asks_one c.args.words.now c.in-Ok.line (Generate wanted) c.in-Ok.ensures.ok is) at c.run_line.ensures.ends
 
 pub returns-in-Ok-clause-check : goal.returns-in-Ok-clause-check
-returns-in-Ok-clause-check g c = λ asked is. rw (asks_one c.args.words.now c.in-Ok.line (check_line asked) c.in-Ok.ensures.ok is) at c.run_line.ensures.ends
+returns-in-Ok-clause-check g c = λ asked is. rw (asks_one c.args.words.now c.in-Ok.line (Check asked) c.in-Ok.ensures.ok is) at c.run_line.ensures.ends
 
 pub returns-in-Ok-clause-reach : goal.returns-in-Ok-clause-reach
-returns-in-Ok-clause-reach g c = λ players is. rw (asks_one c.args.words.now c.in-Ok.line (reach_line players) c.in-Ok.ensures.ok is) at c.run_line.ensures.ends
+returns-in-Ok-clause-reach g c = λ players is. rw (asks_one c.args.words.now c.in-Ok.line (Reach (record { players = players })) c.in-Ok.ensures.ok is) at c.run_line.ensures.ends
 
 pub returns-in-Ok-clause-new_room : goal.returns-in-Ok-clause-new_room
-returns-in-Ok-clause-new_room g c = λ room is. rw (asks_one c.args.words.now c.in-Ok.line (new_room_line room) c.in-Ok.ensures.ok is) at c.run_line.ensures.ends
+returns-in-Ok-clause-new_room g c = λ room is. rw (asks_one c.args.words.now c.in-Ok.line (NewRoom room) c.in-Ok.ensures.ok is) at c.run_line.ensures.ends
 
 pub returns-in-Ok-clause-drive : goal.returns-in-Ok-clause-drive
-returns-in-Ok-clause-drive g c = λ files is. rw (asks_one c.args.words.now c.in-Ok.line (drive_line files) c.in-Ok.ensures.ok is) at c.run_line.ensures.ends
+returns-in-Ok-clause-drive g c = λ files is. rw (asks_one c.args.words.now c.in-Ok.line (Drive files) c.in-Ok.ensures.ok is) at c.run_line.ensures.ends
 
 pub returns-in-Err-BadWords-clause-generate : goal.returns-in-Err-BadWords-clause-generate
-returns-in-Err-BadWords-clause-generate g c = λ wanted is. absurd (c.in-Err-BadWords.ensures.bad (ap Err c.in-Err-BadWords.field-0-is) (generate_line wanted) is)
+returns-in-Err-BadWords-clause-generate g c = λ wanted is. absurd (c.in-Err-BadWords.ensures.bad (ap Err c.in-Err-BadWords.field-0-is) (Generate wanted) is)
 
 pub returns-in-Err-BadWords-clause-check : goal.returns-in-Err-BadWords-clause-check
-returns-in-Err-BadWords-clause-check g c = λ asked is. absurd (c.in-Err-BadWords.ensures.bad (ap Err c.in-Err-BadWords.field-0-is) (check_line asked) is)
+returns-in-Err-BadWords-clause-check g c = λ asked is. absurd (c.in-Err-BadWords.ensures.bad (ap Err c.in-Err-BadWords.field-0-is) (Check asked) is)
 
 pub returns-in-Err-BadWords-clause-reach : goal.returns-in-Err-BadWords-clause-reach
-returns-in-Err-BadWords-clause-reach g c = λ players is. absurd (c.in-Err-BadWords.ensures.bad (ap Err c.in-Err-BadWords.field-0-is) (reach_line players) is)
+returns-in-Err-BadWords-clause-reach g c = λ players is. absurd (c.in-Err-BadWords.ensures.bad (ap Err c.in-Err-BadWords.field-0-is) (Reach (record { players = players })) is)
 
 pub returns-in-Err-BadWords-clause-new_room : goal.returns-in-Err-BadWords-clause-new_room
-returns-in-Err-BadWords-clause-new_room g c = λ room is. absurd (c.in-Err-BadWords.ensures.bad (ap Err c.in-Err-BadWords.field-0-is) (new_room_line room) is)
+returns-in-Err-BadWords-clause-new_room g c = λ room is. absurd (c.in-Err-BadWords.ensures.bad (ap Err c.in-Err-BadWords.field-0-is) (NewRoom room) is)
 
 pub returns-in-Err-BadWords-clause-drive : goal.returns-in-Err-BadWords-clause-drive
-returns-in-Err-BadWords-clause-drive g c = λ files is. absurd (c.in-Err-BadWords.ensures.bad (ap Err c.in-Err-BadWords.field-0-is) (drive_line files) is)
+returns-in-Err-BadWords-clause-drive g c = λ files is. absurd (c.in-Err-BadWords.ensures.bad (ap Err c.in-Err-BadWords.field-0-is) (Drive files) is)
 
 pub returns-in-Err-Memory-clause-generate : goal.returns-in-Err-Memory-clause-generate
 returns-in-Err-Memory-clause-generate g c = λ _ _.

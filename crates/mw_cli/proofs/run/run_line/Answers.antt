@@ -2,23 +2,19 @@ use Rattle.mw_cli.proofs.run.run_line.Goals as goal
 
 pub returns-in-Generate-clause-same : goal.returns-in-Generate-clause-same
 returns-in-Generate-clause-same g c = λ none _ _.
-    let w = c.in-Generate.words in
-    absurd (none (record { players = w.players; out_name = w.out_name; seed = w.seed; tries = w.tries }) c.in-Generate.is)
+    absurd (none c.in-Generate.words c.in-Generate.is)
 
 pub returns-in-NewRoom-clause-same : goal.returns-in-NewRoom-clause-same
 returns-in-NewRoom-clause-same g c = λ _ none _.
-    let w = c.in-NewRoom.words in
-    absurd (none (record { multidata = w.multidata; journal = w.journal }) c.in-NewRoom.is)
+    absurd (none c.in-NewRoom.words c.in-NewRoom.is)
 
 pub returns-in-Drive-clause-input : goal.returns-in-Drive-clause-input
 returns-in-Drive-clause-input g c = λ none.
-    let w = c.in-Drive.words in
-    absurd (none (record { multidata = w.multidata; journal = w.journal }) c.in-Drive.is)
+    absurd (none c.in-Drive.words c.in-Drive.is)
 
 pub returns-in-Drive-clause-same : goal.returns-in-Drive-clause-same
 returns-in-Drive-clause-same g c = λ _ _ none.
-    let w = c.in-Drive.words in
-    absurd (none (record { multidata = w.multidata; journal = w.journal }) c.in-Drive.is)
+    absurd (none c.in-Drive.words c.in-Drive.is)
 
 pub returns-in-Generate-clause-ends : goal.returns-in-Generate-clause-ends
 returns-in-Generate-clause-ends g c = rw c.in-Generate.is c.cmd_generate.ensures.ends

@@ -3,7 +3,6 @@ use Rattle.std.proofs.KnownBytes.{Keeps-refl}
 use Rattle.std.proofs.lemmas.Result.{on_ok_weaker}
 use Rattle.std.specs.Io.KnownBytes.{Appends, Keeps}
 use Rattle.mw_edges.specs.Causes.{PutsFront, Rose}
-use Rattle.mw_words.specs.Commands.{asked_in}
 use Rattle.mw_offline.specs.Checking.{HasCheckCause, PutsFrontOfChecked}
 use Rattle.mw_causes.proofs.Endings.{left_exit, left_late}
 use Rattle.mw_offline.proofs.check_command.print_checked.Goals as goal
@@ -12,14 +11,14 @@ pub returns-in_err-text-clause-left : goal.returns-in_err-text-clause-left
 returns-in_err-text-clause-left g c =
     let files = g.F.Folder.holds c.args.folder.now in
     let held = g.O.Sink.held c.args.out.now in
-    left_exit (HasCheckCause files (g.F.Folder.may_fail c.args.folder.now) (asked_in c.args.words.now)) (Keeps held held) (PutsFrontOfChecked files (asked_in c.args.words.now) held held) (Rose (g.O.Sink.faults c.args.out.now) (g.O.Sink.faults c.args.out.now)) c.from_residual.result _ c.in_err-text.ensures.err (Keeps-refl held) c.from_residual.ensures.1
+    left_exit (HasCheckCause files (g.F.Folder.may_fail c.args.folder.now) c.args.words.now) (Keeps held held) (PutsFrontOfChecked files c.args.words.now held held) (Rose (g.O.Sink.faults c.args.out.now) (g.O.Sink.faults c.args.out.now)) c.from_residual.result _ c.in_err-text.ensures.err (Keeps-refl held) c.from_residual.ensures.1
 
 pub returns-clause-left : goal.returns-clause-left
 returns-clause-left g c =
     let files = g.F.Folder.holds c.args.folder.now in
     let old = g.O.Sink.held c.args.out.now in
     let new = g.O.Sink.held c.put_text.new.out in
-    left_late (HasCheckCause files (g.F.Folder.may_fail c.args.folder.now) (asked_in c.args.words.now)) (Keeps old new) (PutsFrontOfChecked files (asked_in c.args.words.now) old new) (Rose (g.O.Sink.faults c.args.out.now) (g.O.Sink.faults c.put_text.new.out)) c.put_text.result c.put_text.ensures.late c.put_text.ensures.front c.put_text.ensures.fault
+    left_late (HasCheckCause files (g.F.Folder.may_fail c.args.folder.now) c.args.words.now) (Keeps old new) (PutsFrontOfChecked files c.args.words.now old new) (Rose (g.O.Sink.faults c.args.out.now) (g.O.Sink.faults c.put_text.new.out)) c.put_text.result c.put_text.ensures.late c.put_text.ensures.front c.put_text.ensures.fault
     (λ front. (string_bytes c.in_ok-text.text, c.in_ok-text.ensures.ok, subst (PutsFront old new) c.as_str.ensures.value front))
 
 pub returns-clause-done : goal.returns-clause-done

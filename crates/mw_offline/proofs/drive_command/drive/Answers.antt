@@ -1,6 +1,5 @@
 use Rattle.std.proofs.Common.{Err, ap, inl}
 use Rattle.mw_multidata.specs.Digest.{digest_of}
-use Rattle.mw_words.specs.Commands.{drive_files}
 use Rattle.mw_offline.specs.Driving.{run_of}
 use Rattle.mw_offline.specs.FilesAround.{files_around}
 use Rattle.mw_causes.specs.declared.drive_cause.DriveCause.TheVariants.{SeedFile}
@@ -16,7 +15,7 @@ returns-in_err-seed-clause-stopped g c =
     let files = files_around F.holds F.images F.is_open F.may_fail F.faults first second in
     let read = c.in_err-seed.ensures in
     let unmoved : AreUnmoved files = record { each = λ n. record { told = read.same n; crash = read.crash n }; opened = read.opened } in
-    seed_exit g.S.Source.left files (drive_files c.args.words.now) c.args.input.now (g.O.Sink.held c.args.out.now) c.from_residual.result _ read.err unmoved c.from_residual.ensures.1
+    seed_exit g.S.Source.left files c.args.words.now c.args.input.now (g.O.Sink.held c.args.out.now) c.from_residual.result _ read.err unmoved c.from_residual.ensures.1
 
 pub returns-in_err-seed-clause-kept : goal.returns-in_err-seed-clause-kept
 returns-in_err-seed-clause-kept g c =
@@ -26,7 +25,7 @@ returns-in_err-seed-clause-kept g c =
     let files = files_around F.holds F.images F.is_open F.may_fail F.faults first second in
     let read = c.in_err-seed.ensures in
     let unmoved : AreUnmoved files = record { each = λ n. record { told = read.same n; crash = read.crash n }; opened = read.opened } in
-    unmoved_all files unmoved (drive_files c.args.words.now) (g.O.Sink.held c.args.out.now)
+    unmoved_all files unmoved c.args.words.now (g.O.Sink.held c.args.out.now)
 
 pub returns-in_err-seed-clause-leaves : goal.returns-in_err-seed-clause-leaves
 returns-in_err-seed-clause-leaves g c =
@@ -47,7 +46,7 @@ returns-in_err-drive_room-clause-stopped g c =
     let first = c.args.folder.now in
     let second = c.read_seed_bytes.new.folder in
     let last = c.drive_room.new.folder in
-    let named = drive_files c.args.words.now in
+    let named = c.args.words.now in
     let old = g.O.Sink.held c.args.out.now in
     let new = g.O.Sink.held c.drive_room.new.out in
     let from = c.args.input.now in
@@ -66,7 +65,7 @@ returns-in_err-drive_room-clause-kept g c =
     let first = c.args.folder.now in
     let second = c.read_seed_bytes.new.folder in
     let last = c.drive_room.new.folder in
-    let named = drive_files c.args.words.now in
+    let named = c.args.words.now in
     let old = g.O.Sink.held c.args.out.now in
     let new = g.O.Sink.held c.drive_room.new.out in
     let files = files_around F.holds F.images F.is_open F.may_fail F.faults first last in
@@ -81,7 +80,7 @@ returns-in_err-drive_room-clause-leaves g c =
     let first = c.args.folder.now in
     let second = c.read_seed_bytes.new.folder in
     let last = c.drive_room.new.folder in
-    let named = drive_files c.args.words.now in
+    let named = c.args.words.now in
     let read = c.in_ok-seed.ensures in
     leaves_since F.holds F.images F.is_open F.may_fail F.faults first second last read.same read.crash named.journal read.opened c.in_err-drive_room.ensures.leaves
 
@@ -97,7 +96,7 @@ returns-clause-done g c =
     let first = c.args.folder.now in
     let second = c.read_seed_bytes.new.folder in
     let last = c.drive_room.new.folder in
-    let named = drive_files c.args.words.now in
+    let named = c.args.words.now in
     let old = g.O.Sink.held c.args.out.now in
     let new = g.O.Sink.held c.drive_room.new.out in
     let from = c.args.input.now in
@@ -118,7 +117,7 @@ returns-clause-kept g c =
     let first = c.args.folder.now in
     let second = c.read_seed_bytes.new.folder in
     let last = c.drive_room.new.folder in
-    let named = drive_files c.args.words.now in
+    let named = c.args.words.now in
     let old = g.O.Sink.held c.args.out.now in
     let new = g.O.Sink.held c.drive_room.new.out in
     let files = files_around F.holds F.images F.is_open F.may_fail F.faults first last in
@@ -133,6 +132,6 @@ returns-clause-leaves g c =
     let first = c.args.folder.now in
     let second = c.read_seed_bytes.new.folder in
     let last = c.drive_room.new.folder in
-    let named = drive_files c.args.words.now in
+    let named = c.args.words.now in
     let read = c.in_ok-seed.ensures in
     leaves_since F.holds F.images F.is_open F.may_fail F.faults first second last read.same read.crash named.journal read.opened c.in_ok-drive_room.ensures.leaves

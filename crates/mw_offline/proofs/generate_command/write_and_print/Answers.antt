@@ -5,7 +5,6 @@ use Rattle.std.specs.Io.KnownBytes.{Appends}
 use Rattle.mw_edges.specs.Causes.{PutsFront, Rose}
 use Rattle.mw_edges.specs.Folders.{IsWritten}
 use Rattle.mw_causes.specs.Ends.{HasLeft, told_by}
-use Rattle.mw_words.specs.Commands.{wanted_in}
 use Rattle.mw_offline.specs.Generating.{wrote_by, HasGenerateCause, Untouched, WritesSome, HasFailed}
 use Rattle.mw_causes.proofs.Endings.{passed_exit, fault_passed, left_exit, left_late, left_some}
 use Rattle.mw_offline.proofs.generate_command.write_and_print.Goals as goal
@@ -13,7 +12,7 @@ use Rattle.mw_offline.proofs.generate_command.write_and_print.Goals as goal
 pub returns-in_err-made-clause-left : goal.returns-in_err-made-clause-left
 returns-in_err-made-clause-left g c =
     let holds = g.F.Folder.holds in
-    let wanted = wanted_in c.args.words.now in
+    let wanted = c.args.words.now in
     let wrote = wrote_by holds g.F.Folder.may_fail g.F.Folder.refusals c.args.folder.now c.prepare.new.folder in
     let held = g.O.Sink.held c.args.out.now in
     left_exit (HasGenerateCause (holds c.args.folder.now) (g.F.Folder.may_fail c.args.folder.now) wanted) (Untouched wrote held held) (WritesSome wrote wanted held held) (HasFailed wrote (told_by g.O.Sink.held g.O.Sink.faults c.args.out.now c.args.out.now)) c.from_residual.result _ c.in_err-made.ensures.err
@@ -22,7 +21,7 @@ returns-in_err-made-clause-left g c =
 pub returns-in_err-write_out-clause-left : goal.returns-in_err-write_out-clause-left
 returns-in_err-write_out-clause-left g c =
     let holds = g.F.Folder.holds in
-    let wanted = wanted_in c.args.words.now in
+    let wanted = c.args.words.now in
     let wrote = wrote_by holds g.F.Folder.may_fail g.F.Folder.refusals c.args.folder.now c.write_out.new.folder in
     let held = g.O.Sink.held c.args.out.now in
     let why = HasGenerateCause (holds c.args.folder.now) (g.F.Folder.may_fail c.args.folder.now) wanted in
@@ -50,7 +49,7 @@ pub returns-clause-left : goal.returns-clause-left
 returns-clause-left g c =
     let holds = g.F.Folder.holds in
     let w = c.args.words.now in
-    let wanted = wanted_in w in
+    let wanted = w in
     let wrote = wrote_by holds g.F.Folder.may_fail g.F.Folder.refusals c.args.folder.now c.write_out.new.folder in
     let old = g.O.Sink.held c.args.out.now in
     let new = g.O.Sink.held c.put_text.new.out in

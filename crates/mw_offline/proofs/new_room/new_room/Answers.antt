@@ -1,6 +1,5 @@
 use Rattle.std.proofs.Common.{◌⊎◌, Err, ap, inl, inr, arith}
 use Rattle.mw_edges.specs.Causes.{Rose}
-use Rattle.mw_words.specs.Commands.{room_in}
 use Rattle.mw_offline.proofs.NewRooms.{bytes_read, journal_exit, room_done, room_left}
 use Rattle.mw_offline.proofs.new_room.new_room.Goals as goal
 
@@ -13,7 +12,7 @@ returns-in_err-make_journal-clause-left g c =
     let read = c.in_ok-digest.ensures in
     let made = c.in_err-make_journal.ensures in
     let r = c.from_residual-in_err-make_journal in
-    journal_exit F.holds F.images F.is_open F.may_fail F.faults first c.read_digest.new.folder last read.same (room_in c.args.words.now) c.in_ok-digest.digest read.ok read.crash (g.O.Sink.held out)
+    journal_exit F.holds F.images F.is_open F.may_fail F.faults first c.read_digest.new.folder last read.same c.args.words.now c.in_ok-digest.digest read.ok read.crash (g.O.Sink.held out)
     (Rose (F.faults first) (F.faults last) ⊎ Rose (g.O.Sink.faults out) (g.O.Sink.faults out)) r.result _ made.refused made.kept
     (λ e. inl (omega (arith, read.later, made.fault (ap Err e)))) r.ensures.1
 
@@ -34,7 +33,7 @@ returns-clause-done g c =
     let F = g.F.Folder in
     let read = c.in_ok-digest.ensures in
     let made = c.in_ok-make_journal.ensures in
-    room_done F.holds F.images F.is_open F.may_fail F.faults c.args.folder.now c.read_digest.new.folder c.make_journal.new.folder read.same (room_in c.args.words.now) c.in_ok-digest.digest read.ok made.empty made.ok
+    room_done F.holds F.images F.is_open F.may_fail F.faults c.args.folder.now c.read_digest.new.folder c.make_journal.new.folder read.same c.args.words.now c.in_ok-digest.digest read.ok made.empty made.ok
     (g.O.Sink.held c.args.out.now) (g.O.Sink.held c.put_text.new.out) c.put_text.result c.put_text.ensures.done
 
 pub returns-clause-left : goal.returns-clause-left
@@ -44,6 +43,6 @@ returns-clause-left g c =
     let last = c.make_journal.new.folder in
     let read = c.in_ok-digest.ensures in
     let made = c.in_ok-make_journal.ensures in
-    room_left F.holds F.images F.is_open F.may_fail F.faults first c.read_digest.new.folder last read.same (room_in c.args.words.now) c.in_ok-digest.digest read.ok made.empty made.ok
+    room_left F.holds F.images F.is_open F.may_fail F.faults first c.read_digest.new.folder last read.same c.args.words.now c.in_ok-digest.digest read.ok made.empty made.ok
     (g.O.Sink.held c.args.out.now) (g.O.Sink.held c.put_text.new.out)
     (Rose (F.faults first) (F.faults last) ⊎ Rose (g.O.Sink.faults c.args.out.now) (g.O.Sink.faults c.put_text.new.out)) c.put_text.result c.put_text.ensures.late c.put_text.ensures.front (λ e. inr (c.put_text.ensures.fault e))

@@ -2,7 +2,7 @@ use Rattle.std.proofs.Common.{is_lt, map, nat_cmp, rules, sym, subst}
 use Rattle.std.specs.Cmp.Lexicographic.{slice_cmp}
 use Rattle.std.proofs.lemmas.Cmp.{nat_list_cmp_total}
 use Rattle.std.proofs.lemmas.List.Sorted.{answers_always, ranks_by}
-use Rattle.mw_multidata.specs.Ascending.{NamesAscend}
+use Rattle.mw_model.specs.Ascending.{NamesAscend}
 use Rattle.mw_multidata.specs.SeedKept.{game_name}
 use Rattle.mw_seeds.proofs.Sorting.{games_ascend}
 use Rattle.mw_seeds.proofs.seed_games.sorted_games.Goals as goal
