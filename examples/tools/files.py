@@ -1,0 +1,64 @@
+"""What the tools read: players files with their worlds, and seed files."""
+import json
+import sys
+
+
+def stop(line):
+    """Ends the tool with a line on the error output."""
+    print(line, file=sys.stderr)
+    sys.exit(2)
+
+
+def read_json(name):
+    try:
+        with open(name, encoding="utf-8") as file:
+            return json.load(file)
+    except OSError as error:
+        stop("%s: %s" % (name, error.strerror))
+    except ValueError as error:
+        stop("%s: no JSON: %s" % (name, error))
+
+
+def read_tables(name):
+    """A players file, and each world file that it names, read from the folder in which the tool runs."""
+    players = read_json(name)
+    worlds = {}
+    for player in players["players"]:
+        if player["world"] not in worlds:
+            worlds[player["world"]] = read_json(player["world"])
+    return players, worlds
+
+
+class SeedNames:
+    """The names in a seed file: of slots, and of the items and locations of their games."""
+
+    def __init__(self, seed):
+        self.slots = seed["slots"]
+        self.items = {}
+        self.locations = {}
+        self.location_ids = {}
+        for game, tables in seed["games"].items():
+            self.items[game] = {number: name for name, number in tables["item_name_to_id"].items()}
+            self.locations[game] = {number: name for name, number in tables["location_name_to_id"].items()}
+            self.location_ids[game] = tables["location_name_to_id"]
+
+    def game(self, slot):
+        return self.slots[slot - 1]["game"]
+
+    def player(self, slot, team=0):
+        return self.slots[slot - 1]["names"][team]
+
+    def item(self, receiver, number):
+        """The name of an item that a slot receives."""
+        return self.items[self.game(receiver)].get(number, str(number))
+
+    def location(self, finder, number):
+        """The name of a location of a slot."""
+        return self.locations[self.game(finder)].get(number, str(number))
+
+    def find(self, name):
+        """The team and the slot of a player's name, and None where nobody has it."""
+        for slot, entry in enumerate(self.slots, 1):
+            if name in entry["names"]:
+                return entry["names"].index(name), slot
+        return None
