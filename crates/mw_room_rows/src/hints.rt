@@ -158,24 +158,25 @@ fn hints_cost_points(rt: HostRuntime) -> Result<(), Fail> {
 #[test]
 fn points_are_what_checks_leave(rt: HostRuntime) -> Result<(), Fail> {
     let room = room_of(rt.alloc(), true, ann())?;
-    let checked = room.log.checked_len(team(), ann());
+    let (team, slot) = (team(), ann());
+    let checked = room.log.checked_len(team, slot);
     fine(&[
         (
             "Bob's two",
-            room.book.points_once(team(), bob(), 2, 0, &room.log) == Ok(2),
+            room.book.points_once(team, bob(), 2, 0, &room.log) == Ok(2),
         ),
         ("Ann's two", checked == 2),
         (
             "what they leave her",
-            room.book.points(team(), ann(), checked, &room.log) == 1,
+            room.book.points(team, slot, checked, &room.log) == 1,
         ),
         (
             "Ann's none",
-            room.book.points_once(team(), ann(), 0, 0, &room.log) == Ok(0),
+            room.book.points_once(team, slot, 0, 0, &room.log) == Ok(0),
         ),
         (
             "one hint more",
-            room.book.points_once(team(), ann(), 2, 1, &room.log) == Ok(0),
+            room.book.points_once(team, slot, 2, 1, &room.log) == Ok(0),
         ),
     ])
 }
