@@ -1,7 +1,8 @@
 #!/usr/bin/env bash
-# Prints the time (passed, and of the processor) and memory of `drive` on a journal with 1,000,000 checks and an empty script, which recovers it; of 2,000 checks on a journal,
-# each made safe by two syncs, and of the same in memory; of one check on a journal that is full; and counts what comes back where a run is killed at a random moment: each run of a script of checks, each followed by a
+# Prints the time (passed, and of the processor) and memory of `drive` on a journal with 1,000,000 checks and an empty script, which recovers it; of 2,000 checks on a journal
+# with a take after each, after each fiftieth and after the last, with the syncs that it made, and of the same in memory; of one check on a journal that is full; and counts what comes back where a run is killed at a random moment: each run of a script of checks, every third followed by a
 # take, is killed, and the next one must find every check that a taken message showed. How many runs is the first argument, 1,000 without one.
+# Before these it runs a second program on a journal that a first one plays on, and says what happened: the second ends with status 5 and changes nothing, and the first goes on.
 # Run after `rt run` in crates/mw_cli, which leaves the program.
 set -eu
 cd "$(dirname "$0")/.."
@@ -52,10 +53,25 @@ connect = '[{"cmd":"Connect","game":"G","items_handling":7,"name":"P1","tags":["
 check = 'text 1 [{"cmd":"LocationChecks","locations":[%d]}]\n'
 
 write_seed("small.json", 2, 2000)
-script = "open\ntext 1 %s\n" % connect + "".join(check % n for n in range(1, 2001)) + "take 1\n"
-print("2,000 checks in memory:", drive(["small.json"], script))
-subprocess.run([program, "new-room", path("small.json"), path("small.journal")], check=True, stdout=subprocess.DEVNULL)
-print("2,000 checks on a journal:", drive(["small.json", "small.journal"], script))
+def checks(each):
+    """2,000 checks with a take after so many of them each."""
+    return "open\ntext 1 %s\n" % connect + "".join(check % n + ("take 1\n" if n % each == 0 else "") for n in range(1, 2001))
+
+def batches(name):
+    """How many batches a journal has: each was made safe by two syncs."""
+    with open(path(name), "rb") as f:
+        text = f.read()
+    place, count = 40, 0
+    while text[place] == 1:
+        place, count = place + 5 + struct.unpack(">I", text[place + 1:place + 5])[0], count + 1
+    return count
+
+print("2,000 checks in memory, a take after each fiftieth:", drive(["small.json"], checks(50)))
+for each in (1, 50, 2000):
+    subprocess.run([program, "new-room", path("small.json"), path("small.journal")], check=True, stdout=subprocess.DEVNULL)
+    told = drive(["small.json", "small.journal"], checks(each))
+    print("2,000 checks on a journal, a take after each %d: %s; %d syncs in appends" % (each, told, 2 * batches("small.journal")))
+    os.remove(path("small.journal"))
 write_seed("large.json", 100, 10000)
 print("a seed file of %d MB, in memory:" % (os.path.getsize(path("large.json")) // 1000000), drive(["large.json"], ""))
 write_journal("large.journal", "large.json", ((s, n) for s in range(1, 101) for n in range(1, 10001)))
@@ -78,8 +94,35 @@ def write_full_journal(name, seed):
         f.write(b"\x00")
 
 write_full_journal("full.journal", "small.json")
-print("a full journal of %d bytes:" % os.path.getsize(path("full.journal")), drive(["small.json", "full.journal"], "open\ntext 1 %s\n" % connect + check % 1))
+print("a full journal of %d bytes:" % os.path.getsize(path("full.journal")), drive(["small.json", "full.journal"], "open\ntext 1 %s\n" % connect + check % 1 + "commit\n"))
 os.remove(path("full.journal"))
+
+def run_with(words, script):
+    """A run to its end: its status, its output and its error line."""
+    done = subprocess.run([program] + words[:1] + [path(w) for w in words[1:]], input=script.encode(), stdout=subprocess.PIPE, stderr=subprocess.PIPE)
+    return done.returncode, done.stdout, done.stderr
+
+def content(name):
+    with open(path(name), "rb") as f:
+        return f.read()
+
+def is_locked(name):
+    """Whether some program has the file's lock."""
+    with open("/proc/locks") as f:
+        return ":%d " % os.stat(path(name)).st_ino in f.read()
+
+run_with(["new-room", "small.json", "shared.journal"], "")
+first_run = subprocess.Popen([program, "drive", path("small.json"), path("shared.journal")], stdin=subprocess.PIPE, stdout=subprocess.PIPE)
+while not is_locked("shared.journal") and first_run.poll() is None:
+    time.sleep(0.01)
+kept = content("shared.journal")
+beside = [run_with([command, "small.json", "shared.journal"], "") for command in ("drive", "new-room")]
+is_refused = beside == [(5, b"", b"device failed\n")] * 2 and content("shared.journal") == kept
+shown_by_first = first_run.communicate(("open\ntext 1 %s\n" % connect + check % 1 + "take 1\n").encode())[0]
+goes_on = first_run.returncode == 0 and b'"checked_locations":[1]' in shown_by_first
+status, found, _ = run_with(["drive", "small.json", "shared.journal"], "open\ntext 1 %s\ntake 1\n" % connect)
+is_found = status == 0 and b'"checked_locations":[1]' in found
+print("two programs on one journal: the second %s; the first %s; its check %s found afterwards" % ("ends with status 5 and changes nothing" if is_refused else "was answered %s" % beside, "goes on" if goes_on else "ended with status %s" % first_run.returncode, "is" if is_found else "isn't"))
 
 found_first = re.compile(r'"checked_locations":\[([0-9,]*)\],"cmd":"Connected"')
 shown_later = re.compile(r'"checked_locations":\[([0-9,]*)\],"cmd":"RoomUpdate"')
@@ -88,7 +131,7 @@ shown, next_check, losses, extra = set(), 1, 0, 0
 write_seed("killed.json", 2, 10000)
 subprocess.run([program, "new-room", path("killed.json"), path("killed.journal")], check=True, stdout=subprocess.DEVNULL)
 for run in range(kills):
-    lines = "open\ntext 1 %s\ntake 1\n" % connect + "".join(check % n + "take 1\n" for n in range(next_check, min(next_check + 400, 10001)))
+    lines = "open\ntext 1 %s\ntake 1\n" % connect + "".join(check % n + ("take 1\n" if n % 3 == 0 else "") for n in range(next_check, min(next_check + 400, 10001)))
     with open(path("script"), "w") as f:
         f.write(lines)
     with open(path("output"), "wb") as out, open(path("script")) as given:

@@ -3,3 +3,4 @@ pub mod Unread
 pub mod Reading
 pub mod TableCauses
 pub mod SeedReading
+pub mod OneMeaning

@@ -68,3 +68,15 @@ abbrev pub Ends : {C : Type 0} → (C → ℕ) → (C → List ℕ) → (Stop C 
 Ends {C = C} status_of line_of why nothing some failed done status told =
     ((status ≡ 0) × done × Keeps told.old told.new)
     ⊎ ((stop : Stop C) × Stops status_of line_of why nothing some failed stop status told)
+
+-- ---- words that are no command
+
+-- the line for words that are no command
+abbrev pub bad_words : List ℕ
+bad_words = codes "bad words\n"
+
+-- words that are no command are told of as such, but where memory runs out before that is seen
+abbrev pub RefusalEnds : ℕ → Told → Type 0
+RefusalEnds status told =
+    ((status ≡ 2) × IsTold told bad_words)
+    ⊎ ((status ≡ 6) × IsTold told (codes "no memory\n"))

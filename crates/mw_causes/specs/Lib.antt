@@ -1,5 +1,6 @@
 pub mod Ends
 pub mod Tables
+pub mod Wrote
 pub mod SeedFiles
 pub mod GenerateCauses
 pub mod CheckCauses

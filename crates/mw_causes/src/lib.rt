@@ -22,4 +22,4 @@ pub use seed_cause::SeedCause;
 pub use stop::{Cause, Stop, end};
 pub use table_cause::TableCause;
 pub use tables::{Tables, join, read_tables};
-pub use telling::{end_without_memory, put_text, tell};
+pub use telling::{end_without_memory, put_file, put_text, tell};

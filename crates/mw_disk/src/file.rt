@@ -5,13 +5,16 @@ ghost use Rattle.mw_disk.specs.System.{file_faults};
 
 use crate::disk::{Disk, DiskError};
 use crate::tally::Tally;
-use std::fs::{OpenFile, OpenOptions};
+use std::fs::{File, OpenFile, OpenOptions};
 use std::io::{ErrorKind, Read, Seek, SeekFrom, Write};
 use std::path::Path;
 use std::rt::Files;
 use std::{fs, io};
 
 /// A file of the system as a disk. It tells no bytes, and so nothing of crashes.
+///
+/// It has the system's lock of the whole file (`flock`) until it is dropped, so that no other
+/// program opens the file as a disk meanwhile.
 ///
 /// A sync is the system's own (`fsync`). Where the file was made, its first sync is also one of its
 /// folder. Once a sync has failed, every later write, cut and sync fails: the system may have
@@ -55,13 +58,37 @@ fn open_or_make<R: Files>(rt: &R, name: &str) -> io::Result<(R::File, Option<R::
     }
 }
 
+/// Takes the lock of the whole file for this opening of it, and waits for nobody. Where the file
+/// system has no locks it takes none.
+fn lock_whole(file: &File) -> io::Result<()> {
+    let Err(refusal) = file.try_lock() else {
+        return Ok(());
+    };
+    let error = io::Error::from(refusal);
+    if error.kind() == ErrorKind::Unsupported {
+        return Ok(());
+    }
+    Err(error)
+}
+
+/// Opens a file to read and write, or makes it, and takes its lock.
+fn open_locked<R: Files<File = File>>(rt: &R, name: &str) -> io::Result<(File, Option<File>)> {
+    let (file, folder) = open_or_make(rt, name)?;
+    lock_whole(&file)?;
+    Ok((file, folder))
+}
+
 /// Opens the file of a name, or makes it, empty. The disk has not failed yet.
 ///
-/// After an error a file that wasn't there may be there, empty.
-pub fn open_file_disk<R: Files>(rt: &R, name: &str) -> Result<FileDisk<R::File>, DiskError>
+/// `Failed` also where another disk has the file open, of this program or another one. After an
+/// error a file that wasn't there may be there, empty.
+pub fn open_file_disk<R: Files<File = File>>(
+    rt: &R,
+    name: &str,
+) -> Result<FileDisk<File>, DiskError>
     ensures { IfOk result (λ d. file_faults d ≡ 0) }
 {
-    match open_or_make(rt, name) {
+    match open_locked(rt, name) {
         Ok((file, folder)) => Ok(FileDisk {
             file,
             folder,

@@ -47,7 +47,7 @@ module _ {D : Type 0} (may_leave : D → List ℕ → Type 0) (faults : D → �
   pub record AreLeft (first : Life) (before k : KeptRoom D) (met : Bool) (left all : List Call) : Type 0 where
     pub now : Life
     pub keeps : Keeps may_leave digest now k
-    pub going : IsGoing seed now
+    pub going : IsGoing seed now k
     pub steps : List Step
     pub is_now : now ≡ after_all first steps
     pub through : life_through now left ≡ life_through first all
@@ -55,7 +55,7 @@ module _ {D : Type 0} (may_leave : D → List ℕ → Type 0) (faults : D → �
     pub stops : stop now left ≡ stop first all
     pub later : faults (kept_disk before) ≤ faults (kept_disk k)
 
-  pub at_first : (first : Life) (before : KeptRoom D) (all : List Call) → Keeps may_leave digest first before → IsGoing seed first → AreLeft first before before false all all
+  pub at_first : (first : Life) (before : KeptRoom D) (all : List Call) → Keeps may_leave digest first before → IsGoing seed first before → AreLeft first before before false all all
   at_first first before all keeps going =
       record { now = first; keeps = keeps; going = going; steps = []; is_now = refl; through = refl; meets = refl; stops = refl; later = omega arith }
 
@@ -83,7 +83,7 @@ module _ {D : Type 0} (may_leave : D → List ℕ → Type 0) (faults : D → �
     meets = sym (or_none met) ∙ l.meets;
     goes = sym l.stops;
     keeps = subst (λ x. Keeps may_leave digest x k) l.through l.keeps;
-    going = subst (IsGoing seed) l.through l.going;
+    going = subst (λ x. IsGoing seed x k) l.through l.going;
   }
 
   -- a call that stops
@@ -92,7 +92,6 @@ module _ {D : Type 0} (may_leave : D → List ℕ → Type 0) (faults : D → �
   one_stops first before k then met call left all error l h = record {
     steps = l.steps ++ h.steps;
     keeps = subst (λ x. Keeps may_leave digest x then) (ap (λ n. after_all n h.steps) l.is_now ∙ sym (all_after l.steps first h.steps)) h.keeps;
-    outside = h.outside;
     full = λ is. sym l.stops ∙ or_first (is_stopped (reply_to l.now call fine)) (stop (life_after l.now call fine) left) (or_parts (is_stopped (reply_to l.now call fine)) (h.full is));
     fault = λ is. omega (arith, h.fault is, l.later);
   }

@@ -4,7 +4,7 @@ use Rattle.std.specs.Option.{is_some}
 use Rattle.std.specs.Prelude.{nat_le, unwrap_or}
 use Rattle.mw_model.specs.Seed.{Seed}
 use Rattle.mw_protocol.specs.Connecting.{Member}
-use Rattle.mw_protocol.specs.Lives.{Life, Call, happens, takes as take_call, Reply, messages, overrun as was_overrun, stopped, too_many_calls, Outcome, passes, lacks, stops, fine, refused_by, refused_to, reply_of, reply_to, reply_unless, outcome}
+use Rattle.mw_protocol.specs.Lives.{Life, Call, happens, takes as take_call, Reply, messages, overrun as was_overrun, stopped, too_many_calls, Outcome, passes, lacks, stops, fine, append_of, refused_by, refused_to, reply_of, reply_to, reply_unless, outcome}
 use Rattle.mw_protocol.specs.Packets.{Inbound}
 use Rattle.mw_protocol.specs.Rooms.{Room, Session, Message, lost, text_of, session_in, member_in, untaken_of}
 use Rattle.mw_keep.specs.Keeps.{Keeps}
@@ -16,6 +16,7 @@ use Rattle.mw_drive.specs.Left.{IsGoing}
 use Rattle.mw_drive.specs.declared.error.DriveError.{DriveError}
 use Rattle.mw_drive.specs.declared.error.DriveError.TheVariants.{Memory}
 use Rattle.mw_drive.proofs.Calling.{call_step, through_steps}
+use Rattle.mw_drive.proofs.Taking.{never_lacks}
 
 -- ---- texts
 
@@ -70,11 +71,11 @@ module _ {D : Type 0} (may_leave : D → List ℕ → Type 0) (faults : D → �
         is_text = is_text;
         whole = ap (stop life) is ∙ are.goes;
         keeps = subst (λ l. Keeps may_leave digest l k) then are.keeps;
-        going = subst (IsGoing seed) then are.going;
+        going = subst (λ l. IsGoing seed l k) then are.going;
       }
 
   -- one that makes no call
-  pub performed_none : (text : List ℕ) (k : KeptRoom D) → Keeps may_leave digest life k → IsGoing seed life → calls life c ≡ [] → text ≡ text_put (puts life c)
+  pub performed_none : (text : List ℕ) (k : KeptRoom D) → Keeps may_leave digest life k → IsGoing seed life k → calls life c ≡ [] → text ≡ text_put (puts life c)
       → IsPerformed may_leave digest seed life c text k
   performed_none text k keeps going is is_text =
       performed_by [] false text k is record { meets = refl; goes = refl; keeps = keeps; going = going } is_text
@@ -90,7 +91,6 @@ module _ {D : Type 0} (may_leave : D → List ℕ → Type 0) (faults : D → �
   lacks_memory cs life_then before k is keeps = record {
     steps = map call_step cs;
     keeps = subst (λ l. Keeps may_leave digest l k) (is ∙ through_steps cs life) keeps;
-    outside = tt;
     full = λ e. cc;
     fault = λ e. cc;
   }
@@ -137,11 +137,14 @@ ended_by false false room number lacks = refl
 ended_by false false room number (stops cause) = refl
 
 -- what a session that takes is answered, where the room goes on
-taken_by_cases : (many over : Bool) (texts : List (List ℕ)) (r : Reply) → r ≡ reply_unless (cond many (Some (stopped (too_many_calls (2 ^ 63)))) (cond (over && true) (Some was_overrun) None)) (messages texts) → is_stopped r ≡ false
-    → ((texts_in r ≡ Some texts) × (is_overrun r ≡ false)) ⊎ ((texts_in r ≡ None) × (is_overrun r ≡ true))
-taken_by_cases true over texts r is goes = let clash : is_stopped r ≡ true = ap is_stopped is in cc
-taken_by_cases false true texts r is goes = inr (ap texts_in is, ap is_overrun is)
-taken_by_cases false false texts r is goes = inl (ap texts_in is, ap is_overrun is)
+taken_by_cases : (many over : Bool) (room : Room) (session : ℕ) (o : Outcome) → (o ≡ lacks → ⊥) → (r : Reply)
+    → r ≡ reply_unless (cond many (Some (stopped (too_many_calls (2 ^ 63)))) (cond (over && true) (Some was_overrun) None)) (reply_of room (take_call session) o) → is_stopped r ≡ false
+    → ((texts_in r ≡ Some (map text_of (untaken_of (session_in room.sessions session)))) × (is_overrun r ≡ false)) ⊎ ((texts_in r ≡ None) × (is_overrun r ≡ true))
+taken_by_cases true over room session o never r is goes = let clash : is_stopped r ≡ true = ap is_stopped is in cc
+taken_by_cases false true room session o never r is goes = inr (ap texts_in is, ap is_overrun is)
+taken_by_cases false false room session passes never r is goes = inl (ap texts_in is, ap is_overrun is)
+taken_by_cases false false room session lacks never r is goes = absurd (never refl)
+taken_by_cases false false room session (stops cause) never r is goes = let clash : is_stopped r ≡ true = ap is_stopped is in cc
 
 module _ (life : Life) (session : ℕ) (s : Session) (found : session_in life.room.sessions session ≡ Some s) (going : life.stopped ≡ None) where
   refusal_is : (ending : Bool) → refused_by life.stopped life.calls (refused_to ending (session_in life.room.sessions session))
@@ -156,8 +159,8 @@ module _ (life : Life) (session : ℕ) (s : Session) (found : session_in life.ro
   pub take_reply : is_stopped (reply_to life (take_call session) fine) ≡ false
       → ((texts_in (reply_to life (take_call session) fine) ≡ Some (map text_of (untaken_of (session_in life.room.sessions session)))) × (is_overrun (reply_to life (take_call session) fine) ≡ false))
       ⊎ ((texts_in (reply_to life (take_call session) fine) ≡ None) × (is_overrun (reply_to life (take_call session) fine) ≡ true))
-  take_reply goes = taken_by_cases (nat_le (2 ^ 63) life.calls) s.overrun (map text_of (untaken_of (session_in life.room.sessions session))) (reply_to life (take_call session) fine)
-      (ap (λ o. reply_unless o (messages (map text_of (untaken_of (session_in life.room.sessions session))))) (refusal_is false)) goes
+  take_reply goes = taken_by_cases (nat_le (2 ^ 63) life.calls) s.overrun life.room session (outcome life (take_call session) fine) (never_lacks life.place (append_of life (take_call session))) (reply_to life (take_call session) fine)
+      (ap (λ o. reply_unless o (reply_of life.room (take_call session) (outcome life (take_call session) fine))) (refusal_is false)) goes
 
 some_session : (o : Option Session) → is_some o ≡ true → (s : Session) × (o ≡ Some s)
 some_session None h = cc

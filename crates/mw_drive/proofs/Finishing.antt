@@ -1,24 +1,26 @@
 -- How a run of commands ends.
-use Rattle.std.proofs.Common.{◌≡◌, ◌∙◌, ℕ, Bool, true, false, List, [], ◌∷◌, ◌++◌, Option, refl, sym, ap, subst, append_assoc, append-nil}
+use Rattle.std.proofs.Common.{◌≡◌, ◌∙◌, ℕ, Bool, true, false, List, [], ◌∷◌, ◌++◌, Option, map, refl, sym, ap, subst, inl, inr, append_assoc, append-nil, true≢false}
 use Rattle.std.proofs.KnownBytes.{Appends-trans}
 use Rattle.std.proofs.lemmas.List.Elements.{All-append}
 use Rattle.std.specs.Io.KnownBytes.{Appends}
 use Rattle.std.specs.Prelude.{All}
 use Rattle.mw_edges.specs.Causes.{PutsFront}
 use Rattle.mw_model.specs.Seed.{Seed}
-use Rattle.mw_protocol.specs.Lives.{Life, Step, after_all, life_after_all}
+use Rattle.mw_protocol.specs.Lives.{Life, Step, after_all, committed_of, life_after_all}
 use Rattle.mw_protocol.specs.Named.{are_named}
 use Rattle.mw_protocol.specs.Spelled.{records_bytes}
 use Rattle.mw_journal.specs.Settled.{AllShut}
 use Rattle.mw_keep.specs.Keeps.{Keeps, kept_disk}
 use Rattle.mw_keep.specs.declared.kept.KeptRoom.{KeptRoom}
-use Rattle.mw_script.specs.Commands.{Command}
-use Rattle.mw_drive.specs.Drive.{text_put, is_full, puts, after, Run, after_puts, run, drive_text}
-use Rattle.mw_drive.specs.Left.{IsGoing, IsLeft, HasDriven, IsKept}
-use Rattle.mw_drive.specs.Runs.{IsCut, HasHalted, IsShownKept}
+use Rattle.mw_keep.specs.Left.{IsLeft}
+use Rattle.mw_keep.proofs.Leaving.{left_of, shut_of}
+use Rattle.mw_script.specs.Commands.{Command, opens, sends, takes, loses, commits, crashes}
+use Rattle.mw_drive.specs.Drive.{text_put, is_full, calls, puts, after, Run, after_puts, run, drive_text}
+use Rattle.mw_drive.specs.Left.{IsGoing, HasDriven, IsKept, KeepsShown}
+use Rattle.mw_drive.specs.Runs.{IsCut, IsQuietOrDone, HasHalted, IsShownKept}
 use Rattle.mw_drive.specs.declared.error.DriveError.{DriveError}
-use Rattle.mw_drive.proofs.Crashing.{safe_of, left_of}
-use Rattle.mw_drive.proofs.Running.{Laws, IsRun, text_both, run_goes, run_full, runs_on, kept_later, puts_are_kept}
+use Rattle.mw_drive.proofs.Calling.{call_step}
+use Rattle.mw_drive.proofs.Running.{Laws, IsRun, text_both, run_goes, run_full, runs_on, called, kept_on, kept_then}
 
 -- ---- all were done
 
@@ -31,12 +33,12 @@ module _ {D : Type 0} (may_leave : D → List ℕ → Type 0) (digest : List ℕ
     whole_life : now ≡ (run first all).life
     whole_life = ap (λ (x : Run). x.life) r.whole
 
-    pub has_driven : IsGoing seed now → HasDriven (may_leave (kept_disk k)) digest first all old new
+    pub has_driven : IsGoing seed now k → HasDriven (may_leave (kept_disk k)) digest first all old new
     has_driven going = record {
       whole = sym (ap (λ (x : Run). x.full) r.whole);
       put = subst (Appends old new) whole_text r.put;
       place = now.place;
-      stands = subst (λ (l : Life). AllShut (may_leave (kept_disk k)) digest (records_bytes l.room.journal) now.place) whole_life (safe_of may_leave digest now k keeps going.safe);
+      stands = subst (λ (l : Life). AllShut (may_leave (kept_disk k)) digest (records_bytes (committed_of l)) now.place) whole_life (shut_of may_leave digest now k keeps going.whole);
     }
 
     pub driven_kept : IsShownKept (may_leave (kept_disk k)) digest seed first old new
@@ -72,9 +74,14 @@ module _ {D : Type 0} (laws : Laws) (may_leave : D → List ℕ → Type 0) (dig
         ∙ ap (λ (t : List ℕ). text_put r.ps ++ t) (text_both (puts now c) (run (after now c) left).puts)
         ∙ sym (append_assoc (text_put r.ps) (text_put (puts now c)) (text_put (run (after now c) left).puts))
 
+    -- where the next command meets a full journal nothing more is put
+    quiet : IsQuietOrDone now c cut.steps mid new → is_full now c ≡ true → Appends mid new []
+    quiet (inl none) h = none
+    quiet (inr done) h = absurd (true≢false (sym h ∙ done.2))
+
     put_full : is_full now c ≡ true → Appends old new (drive_text first all)
     put_full h =
-        subst (Appends old new) (append-nil (text_put r.ps) ∙ sym (full_text h)) (Appends-trans _ _ _ _ _ r.put (cut.quiet h))
+        subst (Appends old new) (append-nil (text_put r.ps) ∙ sym (full_text h)) (Appends-trans _ _ _ _ _ r.put (quiet cut.told h))
 
     front_by : (b : Bool) → is_full now c ≡ b → PutsFront old new (drive_text first all)
     front_by true h = (drive_text first all, [], sym (append-nil (drive_text first all)), put_full h)
@@ -96,34 +103,34 @@ module _ {D : Type 0} (laws : Laws) (may_leave : D → List ℕ → Type 0) (dig
         )
 
     module _ (before : List Step) (is : first ≡ life_after_all seed before) where
-      now_is : now ≡ life_after_all seed (before ++ r.steps)
-      now_is = r.is_now ∙ runs_on seed before r.steps first is
+      cut_left : IsLeft (may_leave disk) digest (life_after_all seed (before ++ (r.steps ++ cut.steps)))
+      cut_left = subst (IsLeft (may_leave disk) digest)
+          (runs_on seed (before ++ r.steps) cut.steps now (r.is_now ∙ runs_on seed before r.steps first is) ∙ ap (life_after_all seed) (append_assoc before r.steps cut.steps)) cut.left
 
-      cut_is : after_all now cut.steps ≡ life_after_all seed (before ++ (r.steps ++ cut.steps))
-      cut_is = runs_on seed (before ++ r.steps) cut.steps now now_is ∙ ap (life_after_all seed) (append_assoc before r.steps cut.steps)
-
-      cut_puts : All (IsKept seed (before ++ (r.steps ++ cut.steps))) (r.ps ++ puts now c)
-      cut_puts =
-          subst (λ s. All (IsKept seed s) (r.ps ++ puts now c)) (append_assoc before r.steps cut.steps)
-          (kept_later seed (before ++ r.steps) cut.steps (r.ps ++ puts now c)
-          (All-append (IsKept seed (before ++ r.steps)) r.ps (puts now c) (r.kept seed before is) (puts_are_kept laws seed (before ++ r.steps) now now_is c)))
-
-    pub cut_kept : IsShownKept (may_leave disk) digest seed first old new
-    cut_kept before is = record {
-      more = r.steps ++ cut.steps;
-      left = subst (IsLeft (may_leave disk) digest) (cut_is before is) cut.left;
-      put = r.ps ++ puts now c;
-      front = front_shown;
-      kept = cut_puts before is;
-    }
+      -- nothing more was put, or all that the next command puts, whose calls were done
+      cut_kept_by : IsQuietOrDone now c cut.steps mid new → KeepsShown (may_leave disk) digest seed before old new
+      cut_kept_by (inl none) = record {
+        more = r.steps ++ cut.steps;
+        left = cut_left;
+        put = r.ps;
+        front = (text_put r.ps, [], sym (append-nil (text_put r.ps)), subst (Appends old new) (append-nil (text_put r.ps)) (Appends-trans _ _ _ _ _ r.put none));
+        kept = kept_on laws first now old mid new c left all r seed before cut.steps is;
+      }
+      cut_kept_by (inr done) = record {
+        more = r.steps ++ cut.steps;
+        left = cut_left;
+        put = r.ps ++ puts now c;
+        front = front_shown;
+        kept = subst (λ s. All (IsKept seed (before ++ (r.steps ++ s))) (r.ps ++ puts now c)) (called now c done.0 ∙ sym done.1) (kept_then laws first now old mid new c left all r done.2 seed before is);
+      }
 
     pub has_halted : (k : KeptRoom D) → Keeps may_leave digest now k → HasHalted (may_leave disk) digest seed first all old new error
     has_halted k keeps = record {
       front = front_by (is_full now c) refl;
       full = λ e. (full_run (cut.full e), put_full (cut.full e));
-      kept = cut_kept;
-      outside = λ before is fit. cut.outside record {
+      kept = λ before is. cut_kept_by before is cut.told;
+      outside = λ journal place begins fit named. cut.outside record {
         spelled = keeps.records;
-        named = subst (λ (l : Life). are_named seed l.room.journal ≡ true) (sym (now_is before is)) (laws.named_all.journal seed (before ++ r.steps) fit);
+        named = subst (λ (l : Life). are_named seed l.room.journal ≡ true) (ap (λ l. after_all l r.steps) (sym begins) ∙ sym r.is_now) (laws.named_all.anywhere seed journal place r.steps fit named);
       };
     }

@@ -5,7 +5,7 @@ pub mod Driving
 pub mod Finishing
 pub mod Looping
 pub mod Lucky
-pub mod Naming
 pub mod Passing
 pub mod Running
 pub mod Stepping
+pub mod Taking

@@ -1,14 +1,16 @@
 -- A call that is answered as done goes as where memory and the disk don't fail.
 use Rattle.std.proofs.Common.{◌≡◌, ◌∙◌, ◌^◌, ◌||◌, ℕ, List, [], ◌∷◌, Bool, true, false, cond, Option, Some, None, refl, sym, ap, subst}
-use Rattle.std.specs.Prelude.{nat_le, nat_lt, unwrap_or}
+use Rattle.std.specs.Prelude.{nat_le, nat_lt}
 use Rattle.mw_model.specs.Seed.{Seed}
-use Rattle.mw_protocol.specs.Lives.{Life, Call, happens, commits, takes, Luck, fine, lacking, faulty, Outcome, passes, lacks, stops, StopCause, disk_fault, journal_full, too_many_calls, Reply, opens, done, messages, gone, overrun, stopped, memory, append, length_with, outcome, records_of, answer, reply_of, reply_to, reply_unless, refusal, refused_by, refused_in, refused_to, ends, named_by, room_then, life_after, life_of, life_unless, risked_then, acts}
+use Rattle.mw_protocol.specs.Lives.{Life, Call, happens, commits, takes, Luck, fine, lacking, faulty, Outcome, passes, lacks, stops, StopCause, disk_fault, journal_full, too_many_calls, Reply, opens, done, messages, gone, overrun, stopped, memory, append, append_of, length_with, planned, outcome, answer, reply_of, reply_to, reply_unless, refusal, refused_by, refused_in, refused_to, ends, named_by, room_then, life_after, life_of, life_unless, acts}
 use Rattle.mw_protocol.specs.Records.{Record}
 use Rattle.mw_protocol.specs.Rooms.{Room, Session, opened, sent, failed, lost, session_in}
-use Rattle.mw_keep.specs.Acts.{Acts}
-use Rattle.mw_keep.specs.Keeps.{Keeps}
+use Rattle.mw_journal.specs.Journal.{state_of}
+use Rattle.mw_journal.specs.declared.state.JournalState.TheVariants.{Whole}
+use Rattle.mw_keep.specs.Acts.{Acts, is_answered}
+use Rattle.mw_keep.specs.Keeps.{Keeps, journal_of}
 use Rattle.mw_keep.specs.declared.kept.KeptRoom.{KeptRoom}
-use Rattle.mw_drive.specs.Calls.{failure, error_for, IsOutside, IsDone, HaveStopped}
+use Rattle.mw_drive.specs.Calls.{failure, error_for, IsDone, HaveStopped}
 use Rattle.mw_drive.specs.Drive.{is_stopped}
 use Rattle.mw_drive.specs.Left.{IsGoing}
 use Rattle.mw_drive.specs.declared.error.DriveError.{DriveError}
@@ -44,38 +46,53 @@ fine_fault true len h = cc
 fine_fault false len h = cc
 
 append_lucky : (place : ℕ) (luck : Luck) (rs : List Record) → fails (append place luck rs) ≡ None → append place luck rs ≡ append place fine rs
-append_lucky place fine rs h = refl
-append_lucky place lacking rs h = cc
-append_lucky place faulty [] h = refl
+append_lucky place luck [] h = refl
+append_lucky place fine (r ∷ rs) h = refl
+append_lucky place lacking (r ∷ rs) h = cc
 append_lucky place faulty (r ∷ rs) h = absurd (fault_by (nat_lt (2 ^ 30) (length_with place (r ∷ rs))) (length_with place (r ∷ rs)) h)
 
 append_full : (place : ℕ) (luck : Luck) (rs : List Record) → fails (append place luck rs) ≡ Some Full → halts (append place fine rs) ≡ true
-append_full place fine [] h = cc
+append_full place luck [] h = cc
 append_full place fine (r ∷ rs) h = fine_full (nat_lt (2 ^ 30) (length_with place (r ∷ rs))) (length_with place (r ∷ rs)) h
-append_full place lacking rs h = cc
-append_full place faulty [] h = cc
+append_full place lacking (r ∷ rs) h = cc
 append_full place faulty (r ∷ rs) h = full_by (nat_lt (2 ^ 30) (length_with place (r ∷ rs))) (length_with place (r ∷ rs)) h
 
 append_fault : (place : ℕ) (luck : Luck) (rs : List Record) → fails (append place luck rs) ≡ Some Fault → luck ≡ faulty
-append_fault place fine [] h = cc
+append_fault place luck [] h = cc
 append_fault place fine (r ∷ rs) h = absurd (fine_fault (nat_lt (2 ^ 30) (length_with place (r ∷ rs))) (length_with place (r ∷ rs)) h)
-append_fault place lacking rs h = cc
-append_fault place faulty rs h = refl
+append_fault place lacking (r ∷ rs) h = cc
+append_fault place faulty (r ∷ rs) h = refl
+
+-- an event asks for memory alone
+planned_lucky : (luck : Luck) → fails (planned luck) ≡ None → planned luck ≡ planned fine
+planned_lucky fine h = refl
+planned_lucky lacking h = cc
+planned_lucky faulty h = refl
+
+planned_full : (luck : Luck) → fails (planned luck) ≡ Some Full → ⊥
+planned_full fine h = cc
+planned_full lacking h = cc
+planned_full faulty h = cc
+
+planned_fault : (luck : Luck) → fails (planned luck) ≡ Some Fault → ⊥
+planned_fault fine h = cc
+planned_fault lacking h = cc
+planned_fault faulty h = cc
 
 lucky : (life : Life) (call : Call) (luck : Luck) → fails (outcome life call luck) ≡ None → outcome life call luck ≡ outcome life call fine
-lucky life (happens event) luck h = append_lucky life.place luck (records_of life.room (happens event)) h
-lucky life commits luck h = refl
-lucky life (takes number) luck h = refl
+lucky life (happens event) luck h = planned_lucky luck h
+lucky life commits luck h = append_lucky life.place luck (append_of life commits) h
+lucky life (takes number) luck h = append_lucky life.place luck (append_of life (takes number)) h
 
 full : (life : Life) (call : Call) (luck : Luck) → fails (outcome life call luck) ≡ Some Full → halts (outcome life call fine) ≡ true
-full life (happens event) luck h = append_full life.place luck (records_of life.room (happens event)) h
-full life commits luck h = cc
-full life (takes number) luck h = cc
+full life (happens event) luck h = absurd (planned_full luck h)
+full life commits luck h = append_full life.place luck (append_of life commits) h
+full life (takes number) luck h = append_full life.place luck (append_of life (takes number)) h
 
 fault : (life : Life) (call : Call) (luck : Luck) → fails (outcome life call luck) ≡ Some Fault → luck ≡ faulty
-fault life (happens event) luck h = append_fault life.place luck (records_of life.room (happens event)) h
-fault life commits luck h = cc
-fault life (takes number) luck h = cc
+fault life (happens event) luck h = absurd (planned_fault luck h)
+fault life commits luck h = append_fault life.place luck (append_of life commits) h
+fault life (takes number) luck h = append_fault life.place luck (append_of life (takes number)) h
 
 -- ---- replies
 
@@ -120,23 +137,15 @@ passes_by passes h = refl
 passes_by lacks h = cc
 passes_by (stops cause) h = cc
 
--- a failure is of the outside or of a full journal
-outside_cause : (cause : StopCause) → IsOutside (error_for cause)
-outside_cause disk_fault = tt
-outside_cause (journal_full len) = tt
-outside_cause (too_many_calls count) = tt
-
-outside_is : (error e : DriveError) → IsOutside e → (let x : Option DriveError = Some e in x) ≡ Some error → IsOutside error
-outside_is error e h same = subst IsOutside (ap (λ o. unwrap_or o e) same) h
-
-outside : (r : Reply) (error : DriveError) → failure r ≡ Some error → IsOutside error
-outside (opens session) error h = cc
-outside done error h = cc
-outside (messages texts) error h = cc
-outside gone error h = cc
-outside overrun error h = cc
-outside (stopped cause) error h = outside_is error (error_for cause) (outside_cause cause) h
-outside memory error h = outside_is error Memory tt h
+-- a call that doesn't fail is answered
+answered : (r : Reply) → failure r ≡ None → is_answered r ≡ true
+answered (opens session) h = refl
+answered done h = refl
+answered (messages texts) h = refl
+answered gone h = refl
+answered overrun h = refl
+answered (stopped cause) h = cc
+answered memory h = cc
 
 -- ---- refusals
 
@@ -182,13 +191,13 @@ module _ (life : Life) (call : Call) where
   reply_with refused o = reply_unless refused (reply_of life.room call o)
 
   abbrev life_with : Option Reply → Outcome → Life
-  life_with refused o = life_unless refused life (life_of life call (records_of life.room call) o)
+  life_with refused o = life_unless refused life (life_of life call o)
 
   same_by : (refused : Option Reply) (o then : Outcome) → (fails o ≡ None → o ≡ then) → failure (reply_with refused o) ≡ None
       → (reply_with refused o ≡ reply_with refused then) × (life_with refused o ≡ life_with refused then)
   same_by None o then h is =
       let eq = h (sym (reply_fails life.room call o) ∙ is) in
-      (ap (reply_of life.room call) eq, ap (life_of life call (records_of life.room call)) eq)
+      (ap (reply_of life.room call) eq, ap (life_of life call) eq)
   same_by (Some r) o then h is = (refl, refl)
 
   full_with : (refused : Option Reply) (o then : Outcome) → (fails o ≡ Some Full → halts then ≡ true) → failure (reply_with refused o) ≡ Some Full → is_stopped (reply_with refused then) ≡ true
@@ -199,15 +208,16 @@ module _ (life : Life) (call : Call) where
   fault_with None o luck none h is = h (sym (reply_fails life.room call o) ∙ is)
   fault_with (Some r) o luck none h is = absurd (none is)
 
-  safe_then : (risked : List (List Record)) (rs : List Record) → risked ≡ [] → risked_then risked rs ≡ []
-  safe_then risked [] h = h
-  safe_then risked (r ∷ rs) h = refl
+  seed_with : (seed : Seed) (refused : Option Reply) (o : Outcome) → life.room.seed ≡ seed → (life_with refused o).room.seed ≡ seed
+  seed_with seed (Some r) o is = is
+  seed_with seed None passes is = call_seed life.room call ∙ is
+  seed_with seed None lacks is = is
+  seed_with seed None (stops cause) is = is
 
-  goes_with : (seed : Seed) (refused : Option Reply) (o : Outcome) → IsGoing seed life → failure (reply_with refused o) ≡ None → IsGoing seed (life_with refused o)
-  goes_with seed (Some r) o going is = record { seed_is = going.seed_is; unstopped = going.unstopped; safe = going.safe }
-  goes_with seed None o going is =
-      subst (λ p. IsGoing seed (life_of life call (records_of life.room call) p)) (sym (passes_by o (sym (reply_fails life.room call o) ∙ is)))
-      record { seed_is = call_seed life.room call ∙ going.seed_is; unstopped = going.unstopped; safe = safe_then life.risked (records_of life.room call) going.safe }
+  goes_with : (refused : Option Reply) (o : Outcome) → life.stopped ≡ None → failure (reply_with refused o) ≡ None → (life_with refused o).stopped ≡ None
+  goes_with (Some r) o going is = going
+  goes_with None o going is =
+      subst (λ p. (life_of life call p).stopped ≡ None) (sym (passes_by o (sym (reply_fails life.room call o) ∙ is))) going
 
 or_none : (b : Bool) → b ≡ true → (b || false) ≡ true
 or_none true h = refl
@@ -215,7 +225,7 @@ or_none false h = cc
 
 module _ {D : Type 0} (may_leave : D → List ℕ → Type 0) (moment : D → ℕ) (left_since : D → ℕ → List ℕ → Type 0) (faults : D → ℕ) (digest : List ℕ) (seed : Seed)
     (life : Life) (call : Call) (before : KeptRoom D) (reply : Reply) (after : KeptRoom D)
-    (a : Acts may_leave moment left_since faults digest life call before reply after) (going : IsGoing seed life) where
+    (a : Acts may_leave moment left_since faults digest life call before reply after) (going : IsGoing seed life before) where
   same : failure reply ≡ None → (reply_to life call a.luck ≡ reply_to life call fine) × (life_after life call a.luck ≡ life_after life call fine)
   same h = same_by life call (refusal life call) (outcome life call a.luck) (outcome life call fine) (lucky life call a.luck) (ap failure (sym a.replies) ∙ h)
 
@@ -227,14 +237,17 @@ module _ {D : Type 0} (may_leave : D → List ℕ → Type 0) (moment : D → �
     replies = a.replies ∙ (same h).0;
     goes = goes (reply_to life call fine) (fine_goes h);
     keeps = subst (λ l. Keeps may_leave digest l after) (same h).1 a.keeps;
-    going = goes_with life call seed (refusal life call) (outcome life call fine) going (fine_goes h);
+    going = record {
+      seed_is = seed_with life call seed (refusal life call) (outcome life call fine) going.seed_is;
+      unstopped = goes_with life call (refusal life call) (outcome life call fine) going.unstopped (fine_goes h);
+      whole = a.whole (answered reply h) going.whole;
+    };
   }
 
   pub call_stopped : (error : DriveError) → failure reply ≡ Some error → HaveStopped may_leave faults digest life (call ∷ []) before error after
   call_stopped error h = record {
     steps = acts call a.luck ∷ [];
     keeps = a.keeps;
-    outside = outside reply error h;
     full = λ is. or_none (is_stopped (reply_to life call fine))
         (full_with life call (refusal life call) (outcome life call a.luck) (outcome life call fine) (full life call a.luck) (ap failure (sym a.replies) ∙ h ∙ ap Some is));
     fault = λ is. a.fault (fault_with life call (refusal life call) (outcome life call a.luck) a.luck (no_fault life call going.unstopped) (fault life call a.luck) (ap failure (sym a.replies) ∙ h ∙ ap Some is));

@@ -1,6 +1,6 @@
 -- An error that is passed on.
 use Rattle.std.proofs.Common.{◌≡◌, Result, Ok, Err, sym, subst}
-use Rattle.std.specs.Prelude.{IfOk, IfErr, IsErrAnd}
+use Rattle.std.specs.Prelude.{IfErr, IsErrAnd}
 use Rattle.std.proofs.lemmas.Result.{err_from_is_err_and}
 
 -- what is known of an error is known of the answer that passes it on
@@ -12,14 +12,14 @@ pub passed_exit : {T E : Type 0} (P : E → Type 0) (answer : Result T E) (x : E
 passed_exit P answer x h is = at_exit answer (λ e. e ≡ x) P is (λ e same. subst P (sym same) h)
 
 module _ {T E : Type 0} where
-  -- what is known of an answer comes to what follows from it
-  pub if_ok : (P Q : T → Type 0) (r : Result T E) → IfOk r P → ((x : T) → P x → Q x) → IfOk r Q
-  if_ok P Q (Ok x) h f = f x h
-  if_ok P Q (Err e) h f = tt
-
+  -- what is known of an error comes to what follows from it
   pub if_err : (P Q : E → Type 0) (r : Result T E) → IfErr r P → ((e : E) → P e → Q e) → IfErr r Q
   if_err P Q (Ok x) h f = tt
   if_err P Q (Err e) h f = f e h
+
+  pub if_err_both : (P Q S : E → Type 0) (r : Result T E) → IfErr r P → IfErr r Q → ((e : E) → P e → Q e → S e) → IfErr r S
+  if_err_both P Q S (Ok x) h k f = tt
+  if_err_both P Q S (Err e) h k f = f e h k
 
   pub if_err_all : (P Q R S : E → Type 0) (r : Result T E) → IfErr r P → IfErr r Q → IfErr r R → ((e : E) → P e → Q e → R e → S e) → IfErr r S
   if_err_all P Q R S (Ok x) h k l f = tt

@@ -53,7 +53,7 @@ pub record IsDone {D : Type 0} (may_leave : D → List ℕ → Type 0) (digest :
   pub replies : reply ≡ reply_to life call fine
   pub goes : IsFalse (is_stopped (reply_to life call fine))
   pub keeps : Keeps may_leave digest (life_after life call fine) k
-  pub going : IsGoing seed (life_after life call fine)
+  pub going : IsGoing seed (life_after life call fine) k
 
 -- so were calls, of which some met a session that was owed more than it may keep
 pub record AreDone {D : Type 0} (may_leave : D → List ℕ → Type 0) (digest : List ℕ) (seed : Seed)
@@ -63,7 +63,7 @@ pub record AreDone {D : Type 0} (may_leave : D → List ℕ → Type 0) (digest 
   pub meets : met ≡ meet_overrun life cs
   pub goes : IsFalse (stop life cs)
   pub keeps : Keeps may_leave digest (life_through life cs) k
-  pub going : IsGoing seed (life_through life cs)
+  pub going : IsGoing seed (life_through life cs) k
 
 -- a call, or one of several, wasn't done: the room is kept in some life that goes on from this one;
 -- for a full journal only where the definition says so, for a fault where the disk's count rose
@@ -73,7 +73,6 @@ pub record HaveStopped {D : Type 0} (may_leave : D → List ℕ → Type 0) (fau
     : Type 0 where
   pub steps : List Step
   pub keeps : Keeps may_leave digest (after_all life steps) k
-  pub outside : IsOutside error
   pub full : error ≡ Full → IsTrue (stop life cs)
   pub fault : error ≡ Fault → faults (kept_disk before) < faults (kept_disk k)
 
@@ -87,7 +86,7 @@ pub record IsPerformed {D : Type 0} (may_leave : D → List ℕ → Type 0) (dig
   pub is_text : text ≡ text_put (puts life c)
   pub whole : IsFalse (is_full life c)
   pub keeps : Keeps may_leave digest (after life c) k
-  pub going : IsGoing seed (after life c)
+  pub going : IsGoing seed (after life c) k
 
 -- ---- whatever life the room is kept in
 
@@ -96,32 +95,33 @@ abbrev pub Does : {D : Type 0} → (D → List ℕ → Type 0) → KeptRoom D �
     → Type 0
 Does may_leave before call reply after =
     (digest : List ℕ) (seed : Seed) (life : Life) → Keeps may_leave digest life before
-    → IsGoing seed life → IsDone may_leave digest seed life call reply after
+    → IsGoing seed life before → IsDone may_leave digest seed life call reply after
 
 -- the calls were done, of which some met a session that was owed more than it may keep
 abbrev pub Makes : {D : Type 0} → (D → List ℕ → Type 0) → KeptRoom D → List Call → Bool → KeptRoom D
     → Type 0
 Makes may_leave before cs met after =
     (digest : List ℕ) (seed : Seed) (life : Life) → Keeps may_leave digest life before
-    → IsGoing seed life → AreDone may_leave digest seed life cs met after
+    → IsGoing seed life before → AreDone may_leave digest seed life cs met after
 
 -- the calls were stopped by an error
 abbrev pub StopsAmong : {D : Type 0} → (D → List ℕ → Type 0) → (D → ℕ) → KeptRoom D → List Call
     → DriveError → KeptRoom D → Type 0
 StopsAmong may_leave faults before cs error after =
     (digest : List ℕ) (seed : Seed) (life : Life) → Keeps may_leave digest life before
-    → IsGoing seed life → HaveStopped may_leave faults digest life cs before error after
+    → IsGoing seed life before → HaveStopped may_leave faults digest life cs before error after
 
 -- the command was done, with this text
 abbrev pub Performs : {D : Type 0} → (D → List ℕ → Type 0) → KeptRoom D → Command → List ℕ
     → KeptRoom D → Type 0
 Performs may_leave before c text after =
     (digest : List ℕ) (seed : Seed) (life : Life) → Keeps may_leave digest life before
-    → IsGoing seed life → IsPerformed may_leave digest seed life c text after
+    → IsGoing seed life before → IsPerformed may_leave digest seed life c text after
 
 -- the command was stopped by an error
 abbrev pub StopsIn : {D : Type 0} → (D → List ℕ → Type 0) → (D → ℕ) → KeptRoom D → Command
     → DriveError → KeptRoom D → Type 0
 StopsIn may_leave faults before c error after =
     (digest : List ℕ) (seed : Seed) (life : Life) → Keeps may_leave digest life before
-    → IsGoing seed life → HaveStopped may_leave faults digest life (calls life c) before error after
+    → IsGoing seed life before
+    → HaveStopped may_leave faults digest life (calls life c) before error after

@@ -157,9 +157,9 @@ puts life c =
 abbrev pub is_full : Life → Command → Bool
 is_full life c = stop life (calls life c)
 
--- a crash leaves what the journal holds, and its place
+-- a crash leaves what is committed, and the journal's place
 abbrev pub life_recovered : Life → Life
-life_recovered life = life_anew life 0 0 life.place
+life_recovered life = life_anew life 0 life.place
 
 -- the life after a command
 abbrev pub after : Life → Command → Life
@@ -203,7 +203,7 @@ steps_of life (sends session is) = map step_of (calls life (sends session is))
 steps_of life (takes session) = map step_of (calls life (takes session))
 steps_of life (loses session) = map step_of (calls life (loses session))
 steps_of life commits = map step_of (calls life commits)
-steps_of life crashes = crash_step 0 0 life.place ∷ []
+steps_of life crashes = crash_step 0 life.place ∷ []
 
 abbrev pub all_steps : Life → List Command → List Step
 all_steps life [] = []

@@ -14,7 +14,8 @@ use Rattle.mw_keep.specs.Holds.{AreRecords}
 use Rattle.mw_script.specs.Commands.{Command}
 use Rattle.mw_drive.specs.Input.{HasScript, HasNoScript}
 use Rattle.mw_drive.specs.Left.{FindsItself, HasDriven}
-use Rattle.mw_drive.specs.Runs.{HasHalted}
+use Rattle.mw_drive.specs.Calls.{IsOutside}
+use Rattle.mw_drive.specs.Runs.{HasHalted, IsOfRun}
 use Rattle.mw_drive.specs.declared.error.DriveError.{DriveError}
 use Rattle.mw_drive.specs.declared.error.DriveError.TheVariants.{Fault, Memory, Full, Journal, Script}
 use Rattle.mw_drive.specs.declared.error.JournalRefusal.{JournalRefusal}
@@ -97,7 +98,8 @@ pub record IsUnread (found : List Record → ℕ → Type 0) (left : List ℕ �
   pub stands : AllShut left digest (records_bytes journal) place
   pub cause : HasNoScript before after error
 
--- the script's commands stopped before their end
+-- the script's commands stopped before their end: not for the script; and for the journal only at a
+-- crash, where the disk doesn't tell its bytes
 pub record IsStopped (found : List Record → ℕ → Type 0) (told : Option (List ℕ))
     (left : List ℕ → Type 0) (digest : List ℕ) (seed : Seed)
     (before after old new : Option (List ℕ)) (error : DriveError)
@@ -105,6 +107,8 @@ pub record IsStopped (found : List Record → ℕ → Type 0) (told : Option (Li
   pub life : Life
   pub commands : List Command
   pub ready : IsReady found seed before after life commands
+  pub ran : IsOfRun commands error
+  pub outside : FindsItself told commands → IsOutside error
   pub halted : FindsItself told commands → HasHalted left digest seed life commands old new error
 
 -- the source tells so what is left of it

@@ -24,10 +24,10 @@ crowded seed = record {
     opened = 1;
     sessions = record { number = 1; member = None; owed = []; taken = 0; overrun = true } ∷ [];
   };
+  committed = 0;
   place = 40;
   stopped = None;
   calls = 0;
-  risked = [];
 }
 
 -- two packets on it are told of once
@@ -52,7 +52,7 @@ nobody_stays seed = refl
 pub first_again : (seed : Seed) → (run (crowded seed) (crashes ∷ opens 0 ∷ [])).life.room.opened ≡ 1
 first_again seed = refl
 
--- a journal whose gate stands where no batch fits is full for a call that records, and for no other
+-- a journal whose gate stands where no batch fits is full only where something is to be appended
 pub not_full : (seed : Seed)
     → (run (new_life seed [] 1073741823) (opens 0 ∷ commits ∷ takes 1 ∷ loses 1 ∷ [])).full ≡ false
 not_full seed = refl

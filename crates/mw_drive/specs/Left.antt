@@ -1,37 +1,33 @@
 -- What a script's run puts, and what a crash may leave of its journal.
-use Rattle.std.specs.Prelude.{◌≡◌, ◌⊎◌, ℕ, ◌++◌, List, [], Option, None, All, Contains, IsTrue, IsFalse, is_some}
+use Rattle.std.specs.Prelude.{◌≡◌, ◌⊎◌, ℕ, ◌++◌, ◌∷◌, List, Option, None, All, Contains, IsTrue, IsFalse, is_some}
 use Rattle.std.specs.List.{list_any}
 use Rattle.std.specs.Io.KnownBytes.{Appends}
 use Rattle.mw_edges.specs.Causes.{PutsFront}
 use Rattle.mw_model.specs.Seed.{Seed}
 use Rattle.mw_protocol.specs.Connecting.{Member}
-use Rattle.mw_protocol.specs.Lives.{Life, Step, life_after_all}
-use Rattle.mw_protocol.specs.Records.{Record}
+use Rattle.mw_protocol.specs.Lives.{Life, Step, fine, committed_of, life_after_all, untaken_in}
 use Rattle.mw_protocol.specs.Rooms.{Message}
 use Rattle.mw_protocol.specs.Spelled.{records_bytes}
-use Rattle.mw_journal.specs.Settled.{AllSettled, AllShut}
+use Rattle.mw_journal.specs.Journal.{state_of}
+use Rattle.mw_journal.specs.Settled.{AllShut}
+use Rattle.mw_journal.specs.declared.state.JournalState.TheVariants.{Whole}
 use Rattle.mw_laws.specs.Kept.{journal_after}
 use Rattle.mw_laws.specs.Shows.{MayPlayAs, ShowsChecked}
-use Rattle.mw_laws.specs.Tails.{AreTails, untaken_in}
-use Rattle.mw_keep.specs.Holds.{AreRecords, IsAmong}
+use Rattle.mw_laws.specs.Tails.{AreTails, taking}
+use Rattle.mw_keep.specs.Keeps.{journal_of}
+use Rattle.mw_keep.specs.Left.{IsLeft}
+use Rattle.mw_keep.specs.declared.kept.KeptRoom.{KeptRoom}
 use Rattle.mw_script.specs.Commands.{Command}
 use Rattle.mw_drive.specs.Drive.{Put, gone, overrun, message, text_put, is_crash, run, drive_text}
 
 -- ---- lives
 
--- a life of a seed's room goes on: nothing has stopped it, and no record is at risk
-pub record IsGoing (seed : Seed) (life : Life) : Type 0 where
+-- a life of a seed's room goes on in a room that is kept: nothing has stopped it, and its journal
+-- takes further batches
+pub record IsGoing {D : Type 0} (seed : Seed) (life : Life) (k : KeptRoom D) : Type 0 where
   pub seed_is : life.room.seed ≡ seed
   pub unstopped : life.stopped ≡ None
-  pub safe : life.risked ≡ []
-
--- what a crash may leave is settled for a life's journal, and for some records at risk or none
-pub record IsLeft (images : List ℕ → Type 0) (digest : List ℕ) (life : Life) : Type 0 where
-  pub records : AreRecords life.room.journal
-  pub batch : List Record
-  pub each : AreRecords batch
-  pub among : (batch ≡ []) ⊎ IsAmong life.risked batch
-  pub settled : AllSettled images digest (records_bytes life.room.journal) (records_bytes batch)
+  pub whole : state_of (journal_of k) ≡ Whole
 
 -- after a crash a room finds what its disk told, where the disk tells its bytes; a script without a
 -- crash needs no disk that tells
@@ -42,15 +38,15 @@ FindsItself told cs = IsTrue (is_some told) ⊎ IsFalse (list_any is_crash cs)
 
 -- a session took a message in a life to which a run of lives came, which goes on since: the items of
 -- each ReceivedItems of it are the tail from its index of what the session was to receive, and stand
--- there in the view of each later life; and each check that it shows is among those of the journal
--- of each later life
+-- there in the view of each later point; and each check that it shows is among those of the journal
+-- of each later point, in this life and in later ones
 pub record IsTold (seed : Seed) (steps : List Step) (session : ℕ) (member : Option Member)
     (m : Message) : Type 0 where
   pub front : List Step
   pub back : List Step
-  pub goes_on : steps ≡ front ++ back
+  pub goes_on : steps ≡ front ++ taking session fine ∷ back
   pub taken : Contains (untaken_in (life_after_all seed front) session) m
-  pub tails : AreTails seed front session m
+  pub tails : AreTails seed front session fine m
   pub shows : (later : List Step) (k : Member) → MayPlayAs k member
       → ShowsChecked seed (journal_after seed (steps ++ later)) k m
 
@@ -73,12 +69,12 @@ pub record KeepsShown (images : List ℕ → Type 0) (digest : List ℕ) (seed :
 
 -- ---- commands that are run on a life
 
--- all were done, and just their text was put; each image stands for just the journal of the life
--- that they lead to
+-- all were done, and just their text was put; each image stands for just what is committed in the
+-- life that they lead to
 pub record HasDriven (images : List ℕ → Type 0) (digest : List ℕ) (life : Life) (cs : List Command)
     (old new : Option (List ℕ))
     : Type 0 where
   pub whole : IsFalse (run life cs).full
   pub put : Appends old new (drive_text life cs)
   pub place : ℕ
-  pub stands : AllShut images digest (records_bytes (run life cs).life.room.journal) place
+  pub stands : AllShut images digest (records_bytes (committed_of (run life cs).life)) place

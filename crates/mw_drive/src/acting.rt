@@ -1,15 +1,16 @@
-ghost use Rattle.std.specs.Prelude.{◌≡◌, ◌≤◌, IfOk, IfErr, is_some, ◌∷◌, []};
+ghost use Rattle.std.specs.Prelude.{◌≡◌, ◌≤◌, IfOk, IfErr, IfSome, is_some, ◌∷◌, []};
 ghost use Rattle.mw_keep.specs.Keeps.{kept_disk};
 ghost use Rattle.mw_keep.specs.Views.{call_view, cause_view, reply_view};
-ghost use Rattle.mw_drive.specs.Calls.{error_for, failure, Does, StopsAmong};
+ghost use Rattle.mw_drive.specs.Calls.{error_for, failure, Does, IsOutside, StopsAmong};
 
 use crate::error::DriveError;
 use mw_disk::Disk;
 use mw_keep::{Call, KeptRoom, Reply, StopCause};
 
 /// The error of a room that has stopped.
-fn stop_error(cause: StopCause) -> DriveError
-    ensures { result ≡ error_for (cause_view cause) }
+pub fn stop_error(cause: StopCause) -> DriveError
+    ensures is { result ≡ error_for (cause_view cause) }
+    ensures own { IsOutside result }
 {
     match cause {
         StopCause::DiskFault => DriveError::Fault,
@@ -19,7 +20,8 @@ fn stop_error(cause: StopCause) -> DriveError
 
 /// The error of a reply, if its call isn't done.
 fn failure_of(reply: &Reply) -> Option<DriveError>
-    ensures { result ≡ failure (reply_view reply.now) }
+    ensures is { result ≡ failure (reply_view reply.now) }
+    ensures own { IfSome result IsOutside }
 {
     match reply {
         Reply::Stopped(cause) => Some(stop_error(*cause)),
@@ -34,6 +36,7 @@ pub(crate) fn act<D: Disk>(kept: &mut KeptRoom<D>, call: Call) -> Result<Reply, 
         (reply_view reply) kept.new) }
     ensures err { IfErr result (λ error. StopsAmong D.may_leave D.faults kept.old
         (call_view call ∷ []) error kept.new) }
+    ensures own { IfErr result IsOutside }
     ensures tells { is_some (D.told (kept_disk kept.new)) ≡ is_some (D.told (kept_disk kept.old)) }
     ensures count { D.faults (kept_disk kept.old) ≤ D.faults (kept_disk kept.new) }
 {

@@ -4,12 +4,12 @@ ghost use Rattle.mw_multidata.specs.Digest.{digest_of};
 ghost use Rattle.mw_multidata.specs.SeedOf.{SeedOf};
 ghost use Rattle.mw_protocol.specs.Lives.{Step, life_after_all};
 ghost use Rattle.mw_keep.specs.Keeps.{kept_disk};
-ghost use Rattle.mw_laws.specs.Naming.{NamesFit};
+ghost use Rattle.mw_keep.specs.Left.{IsLeft};
 ghost use Rattle.mw_script.specs.Commands.{command_view};
 ghost use Rattle.mw_drive.specs.Ends.{Drives, IsAsRead, IsFound, IsOfJournal, Refuses};
 ghost use Rattle.mw_drive.specs.Ends.{StaysSettled, StopsWith};
 ghost use Rattle.mw_drive.specs.Input.{HasScript, HasNoScript};
-ghost use Rattle.mw_drive.specs.Left.{IsLeft, KeepsShown};
+ghost use Rattle.mw_drive.specs.Left.{KeepsShown};
 ghost use Rattle.mw_drive.specs.Runs.{HasLife, RunsScript, HaltsScript};
 
 use crate::crash::drive_error;
@@ -19,8 +19,8 @@ use crate::run::run_all;
 use mw_base::List;
 use mw_disk::Disk;
 use mw_edges::{Sink, Source};
+use mw_keep::laws::{lives_keep, names_fit};
 use mw_keep::{KeptRoom, resume};
-use mw_laws::{journals_are_named, lives_keep};
 use mw_multidata::{Multidata, digest};
 use mw_script::{Command, judge_script};
 use std::alloc::Global;
@@ -53,6 +53,7 @@ fn drive_kept<D: Disk, S: Source, O: Sink>(
         → (D.faults (kept_disk kept) < D.faults result.0)
         ⊎ (Rose (S.faults input.old) (S.faults input.new)
         ⊎ Rose (O.faults out.old) (O.faults out.new)) }
+    ensures tells { is_some (D.told result.0) ≡ is_some (D.told (kept_disk kept)) }
     ensures count { D.faults (kept_disk kept) ≤ D.faults result.0 }
     ensures later { (S.faults input.old ≤ S.faults input.new)
         × (O.faults out.old ≤ O.faults out.new) }
@@ -63,26 +64,22 @@ fn drive_kept<D: Disk, S: Source, O: Sink>(
     }
 }
 
-/// What a seed names is there, for contracts alone.
-fn names_fit(multidata: &Multidata)
-    ensures { NamesFit multidata.now }
-{
-    let _ = &multidata.seed_name;
-}
-
 /// Recovers the room of a seed from the journal on a disk, runs the script of an input on it, and
 /// prints the messages that are taken. The disk is handed back. `file` is the bytes that the seed
 /// was read from.
 ///
 /// The journal is judged first, and the input isn't touched where it is refused; what is no journal
 /// of the seed's is only read. The script is read
-/// to its end and judged whole before its first line runs. A `crash` drops the room with its
-/// sessions, and recovers it from its journal.
+/// to its end and judged whole before its first line runs. What is recorded is pending until a
+/// `commit`, or a `take` of a message that shows some of it; a `crash` drops the room with its
+/// sessions and what is pending, and recovers it from its journal, and what is pending as the script
+/// ends is lost.
 ///
-/// `Journal` comes only where the disk's bytes are no journal of this seed, and `Script` only where
-/// the script is refused at that line; `Full` only where the next batch would pass the journal's
-/// limit, or the room has had 2^63 calls, and then all before that line was put. `Fault` comes only
-/// where a count of the disk, the input or the out sink rose in this call.
+/// `Journal` comes only where the disk's bytes are no journal of this seed, and once the first line
+/// has run only at a `crash`, and never where the disk tells its bytes; `Script` comes only where
+/// the script is refused at that line, before any has run; `Full` only where the next batch would
+/// pass the journal's limit, or the room has had 2^63 calls, and then all before that line was put.
+/// `Fault` comes only where a count of the disk, the input or the out sink rose in this call.
 ///
 /// Whatever is answered, what a crash may then leave of the disk is settled for a life that goes on
 /// from the one for which it was settled before, and all that was shown by what was put is checked
@@ -118,13 +115,13 @@ pub fn drive_on<D: Disk, S: Source, O: Sink>(
         → IsTrue (is_some (D.told disk))
         → IsLeft (D.may_leave disk) (digest_of file.now) (life_after_all multidata steps)
         → IsOfJournal error → ⊥) }
+    ensures tells { is_some (D.told result.0) ≡ is_some (D.told disk) }
     ensures count { D.faults disk ≤ D.faults result.0 }
     ensures later { (S.faults input.old ≤ S.faults input.new)
         × (O.faults out.old ≤ O.faults out.new) }
 {
     // The laws of lives, by which what was settled stays so.
     lives_keep();
-    journals_are_named();
     names_fit(&multidata);
     match resume(alloc, disk, multidata, &digest(file)) {
         Ok(kept) => drive_kept(alloc, kept, file, input, out),

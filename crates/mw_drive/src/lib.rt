@@ -10,5 +10,7 @@ mod performing;
 mod printing;
 mod run;
 
+pub use acting::stop_error;
+pub use crash::drive_error;
 pub use drive::drive_on;
 pub use error::{DriveError, JournalRefusal};

@@ -2,7 +2,7 @@ ghost use Rattle.std.specs.Prelude.{◌≡◌, ◌≤◌, ◌∷◌, [], IfOk, I
 ghost use Rattle.mw_packets_in.specs.View.{inbound_view};
 ghost use Rattle.mw_keep.specs.Keeps.{kept_disk};
 ghost use Rattle.mw_keep.specs.Views.{call_view, reply_view};
-ghost use Rattle.mw_drive.specs.Calls.{Makes, StopsAmong, Performs, StopsIn};
+ghost use Rattle.mw_drive.specs.Calls.{IsOutside, Makes, StopsAmong, Performs, StopsIn};
 ghost use Rattle.mw_script.specs.Commands.{command_view, opens, sends, takes, loses, commits};
 ghost use Rattle.mw_drive.specs.Drive.{call_for as call_for_lem, is_crash, is_overrun as is_overrun_lem, texts_in as texts_in_lem};
 
@@ -68,6 +68,7 @@ fn call_all<D: Disk>(
         (map (call_for_lem session) (map inbound_view message)) met kept.new) }
     ensures err { IfErr result (λ error. StopsAmong D.may_leave D.faults kept.old
         (map (call_for_lem session) (map inbound_view message)) error kept.new) }
+    ensures own { IfErr result IsOutside }
     ensures tells { is_some (D.told (kept_disk kept.new)) ≡ is_some (D.told (kept_disk kept.old)) }
     ensures count { D.faults (kept_disk kept.old) ≤ D.faults (kept_disk kept.new) }
 {
@@ -85,6 +86,7 @@ fn open<D: Disk>(alloc: Global, kept: &mut KeptRoom<D>, time: u64) -> Result<Str
         (opens time) (string_bytes text) kept.new) }
     ensures err { IfErr result (λ error. StopsIn D.may_leave D.faults kept.old
         (opens time) error kept.new) }
+    ensures own { IfErr result IsOutside }
     ensures tells { is_some (D.told (kept_disk kept.new)) ≡ is_some (D.told (kept_disk kept.old)) }
     ensures count { D.faults (kept_disk kept.old) ≤ D.faults (kept_disk kept.new) }
 {
@@ -98,6 +100,7 @@ fn commit<D: Disk>(alloc: Global, kept: &mut KeptRoom<D>) -> Result<String, Driv
         commits (string_bytes text) kept.new) }
     ensures err { IfErr result (λ error. StopsIn D.may_leave D.faults kept.old
         commits error kept.new) }
+    ensures own { IfErr result IsOutside }
     ensures tells { is_some (D.told (kept_disk kept.new)) ≡ is_some (D.told (kept_disk kept.old)) }
     ensures count { D.faults (kept_disk kept.old) ≤ D.faults (kept_disk kept.new) }
 {
@@ -116,6 +119,7 @@ fn send<D: Disk>(
         (sends session (map inbound_view message)) (string_bytes text) kept.new) }
     ensures err { IfErr result (λ error. StopsIn D.may_leave D.faults kept.old
         (sends session (map inbound_view message)) error kept.new) }
+    ensures own { IfErr result IsOutside }
     ensures tells { is_some (D.told (kept_disk kept.new)) ≡ is_some (D.told (kept_disk kept.old)) }
     ensures count { D.faults (kept_disk kept.old) ≤ D.faults (kept_disk kept.new) }
 {
@@ -138,6 +142,7 @@ fn take<D: Disk>(
         (takes session) (string_bytes text) kept.new) }
     ensures err { IfErr result (λ error. StopsIn D.may_leave D.faults kept.old
         (takes session) error kept.new) }
+    ensures own { IfErr result IsOutside }
     ensures tells { is_some (D.told (kept_disk kept.new)) ≡ is_some (D.told (kept_disk kept.old)) }
     ensures count { D.faults (kept_disk kept.old) ≤ D.faults (kept_disk kept.new) }
 {
@@ -161,6 +166,7 @@ fn lose<D: Disk>(
         (loses session) (string_bytes text) kept.new) }
     ensures err { IfErr result (λ error. StopsIn D.may_leave D.faults kept.old
         (loses session) error kept.new) }
+    ensures own { IfErr result IsOutside }
     ensures tells { is_some (D.told (kept_disk kept.new)) ≡ is_some (D.told (kept_disk kept.old)) }
     ensures count { D.faults (kept_disk kept.old) ≤ D.faults (kept_disk kept.new) }
 {
@@ -182,6 +188,7 @@ pub(crate) fn perform<D: Disk>(
         (command_view command) (string_bytes text) kept.new) }
     ensures err { IfErr result (λ error. StopsIn D.may_leave D.faults kept.old
         (command_view command) error kept.new) }
+    ensures own { IfErr result IsOutside }
     ensures tells { is_some (D.told (kept_disk kept.new)) ≡ is_some (D.told (kept_disk kept.old)) }
     ensures count { D.faults (kept_disk kept.old) ≤ D.faults (kept_disk kept.new) }
 {

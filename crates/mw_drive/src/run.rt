@@ -1,11 +1,12 @@
-ghost use Rattle.std.specs.Prelude.{◌≡◌, ◌≤◌, ◌⊎◌, IfOk, IfErr, OnOk, OnErr, IsFalse, is_some, map};
+ghost use Rattle.std.specs.Prelude.{◌≡◌, ◌≤◌, ◌⊎◌, ◌∷◌, [], IfOk, IfErr, OnOk, OnErr, Err, IsFalse, is_some, map};
 ghost use Rattle.std.specs.Io.KnownBytes.{Appends};
 ghost use Rattle.mw_edges.specs.Causes.{PutsFront, Rose};
 ghost use Rattle.mw_keep.specs.Keeps.{kept_disk};
 ghost use Rattle.mw_script.specs.Commands.{command_view};
+ghost use Rattle.mw_drive.specs.Calls.{IsOutside};
 ghost use Rattle.mw_drive.specs.Crashes.{disk_left};
 ghost use Rattle.mw_drive.specs.Drive.{is_crash as is_crash_lem};
-ghost use Rattle.mw_drive.specs.Runs.{StepsOn, IsCutOn, FaultShows, StepsAlways, IsCutAlways, HasLife, FaultIsTold, RunsAlways, HaltsAlways};
+ghost use Rattle.mw_drive.specs.Runs.{StepsOn, IsCutOn, FaultShows, StepsAlways, IsCutAlways, HasLife, FaultIsTold, IsOfRun, RunsAlways, HaltsAlways};
 
 use crate::crash::crash;
 use crate::error::DriveError;
@@ -14,7 +15,7 @@ use mw_base::List;
 use mw_disk::Disk;
 use mw_edges::{Sink, SinkError};
 use mw_keep::KeptRoom;
-use mw_laws::{journals_are_named, shown_is_checked, tails_of_the_last_view};
+use mw_keep::laws::{journals_are_named, lives_keep, shown_is_checked, tails_of_the_last_view};
 use mw_script::Command;
 use std::alloc::Global;
 
@@ -45,6 +46,7 @@ fn perform_and_put<D: Disk, O: Sink>(
         (O.held out.old) (O.held out.new) k) }
     ensures err { IfErr result (λ e. IsCutOn D.may_leave kept (command_view command)
         (O.held out.old) (O.held out.new) e.0 e.1) }
+    ensures own { IfErr result (λ e. IsOutside e.1) }
     ensures fault { IfErr result (λ e. e.1 ≡ DriveError.Fault → FaultShows D.may_leave D.faults
         kept e.0 (Rose (O.faults out.old) (O.faults out.new))) }
     ensures tells { is_some (D.told (disk_left result)) ≡ is_some (D.told (kept_disk kept)) }
@@ -88,6 +90,7 @@ fn run_one<D: Disk, O: Sink>(
         (command_view command) (O.held out.old) (O.held out.new) k) }
     ensures err { IfErr result (λ e. IsCutAlways D.may_leave D.told file.now kept
         (command_view command) (O.held out.old) (O.held out.new) e.0 e.1) }
+    ensures ran { IfErr result (λ e. IsOfRun (command_view command ∷ []) e.1) }
     ensures lives { IfOk result (λ k. HasLife D.may_leave file.now kept
         → HasLife D.may_leave file.now k) }
     ensures fault { IfErr result (λ e. e.1 ≡ DriveError.Fault → FaultIsTold D.may_leave D.faults
@@ -114,6 +117,7 @@ pub(crate) fn run_all<D: Disk, O: Sink>(
         (map command_view commands) (O.held out.old) (O.held out.new) result.0) }
     ensures err { IfErr result.1 (λ error. HaltsAlways D.may_leave D.told file.now kept
         (map command_view commands) (O.held out.old) (O.held out.new) result.0 error) }
+    ensures ran { IfErr result.1 (IsOfRun (map command_view commands)) }
     ensures fault { result.1 ≡ Err DriveError.Fault → FaultIsTold D.may_leave D.faults
         file.now kept result.0 (Rose (O.faults out.old) (O.faults out.new)) }
     ensures tells { is_some (D.told result.0) ≡ is_some (D.told (kept_disk kept)) }
@@ -121,6 +125,7 @@ pub(crate) fn run_all<D: Disk, O: Sink>(
     ensures later { O.faults out.old ≤ O.faults out.new }
 {
     // The laws of lives, by which what is put is kept.
+    lives_keep();
     shown_is_checked();
     tails_of_the_last_view();
     journals_are_named();

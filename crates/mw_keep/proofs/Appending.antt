@@ -1,13 +1,14 @@
--- What an append of records leaves of a journal.
-use Rattle.std.proofs.Common.{◌≡◌, ◌≢◌, ◌⊎◌, ◌<◌, ◌≤◌, ◌+◌, ◌^◌, ◌++◌, ◌∷◌, [], ℕ, List, Bool, true, false, length, get_or, inl, inr, refl, sym, ap, subst, ◌∙◌, arith, length-append, Some, None}
+-- What an append of what is pending leaves of a journal.
+use mathlib.Core.List.{IsPrefix}
+use Rattle.std.proofs.Common.{◌≡◌, ◌≢◌, ◌⊎◌, ◌<◌, ◌≤◌, ◌+◌, ◌^◌, ◌++◌, ◌∷◌, [], ℕ, List, Bool, true, false, length, inl, inr, refl, sym, ap, subst, ◌∙◌, arith, append_assoc, length-append, Some, None}
 use Rattle.std.specs.Prelude.{Result, Ok, Err, OnOk, IfErr, IsErrOf, map, ◌==◌, if◌then◌else◌}
-use Rattle.std.proofs.lemmas.List.{append-nil, get_or_append_left, get_or-append-add}
+use Rattle.std.proofs.lemmas.List.{append-nil}
 use Rattle.std.proofs.lemmas.List.Concat.{flat_map-append}
 use Rattle.std.proofs.lemmas.Bool.{lt-ltb, le-ltb, eqb-true}
 use Rattle.std.specs.declared.option.Option.{Option}
 use Rattle.mw_disk.specs.Crash.{LeavesOnly}
 use Rattle.mw_disk.proofs.Moments.{started}
-use Rattle.mw_protocol.specs.Lives.{StopCause, disk_fault, journal_full, fine, lacking, faulty, Outcome, passes, stops, or_full, with_risk}
+use Rattle.mw_protocol.specs.Lives.{StopCause, disk_fault, journal_full, fine, lacking, faulty, Outcome, passes, stops, or_full}
 use Rattle.mw_protocol.specs.Records.{Record, checks, release, collect, status, hint, hint_status, store}
 use Rattle.mw_protocol.specs.Spelled.{record_bytes, records_bytes}
 use Rattle.mw_journal.specs.Image.{IsShut}
@@ -18,7 +19,7 @@ use Rattle.mw_journal.specs.declared.error.AppendError.TheVariants.{DiskFault, J
 use Rattle.mw_journal.specs.declared.journal.Journal.{Journal}
 use Rattle.mw_journal.specs.declared.state.JournalState.TheVariants.{Whole, Faulted, OutOfMemory}
 use Rattle.mw_keep.specs.Appends.{Appends, StaysSettled}
-use Rattle.mw_keep.specs.Holds.{AreRecords, Holds, IsAmong, IsSafe, IsBroken}
+use Rattle.mw_keep.specs.Holds.{Holds, IsSafe, IsBroken}
 
 -- ---- bytes
 
@@ -41,13 +42,14 @@ pub no_records : {A : Type 0} (xs : List A) → true ≡ (length xs == 0) → xs
 no_records [] is = refl
 no_records (x ∷ xs) is = let no : length (x ∷ xs) ≡ 0 = eqb-true (length (x ∷ xs)) 0 (sym is) in absurd (omega (arith, no))
 
-pub some_records : {A B : Type 0} (f : A → B) (xs : List A) → false ≡ (length xs == 0) → map f xs ≢ []
-some_records f [] is none = absurd cc
-some_records f (x ∷ xs) is none = absurd cc
+pub some_length : {A : Type 0} (xs : List A) → false ≡ (length xs == 0) → 1 ≤ length xs
+some_length [] is = absurd cc
+some_length (x ∷ xs) is = omega arith
 
-pub bytes_some : (rs : List Record) → rs ≢ [] → 1 ≤ length (records_bytes rs)
-bytes_some [] some = absurd (some refl)
-bytes_some (r ∷ rs) some = records_some r rs
+-- where some bytes are pending some records are
+pub bytes_none : (rs : List Record) → records_bytes rs ≡ [] → rs ≡ []
+bytes_none [] is = refl
+bytes_none (r ∷ rs) is = let none : length (records_bytes (r ∷ rs)) ≡ 0 = ap length is in absurd (omega (arith, none, records_some r rs))
 
 -- ---- how full a journal is
 
@@ -67,42 +69,10 @@ no_room : (place : ℕ) (rs : List Record) (otherwise : Outcome) → 2 ^ 30 < pl
     → or_full place rs otherwise ≡ stops (journal_full (place + 6 + length (records_bytes rs)))
 no_room place rs otherwise beyond = if_true _ _ _ (lt-ltb (2 ^ 30) (place + 6 + length (records_bytes rs)) beyond)
 
--- ---- what is at risk
-
-still_among : (risked : List (List Record)) (records batch : List Record) → IsAmong risked batch → IsAmong (with_risk risked records) batch
-still_among risked [] batch among = among
-still_among risked (r ∷ rs) batch among = record {
-  number = among.number;
-  within = omega (arith, among.within, length-append risked ((r ∷ rs) ∷ []));
-  same = among.same ∙ sym (get_or_append_left risked ((r ∷ rs) ∷ []) [] among.number among.within);
-}
-
-last_among : (risked : List (List Record)) (r : Record) (rs : List Record) → IsAmong (with_risk risked (r ∷ rs)) (r ∷ rs)
-last_among risked r rs = record {
-  number = length risked;
-  within = omega (arith, length-append risked ((r ∷ rs) ∷ []));
-  same =
-      let zero_place : length risked + 0 ≡ length risked = omega arith in
-      sym (ap (λ n. get_or (risked ++ (r ∷ rs) ∷ []) n []) (sym zero_place) ∙ get_or-append-add risked ((r ∷ rs) ∷ []) 0 []);
-}
-
-module _ {D : Type 0} (may_leave : D → List ℕ → Type 0) (digest : List ℕ) (kept : List Record) (place : ℕ) where
-  pub more_risk : (risked : List (List Record)) (records : List Record) (stopped : Option StopCause) (j : Journal D)
-      → Holds may_leave digest kept place risked stopped j → Holds may_leave digest kept place (with_risk risked records) stopped j
-  more_risk risked records stopped j (inl safe) = inl safe
-  more_risk risked records stopped j (inr b) = inr record {
-    broken = b.broken;
-    fault = b.fault;
-    batch = b.batch;
-    among = still_among risked records b.batch b.among;
-    records = b.records;
-    settled = b.settled;
-  }
-
+module _ {D : Type 0} (may_leave : D → List ℕ → Type 0) (digest : List ℕ) (kept pending : List Record) (place : ℕ) where
   -- nothing of the journal changed
-  same_holds : (risked : List (List Record)) (stopped : Option StopCause) (before after : Journal D) → IsSame before after
-      → IsSafe may_leave digest kept place before → IsSafe may_leave digest kept place after
-  same_holds risked stopped before after same safe = record {
+  same_holds : (before after : Journal D) → IsSame before after → IsSafe may_leave digest kept place before → IsSafe may_leave digest kept place after
+  same_holds before after same safe = record {
     stands = (
       same.state ∙ safe.stands.0,
       λ c left. subst (λ n. IsShut c digest (records_bytes kept) n 0) (sym same.gate)
@@ -111,45 +81,48 @@ module _ {D : Type 0} (may_leave : D → List ℕ → Type 0) (digest : List ℕ
     here = same.gate ∙ safe.here;
   }
 
+  -- a journal that holds so with some pending records does with more
+  pub more_pending : (more : List Record) (stopped : Option StopCause) (j : Journal D) → Holds may_leave digest kept pending place stopped j
+      → Holds may_leave digest kept (pending ++ more) place stopped j
+  more_pending more stopped j (inl safe) = inl safe
+  more_pending more stopped j (inr b) = inr record {
+    broken = b.broken;
+    fault = b.fault;
+    batch = b.batch;
+    first = (b.first.0 ++ more, sym (append_assoc b.batch b.first.0 more) ∙ ap (λ rs. rs ++ more) b.first.1);
+    settled = b.settled;
+  }
+
 module _ {D : Type 0} (may_leave : D → List ℕ → Type 0) (moment : D → ℕ) (left_since : D → ℕ → List ℕ → Type 0) (faults : D → ℕ)
     (only_now : (d : D) (c : List ℕ) → left_since d (moment d) c → may_leave d c)
     (counts_now : (d : D) (t : ℕ) (c : List ℕ) → t ≤ moment d → may_leave d c → left_since d t c)
-    (digest : List ℕ) (kept : List Record) (place : ℕ) (risked : List (List Record)) where
+    (digest : List ℕ) (kept : List Record) (place : ℕ) where
   -- a journal on which nothing is done stays settled
-  pub rests : (records : List Record) (stopped : Option StopCause) (j : Journal D) → Holds may_leave digest kept place risked stopped j
-      → StaysSettled moment left_since digest kept risked records (disk_of j) (disk_of j)
-  rests records stopped j (inl safe) = record {
+  pub rests : (pending : List Record) (stopped : Option StopCause) (j : Journal D) → Holds may_leave digest kept pending place stopped j
+      → StaysSettled moment left_since digest kept pending (disk_of j) (disk_of j)
+  rests pending stopped j (inl safe) = record {
     batch = [];
-    one = record { each = tt; among = inl refl };
+    first = (pending, refl);
     moments = started moment left_since (disk_of j) _ (λ c left. inl (gate_of j, safe.stands.1 c (only_now (disk_of j) c left)));
   }
-  rests records stopped j (inr b) = record {
+  rests pending stopped j (inr b) = record {
     batch = b.batch;
-    one = record { each = b.records; among = inr (inr b.among) };
+    first = b.first;
     moments = started moment left_since (disk_of j) _ (λ c left. b.settled c (only_now (disk_of j) c left));
   }
 
   -- nothing to append
-  pub appends_none : (j : Journal D) → Holds may_leave digest kept place risked None j
-      → Appends may_leave moment left_since faults digest kept place risked [] j (Ok tt) j
-  appends_none j holds = record {
+  pub appends_none : (pending : List Record) (j : Journal D) → pending ≡ [] → Holds may_leave digest kept pending place None j
+      → Appends may_leave moment left_since faults digest kept pending place j (Ok tt) j
+  appends_none [] j none holds = record {
     luck = fine;
     outcome = refl;
-    holds = (tt, subst (λ rs. Holds may_leave digest rs place risked None j) (sym (append-nil kept)) holds);
+    holds = subst (λ rs. Holds may_leave digest rs [] place None j) (sym (append-nil kept)) holds;
     fault = λ is. absurd cc;
     settled = rests [] None j holds;
+    whole = λ is. is;
   }
-
-  -- no memory for the spellings
-  pub appends_lacking : (records : List Record) (j : Journal D) → Holds may_leave digest kept place risked None j
-      → Appends may_leave moment left_since faults digest kept place risked records j (Err Memory) j
-  appends_lacking records j holds = record {
-    luck = lacking;
-    outcome = refl;
-    holds = more_risk may_leave digest kept place risked records None j holds;
-    fault = λ is. absurd cc;
-    settled = rests records None j holds;
-  }
+  appends_none (r ∷ rs) j none holds = absurd cc
 
   -- what `append_batch` says of an append of some bytes
   pub record Batch (before after : Journal D) (bytes : List ℕ) (result : Result (Unit {0}) AppendError) : Type 0 where
@@ -163,73 +136,70 @@ module _ {D : Type 0} (may_leave : D → List ℕ → Type 0) (moment : D → �
     pub fault : IsErrOf result DiskFault → (faults (disk_of before) < faults (disk_of after)) ⊎ (state_of before ≡ Faulted)
     pub state : Leaves result (IsSame before after) (state_of before) (state_of after)
 
-  module _ (r : Record) (rs : List Record) (spelled : AreRecords (r ∷ rs)) (before after : Journal D) where
+  module _ (r : Record) (rs : List Record) (before after : Journal D) where
+    abbrev all : List Record
+    all = r ∷ rs
+
     -- each image of a disk after an append that began whole is settled
-    now_settled : (moments : LeavesOnly moment left_since (disk_of before) (disk_of after)
-        (λ c. IsSettled c digest (records_bytes kept) (records_bytes (r ∷ rs))))
-        → AllSettled (may_leave (disk_of after)) digest (records_bytes kept) (records_bytes (r ∷ rs))
+    now_settled : LeavesOnly moment left_since (disk_of before) (disk_of after) (λ c. IsSettled c digest (records_bytes kept) (records_bytes all))
+        → AllSettled (may_leave (disk_of after)) digest (records_bytes kept) (records_bytes all)
     now_settled moments c left = moments.each c (counts_now (disk_of after) (moment (disk_of before)) c moments.later left)
 
     is_broken : (stopped : Option StopCause) → state_of after ≢ Whole → (state_of after ≡ Faulted → stopped ≡ Some disk_fault)
-        → LeavesOnly moment left_since (disk_of before) (disk_of after) (λ c. IsSettled c digest (records_bytes kept) (records_bytes (r ∷ rs)))
-        → Holds may_leave digest kept place (with_risk risked (r ∷ rs)) stopped after
+        → LeavesOnly moment left_since (disk_of before) (disk_of after) (λ c. IsSettled c digest (records_bytes kept) (records_bytes all))
+        → Holds may_leave digest kept all place stopped after
     is_broken stopped broken fault moments = inr record {
       broken = broken;
       fault = fault;
-      batch = r ∷ rs;
-      among = last_among risked r rs;
-      records = spelled;
+      batch = all;
+      first = ([], append-nil all);
       settled = now_settled moments;
     }
 
-    the_batch : LeavesOnly moment left_since (disk_of before) (disk_of after) (λ c. IsSettled c digest (records_bytes kept) (records_bytes (r ∷ rs)))
-        → StaysSettled moment left_since digest kept risked (r ∷ rs) (disk_of before) (disk_of after)
-    the_batch moments = record {
-      batch = r ∷ rs;
-      one = record { each = spelled; among = inr (inl refl) };
-      moments = moments;
-    }
+    the_batch : LeavesOnly moment left_since (disk_of before) (disk_of after) (λ c. IsSettled c digest (records_bytes kept) (records_bytes all))
+        → StaysSettled moment left_since digest kept all (disk_of before) (disk_of after)
+    the_batch moments = record { batch = all; first = ([], append-nil all); moments = moments }
 
     -- on a whole journal
-    appends_safe : (result : Result (Unit {0}) AppendError) → Batch before after (records_bytes (r ∷ rs)) result → IsSafe may_leave digest kept place before
-        → Appends may_leave moment left_since faults digest kept place risked (r ∷ rs) before result after
+    appends_safe : (result : Result (Unit {0}) AppendError) → Batch before after (records_bytes all) result → IsSafe may_leave digest kept place before
+        → Appends may_leave moment left_since faults digest kept all place before result after
     appends_safe (Ok done) b safe =
         let moments = b.any_moment safe.stands in
-        let long : place + 6 + length (records_bytes (r ∷ rs)) ≤ 2 ^ 30 = omega (arith, b.room, safe.here) in record {
+        let long : place + 6 + length (records_bytes all) ≤ 2 ^ 30 = omega (arith, b.room, safe.here) in record {
           luck = fine;
-          outcome = sym (room_left place (r ∷ rs) passes long);
-          holds = (
-            spelled,
-            inl record {
-              stands = subst (λ text. StandsFor may_leave digest text after) (sym (bytes_joined kept (r ∷ rs))) (b.ok safe.stands);
-              here = b.gate ∙ ap (λ n. n + 5 + length (records_bytes (r ∷ rs))) safe.here;
-            },
-          );
+          outcome = sym (room_left place all passes long);
+          holds = inl record {
+            stands = subst (λ text. StandsFor may_leave digest text after) (sym (bytes_joined kept all)) (b.ok safe.stands);
+            here = b.gate ∙ ap (λ n. n + 5 + length (records_bytes all)) safe.here;
+          };
           fault = λ is. absurd cc;
           settled = the_batch moments;
+          whole = λ is. b.state.1;
         }
     appends_safe (Err DiskFault) b safe =
         let moments = b.any_moment safe.stands in
         let whole = safe.stands.0 in
-        let long : place + 6 + length (records_bytes (r ∷ rs)) ≤ 2 ^ 30 = omega (arith, b.full whole, safe.here) in record {
+        let long : place + 6 + length (records_bytes all) ≤ 2 ^ 30 = omega (arith, b.full whole, safe.here) in record {
           luck = faulty;
-          outcome = sym (room_left place (r ∷ rs) (stops disk_fault) long);
+          outcome = sym (room_left place all (stops disk_fault) long);
           holds = is_broken (Some disk_fault) (λ is. let no : Faulted ≡ Whole = sym b.state.0 ∙ is in absurd cc) (λ is. refl) moments;
           fault = λ is. elim (b.fault refl) [
             | inl rose ↦ rose
             | inr broken ↦ let no : Whole ≡ Faulted = sym whole ∙ broken in absurd cc
           ];
           settled = the_batch moments;
+          whole = tt;
         }
     appends_safe (Err (JournalFull len)) b safe =
         let moments = b.any_moment safe.stands in
-        let told : len ≡ place + 6 + length (records_bytes (r ∷ rs)) = omega (arith, b.full.0, safe.here) in
-        let beyond : 2 ^ 30 < place + 6 + length (records_bytes (r ∷ rs)) = omega (arith, b.full.1, safe.here) in record {
+        let told : len ≡ place + 6 + length (records_bytes all) = omega (arith, b.full.0, safe.here) in
+        let beyond : 2 ^ 30 < place + 6 + length (records_bytes all) = omega (arith, b.full.1, safe.here) in record {
           luck = fine;
-          outcome = ap (λ n. stops (journal_full n)) told ∙ sym (no_room place (r ∷ rs) passes beyond);
-          holds = inl (same_holds may_leave digest kept place risked None before after b.state.1 safe);
+          outcome = ap (λ n. stops (journal_full n)) told ∙ sym (no_room place all passes beyond);
+          holds = inl (same_holds may_leave digest kept all place before after b.state.1 safe);
           fault = λ is. absurd cc;
           settled = the_batch moments;
+          whole = tt;
         }
     appends_safe (Err Memory) b safe =
         let moments = b.any_moment safe.stands in
@@ -237,7 +207,7 @@ module _ {D : Type 0} (may_leave : D → List ℕ → Type 0) (moment : D → �
           luck = lacking;
           outcome = refl;
           holds = elim b.state [
-            | inl kept_whole ↦ inl (same_holds may_leave digest kept place risked None before after kept_whole.1 safe)
+            | inl kept_whole ↦ inl (same_holds may_leave digest kept all place before after kept_whole.1 safe)
             | inr broke ↦ elim broke [
               | inl late ↦ is_broken None (λ is. let no : OutOfMemory ≡ Whole = sym late.1 ∙ is in absurd cc)
                   (λ is. let no : OutOfMemory ≡ Faulted = sym late.1 ∙ is in absurd cc) moments
@@ -246,11 +216,12 @@ module _ {D : Type 0} (may_leave : D → List ℕ → Type 0) (moment : D → �
           ];
           fault = λ is. absurd cc;
           settled = the_batch moments;
+          whole = tt;
         }
 
     -- on a journal that an append broke
-    appends_broken : (result : Result (Unit {0}) AppendError) → Batch before after (records_bytes (r ∷ rs)) result → IsBroken may_leave digest kept risked None before
-        → Appends may_leave moment left_since faults digest kept place risked (r ∷ rs) before result after
+    appends_broken : (result : Result (Unit {0}) AppendError) → Batch before after (records_bytes all) result → IsBroken may_leave digest kept all None before
+        → Appends may_leave moment left_since faults digest kept all place before result after
     appends_broken (Ok done) b broken = absurd (broken.broken b.state.0)
     appends_broken (Err DiskFault) b broken = elim b.state.1 [
       | inl whole ↦ absurd (broken.broken whole)
@@ -268,26 +239,25 @@ module _ {D : Type 0} (may_leave : D → List ℕ → Type 0) (moment : D → �
             broken = λ is. broken.broken (sym again.1.state ∙ is);
             fault = λ is. broken.fault (sym again.1.state ∙ is);
             batch = broken.batch;
-            among = still_among risked (r ∷ rs) broken.batch broken.among;
-            records = broken.records;
+            first = broken.first;
             settled = λ c left. broken.settled c (subst (λ d. may_leave d c) again.1.disk left);
           };
           fault = λ is. absurd cc;
-          settled = subst (λ d. StaysSettled moment left_since digest kept risked (r ∷ rs) (disk_of before) d) (sym again.1.disk)
-              (rests (r ∷ rs) None before (inr broken));
+          settled = subst (λ d. StaysSettled moment left_since digest kept all (disk_of before) d) (sym again.1.disk) (rests all None before (inr broken));
+          whole = tt;
         }
       ]
     ]
 
-    pub appends_some : (result : Result (Unit {0}) AppendError) → Batch before after (records_bytes (r ∷ rs)) result → Holds may_leave digest kept place risked None before
-        → Appends may_leave moment left_since faults digest kept place risked (r ∷ rs) before result after
+    pub appends_some : (result : Result (Unit {0}) AppendError) → Batch before after (records_bytes all) result → Holds may_leave digest kept all place None before
+        → Appends may_leave moment left_since faults digest kept all place before result after
     appends_some result b (inl safe) = appends_safe result b safe
     appends_some result b (inr broken) = appends_broken result b broken
 
-  pub appends_list : (records : List Record) → records ≢ [] → AreRecords records → (before after : Journal D) (bytes : List ℕ)
-      (result : Result (Unit {0}) AppendError) → bytes ≡ records_bytes records → Batch before after bytes result
-      → Holds may_leave digest kept place risked None before
-      → Appends may_leave moment left_since faults digest kept place risked records before result after
-  appends_list [] some spelled before after bytes result is b holds = absurd (some refl)
-  appends_list (r ∷ rs) some spelled before after bytes result is b holds =
-      appends_some r rs spelled before after result (subst (λ l. Batch before after l result) is b) holds
+  pub appends_list : (pending : List Record) → pending ≢ [] → (before after : Journal D) (bytes : List ℕ)
+      (result : Result (Unit {0}) AppendError) → bytes ≡ records_bytes pending → Batch before after bytes result
+      → Holds may_leave digest kept pending place None before
+      → Appends may_leave moment left_since faults digest kept pending place before result after
+  appends_list [] some before after bytes result is b holds = absurd (some refl)
+  appends_list (r ∷ rs) some before after bytes result is b holds =
+      appends_some r rs before after result (subst (λ l. Batch before after l result) is b) holds

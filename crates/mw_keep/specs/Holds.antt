@@ -1,6 +1,7 @@
 -- How a journal holds records: whole, or broken by an append, as a crash may leave it.
-use Rattle.std.specs.Prelude.{◌≡◌, ◌≢◌, ◌⊎◌, ◌<◌, ℕ, List, [], length, get_or, Option, Some}
+use Rattle.std.specs.Prelude.{◌≡◌, ◌≢◌, ◌⊎◌, ℕ, List, Option, Some}
 use Rattle.std.specs.List.{AllByRecursion}
+use mathlib.Core.List.{IsPrefix}
 use Rattle.mw_protocol.specs.Lives.{StopCause, disk_fault}
 use Rattle.mw_protocol.specs.Records.{Record}
 use Rattle.mw_protocol.specs.Spelled.{IsRecord, records_bytes}
@@ -13,12 +14,6 @@ use Rattle.mw_journal.specs.declared.state.JournalState.TheVariants.{Whole, Faul
 abbrev pub AreRecords : List Record → Type 0
 AreRecords records = AllByRecursion IsRecord records
 
--- one of the lists of records at risk, or none
-pub record IsAmong (risked : List (List Record)) (records : List Record) : Type 0 where
-  pub number : ℕ
-  pub within : number < length risked
-  pub same : records ≡ get_or risked number []
-
 -- it takes further batches: each image of its disk stands for the records, and has 0 at the gate at a place
 pub record IsSafe {D : Type 0} (may_leave : D → List ℕ → Type 0) (digest : List ℕ)
     (kept : List Record) (place : ℕ) (j : Journal D)
@@ -26,19 +21,18 @@ pub record IsSafe {D : Type 0} (may_leave : D → List ℕ → Type 0) (digest :
   pub stands : StandsFor may_leave digest (records_bytes kept) j
   pub here : gate_of j ≡ place
 
--- an append broke it: each image of its disk is settled for the records and some of those at risk
+-- an append broke it: each image of its disk is settled for the records and the first of those that are pending
 pub record IsBroken {D : Type 0} (may_leave : D → List ℕ → Type 0) (digest : List ℕ)
-    (kept : List Record) (risked : List (List Record))
+    (kept pending : List Record)
     (stopped : Option StopCause) (j : Journal D)
     : Type 0 where
   pub broken : state_of j ≢ Whole
   pub fault : state_of j ≡ Faulted → stopped ≡ Some disk_fault
   pub batch : List Record
-  pub among : IsAmong risked batch
-  pub records : AreRecords batch
+  pub first : IsPrefix batch pending
   pub settled : AllSettled (may_leave (disk_of j)) digest (records_bytes kept) (records_bytes batch)
 
-abbrev pub Holds : {D : Type 0} → (D → List ℕ → Type 0) → List ℕ → List Record → ℕ
-    → List (List Record) → Option StopCause → Journal D → Type 0
-Holds may_leave digest kept place risked stopped j =
-    IsSafe may_leave digest kept place j ⊎ IsBroken may_leave digest kept risked stopped j
+abbrev pub Holds : {D : Type 0} → (D → List ℕ → Type 0) → List ℕ → List Record → List Record → ℕ
+    → Option StopCause → Journal D → Type 0
+Holds may_leave digest kept pending place stopped j =
+    IsSafe may_leave digest kept place j ⊎ IsBroken may_leave digest kept pending stopped j

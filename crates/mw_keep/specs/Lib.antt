@@ -3,6 +3,7 @@ pub mod Appends
 pub mod Entered
 pub mod Holds
 pub mod Keeps
+pub mod Left
 pub mod Recovers
 pub mod Standing
 pub mod Views

@@ -12,12 +12,15 @@ use Rattle.mw_journal.specs.declared.error.OpenError.{OpenError}
 use Rattle.mw_journal.specs.declared.error.OpenError.TheVariants as open_error
 use Rattle.mw_keep.specs.Entered.{AreSound, IsBadRecord}
 use Rattle.mw_keep.specs.Holds.{AreRecords}
-use Rattle.mw_keep.specs.Keeps.{Keeps, kept_disk}
+use Rattle.mw_journal.specs.Journal.{state_of}
+use Rattle.mw_journal.specs.declared.state.JournalState.TheVariants.{Whole}
+use Rattle.mw_keep.specs.Keeps.{Keeps, journal_of, kept_disk, origin_of}
+use Rattle.mw_keep.specs.Standing.{Began}
 use Rattle.mw_keep.specs.declared.error.KeepError.{KeepError}
 use Rattle.mw_keep.specs.declared.error.KeepError.TheVariants.{BadSeed, DiskFault, NotJournal, OtherSeed, BadRecord, Memory}
 use Rattle.mw_keep.specs.declared.kept.KeptRoom.{KeptRoom}
 
--- its life begins with the records for which the disk's bytes stand, its gate at their place; where each image of the disk was settled for some records and a batch, it begins with these records, or with these and the batch
+-- its life begins with the records for which the disk's bytes stand, its gate at their place, and is told to have begun so; where each image of the disk was settled for some records and a batch, it begins with these records, or with these and the batch
 pub record Resumes {D : Type 0} (told : D → Option (List ℕ)) (may_leave : D → List ℕ → Type 0)
     (digest : List ℕ) (seed : Seed) (disk : D)
     (k : KeptRoom D)
@@ -25,6 +28,8 @@ pub record Resumes {D : Type 0} (told : D → Option (List ℕ)) (may_leave : D 
   pub journal : List Record
   pub place : ℕ
   pub keeps : Keeps may_leave digest (new_life seed journal place) k
+  pub began : Began may_leave digest seed journal place (origin_of k)
+  pub whole : state_of (journal_of k) ≡ Whole
   pub sound : AreSound seed journal
   pub stands : (f : List ℕ) → told disk ≡ Some f → StandsAt f digest (records_bytes journal) place
   pub one : (f : List ℕ) (kept batch : List Record) → told disk ≡ Some f → AreRecords kept

@@ -1,5 +1,5 @@
 -- Calls and replies as plain data.
-use Rattle.std.specs.Prelude.{Option, Some, None}
+use Rattle.std.specs.Prelude.{Option, Some, None, Result, Ok, Err}
 use Rattle.mw_protocol.specs.Lives as plain
 use Rattle.mw_protocol.specs.Rooms.{opened, sent, failed, lost}
 use Rattle.mw_packets_in.specs.View.{packet_view, bad_view}
@@ -35,3 +35,8 @@ reply_view Gone = plain.gone
 reply_view Overrun = plain.overrun
 reply_view (Stopped cause) = plain.stopped (cause_view cause)
 reply_view Memory = plain.memory
+
+-- the answer to a commit, or to why it isn't done
+abbrev pub commit_view : Result (Unit {0}) Reply → plain.Reply
+commit_view (Ok done) = plain.done
+commit_view (Err reply) = reply_view reply

@@ -5,6 +5,7 @@ mod append;
 mod call;
 mod error;
 mod kept;
+pub mod laws;
 mod recovery;
 mod reply;
 mod standing;

@@ -6,16 +6,20 @@ ghost use Rattle.mw_journal.specs.Settled.{IsSettled, AllSettled};
 ghost use Rattle.mw_model.specs.Seed.{Seed};
 ghost use Rattle.mw_multidata.specs.Digest.{digest_of};
 ghost use Rattle.mw_multidata.specs.SeedOf.{SeedOf};
+ghost use Rattle.mw_protocol.specs.Lives.{Life, Step, life_after_all};
 ghost use Rattle.mw_protocol.specs.Records.{Record};
 ghost use Rattle.mw_protocol.specs.Rooms.{Room as Plain, empty_room};
 ghost use Rattle.mw_protocol.specs.Spelled.{records_bytes};
 ghost use Rattle.mw_room.specs.Represents.{Represents};
 ghost use Rattle.mw_keep.specs.Entered.{AreSound, IsEntered, HasEntered, RefusesRecord, RefusesText};
-ghost use Rattle.mw_keep.specs.Standing.{HasLived};
+ghost use Rattle.mw_keep.specs.Left.{GoesOn, WasLeft};
+ghost use Rattle.mw_keep.specs.Standing.{HasLived, first_disk};
+ghost use Rattle.mw_keep.specs.Keeps.{kept_disk};
 ghost use Rattle.mw_keep.specs.Recovers.{IsNoJournal, IsOutside, Resumes, Recovers, RefusesResume, RefusesRecover, disk_left, keep_error_of};
 
 use crate::error::KeepError;
 use crate::kept::KeptRoom;
+use crate::laws::{journals_are_named, names_fit};
 use mw_base::Memory;
 use mw_disk::Disk;
 use mw_journal::{OpenError, open};
@@ -83,21 +87,25 @@ fn keep_error(error: OpenError) -> KeepError
     }
 }
 
-/// Makes the room of a journal anew, that of a seed with this digest. A life begins.
+/// Makes the room of a journal anew, that of a seed with this digest. A life begins: with all that
+/// was committed in the life before, where a crash left it, and maybe some of the first records that
+/// were pending.
 ///
 /// A journal's first gate that isn't open is written 0, where it isn't 0. At each moment of the
 /// call a crash leaves what it might have left before: records that were settled stay settled.
 ///
 /// `NotJournal`, `OtherSeed` and `BadRecord` come exactly where the bytes are so, in this order,
-/// and never where each image of the disk is settled for records of the seed; with the first two
-/// nothing is written. `DiskFault` comes only where the disk's count rose.
+/// and never where each image of the disk is settled for records of the seed, as those are that a
+/// room of it wrote; with the first two nothing is written. `DiskFault` comes only where the disk's
+/// count rose.
 pub fn resume<D: Disk>(
     alloc: Global,
     disk: D,
     multidata: Multidata,
     digest: &[u8; 32],
 ) -> Result<KeptRoom<D>, (D, KeepError)>
-    ensures fresh { IfOk result (λ k. HasLived D.may_leave k []) }
+    ensures fresh { IfOk result (λ k. HasLived D.may_leave D.told D.faults k []) }
+    ensures disk { IfOk result (λ k. first_disk k ≡ kept_disk k) }
     ensures resumes { IfOk result (Resumes D.told D.may_leave digest.now multidata disk) }
     ensures refused { IfErr result (λ e. RefusesResume (D.told disk) digest.now multidata
         (D.faults disk) (D.faults e.0) e.1) }
@@ -105,6 +113,12 @@ pub fn resume<D: Disk>(
         → D.told disk ≡ Some f → AreSound multidata kept → AreSound multidata batch
         → AllSettled (D.may_leave disk) digest.now (records_bytes kept) (records_bytes batch)
         → IsOutside e.1) }
+    ensures goes_on { IfOk result (λ k. (life : Life)
+        → WasLeft (D.told disk) (D.may_leave disk) digest.now multidata life
+        → GoesOn D.may_leave digest.now life k) }
+    ensures accepted { IfErr result (λ e. (steps : List Step)
+        → WasLeft (D.told disk) (D.may_leave disk) digest.now multidata
+        (life_after_all multidata steps) → IsOutside e.1) }
     ensures read { IfErr result (λ e. IsNoJournal e.1 → OnlyReads D.told D.may_leave D.moment
         D.left_since D.faults disk e.0) }
     ensures any_moment { (text body : List ℕ)
@@ -114,6 +128,9 @@ pub fn resume<D: Disk>(
     ensures tells { is_some (D.told (disk_left result)) ≡ is_some (D.told disk) }
     ensures count { D.faults disk ≤ D.faults (disk_left result) }
 {
+    // What a room of the seed wrote names only what the seed has.
+    names_fit(&multidata);
+    journals_are_named();
     let Ok(mut room) = room_of(alloc, multidata) else {
         return Err((disk, KeepError::Memory));
     };
@@ -135,7 +152,8 @@ pub fn recover<D: Disk>(
     disk: D,
     multidata: &[u8],
 ) -> Result<KeptRoom<D>, (D, KeepError)>
-    ensures fresh { IfOk result (λ k. HasLived D.may_leave k []) }
+    ensures fresh { IfOk result (λ k. HasLived D.may_leave D.told D.faults k []) }
+    ensures disk { IfOk result (λ k. first_disk k ≡ kept_disk k) }
     ensures recovers { IfOk result (Recovers D.told D.may_leave multidata.now
         (digest_of multidata.now) disk) }
     ensures refused { IfErr result (λ e. RefusesRecover (D.told disk) multidata.now
@@ -145,6 +163,13 @@ pub fn recover<D: Disk>(
         → D.told disk ≡ Some f → AreSound seed kept → AreSound seed batch
         → AllSettled (D.may_leave disk) (digest_of multidata.now) (records_bytes kept)
         (records_bytes batch) → IsOutside e.1) }
+    ensures goes_on { IfOk result (λ k. (seed : Seed) (life : Life) → SeedOf multidata.now (Ok seed)
+        → WasLeft (D.told disk) (D.may_leave disk) (digest_of multidata.now) seed life
+        → GoesOn D.may_leave (digest_of multidata.now) life k) }
+    ensures accepted { IfErr result (λ e. (seed : Seed) (steps : List Step)
+        → SeedOf multidata.now (Ok seed)
+        → WasLeft (D.told disk) (D.may_leave disk) (digest_of multidata.now) seed
+        (life_after_all seed steps) → IsOutside e.1) }
     ensures read { IfErr result (λ e. IsNoJournal e.1 → OnlyReads D.told D.may_leave D.moment
         D.left_since D.faults disk e.0) }
     ensures untouched { (breach : Breach) → SeedOf multidata.now (Err breach)

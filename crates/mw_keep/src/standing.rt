@@ -22,7 +22,7 @@ impl<D: Disk> Stands for KeptRoom<D> {
 
     ghost replies = { MayReply D.may_leave };
 
-    ghost stands = { HasLived D.may_leave };
+    ghost stands = { HasLived D.may_leave D.told D.faults };
 
     fn act(&mut self, call: Call) -> Reply {
         KeptRoom::act(self, call)

@@ -1,5 +1,5 @@
 -- A client that follows the protocol never asks for Sync, and has a front of its view.
-use Rattle.std.proofs.Common.{◌≡◌, ◌⊎◌, inl, inr, ℕ, zero, suc, ◌==◌, ◌||◌, List, true, false, cond, ◌∷◌, [], ◌++◌, length, take, drop, filter, refl, sym, ap, ◌∙◌, true≢false}
+use Rattle.std.proofs.Common.{◌≡◌, ◌⊎◌, inl, inr, ℕ, ◌≤◌, zero, suc, ◌==◌, ◌||◌, List, true, false, cond, ◌∷◌, [], ◌++◌, length, take, drop, filter, refl, sym, ap, ◌∙◌, true≢false}
 use Rattle.std.proofs.lemmas.Bool.{cond_both, both_ways}
 use Rattle.std.specs.List.{list_any}
 use Rattle.mw_model.specs.Items.{NetItem}
@@ -7,6 +7,7 @@ use Rattle.mw_protocol.specs.Messages.{ServerPacket, room_info, connected, recei
 use Rattle.mw_protocol.specs.Rooms.{Message}
 use Rattle.mw_laws.specs.Applied.{Client, given, applied_packets, applied_messages, having, has_items}
 use Rattle.mw_laws.specs.Views.{is_received_items}
+use Rattle.mw_laws.proofs.Each.{Each}
 
 -- ---- clients
 
@@ -110,36 +111,45 @@ messages_forget list (m ∷ ms) has fine = message_forgets list m ms (messages_f
 
 -- ---- what holds of a client all along
 
--- it holds of the client before the messages, and after each of them
-abbrev pub Along : (Client → Type 0) → Client → List Message → Type 0
-Along P c [] = P c
-Along P c (m ∷ ms) = P c × Along P (applied_packets c m.packets) ms
+-- it holds of the client before the messages, and after each of them, with the length that the last message carries which it heard
+abbrev pub Along : (ℕ → Client → Type 0) → ℕ → Client → List Message → Type 0
+Along P n c [] = P n c
+Along P n c (m ∷ ms) = P n c × Along P m.carries (applied_packets c m.packets) ms
 
-module _ (P : Client → Type 0) where
-  along_first : (c : Client) (ms : List Message) → Along P c ms → P c
-  along_first c [] h = h
-  along_first c (m ∷ ms) h = h.0
+-- the length that the last message carries, or this one where there is none
+abbrev pub last_carried : ℕ → List Message → ℕ
+last_carried n [] = n
+last_carried n (m ∷ ms) = last_carried m.carries ms
 
-  pub along_last : (c : Client) (ms : List Message) → Along P c ms → P (applied_messages c ms)
-  along_last c [] h = h
-  along_last c (m ∷ ms) h = along_last (applied_packets c m.packets) ms h.1
+pub last_at_most : (high n : ℕ) (ms : List Message) → n ≤ high → Each (λ m. m.carries ≤ high) ms → last_carried n ms ≤ high
+last_at_most high n [] low h = low
+last_at_most high n (m ∷ ms) low h = last_at_most high m.carries ms h.0 h.1
 
-  pub along_take : (count : ℕ) (c : Client) (ms : List Message) → Along P c ms → Along P c (take count ms)
-  along_take zero c ms h = along_first c ms h
-  along_take (suc n) c [] h = h
-  along_take (suc n) c (m ∷ ms) h = (h.0, along_take n (applied_packets c m.packets) ms h.1)
+module _ (P : ℕ → Client → Type 0) where
+  along_first : (n : ℕ) (c : Client) (ms : List Message) → Along P n c ms → P n c
+  along_first n c [] h = h
+  along_first n c (m ∷ ms) h = h.0
+
+  pub along_last : (n : ℕ) (c : Client) (ms : List Message) → Along P n c ms → P (last_carried n ms) (applied_messages c ms)
+  along_last n c [] h = h
+  along_last n c (m ∷ ms) h = along_last m.carries (applied_packets c m.packets) ms h.1
+
+  pub along_take : (count n : ℕ) (c : Client) (ms : List Message) → Along P n c ms → Along P n c (take count ms)
+  along_take zero n c ms h = along_first n c ms h
+  along_take (suc count) n c [] h = h
+  along_take (suc count) n c (m ∷ ms) h = (h.0, along_take count m.carries (applied_packets c m.packets) ms h.1)
 
   -- a front of the messages has a front of those from a point on
-  pub along_front : (from count : ℕ) (c : Client) (ms : List Message) → Along P c (drop from ms) → Along P c (drop from (take count ms))
-  along_front zero count c ms h = along_take count c ms h
-  along_front (suc from) zero c ms h = along_first c (drop (suc from) ms) h
-  along_front (suc from) (suc n) c [] h = h
-  along_front (suc from) (suc n) c (m ∷ ms) h = along_front from n c ms h
+  pub along_front : (from count n : ℕ) (c : Client) (ms : List Message) → Along P n c (drop from ms) → Along P n c (drop from (take count ms))
+  along_front zero count n c ms h = along_take count n c ms h
+  along_front (suc from) zero n c ms h = along_first n c (drop (suc from) ms) h
+  along_front (suc from) (suc count) n c [] h = h
+  along_front (suc from) (suc count) n c (m ∷ ms) h = along_front from count n c ms h
 
-  pub along_push : (c : Client) (ms : List Message) (m : Message) → Along P c ms → P (applied_messages c (ms ++ m ∷ [])) → Along P c (ms ++ m ∷ [])
-  along_push c [] m h last = (h, last)
-  along_push c (n ∷ ms) m h last = (h.0, along_push (applied_packets c n.packets) ms m h.1 last)
+  pub along_push : (n : ℕ) (c : Client) (ms : List Message) (m : Message) → Along P n c ms → P m.carries (applied_messages c (ms ++ m ∷ [])) → Along P n c (ms ++ m ∷ [])
+  along_push n c [] m h last = (h, last)
+  along_push n c (k ∷ ms) m h last = (h.0, along_push k.carries (applied_packets c k.packets) ms m h.1 last)
 
-  pub along_weaker : (Q : Client → Type 0) → ((c : Client) → P c → Q c) → (c : Client) (ms : List Message) → Along P c ms → Along Q c ms
-  along_weaker Q f c [] h = f c h
-  along_weaker Q f c (m ∷ ms) h = (f c h.0, along_weaker Q f (applied_packets c m.packets) ms h.1)
+  pub along_weaker : (Q : ℕ → Client → Type 0) → ((n : ℕ) (c : Client) → P n c → Q n c) → (n : ℕ) (c : Client) (ms : List Message) → Along P n c ms → Along Q n c ms
+  along_weaker Q f n c [] h = f n c h
+  along_weaker Q f n c (m ∷ ms) h = (f n c h.0, along_weaker Q f m.carries (applied_packets c m.packets) ms h.1)

@@ -48,10 +48,17 @@ module _ (P : Session → Type 0) where
   each_without number (s ∷ ss) h =
       elim (s.number == number) as (λ b. Each P (cond b ss (s ∷ without number ss))) [ true ↦ h.1 | false ↦ (h.0, each_without number ss h.1) ]
 
-  pub each_taken : (number : ℕ) → ((s : Session) → P s → P (taken_all s)) → (ss : List Session) → Each P ss → Each P (taken_among number ss)
-  each_taken number f [] h = tt
-  each_taken number f (s ∷ ss) h =
-      elim (s.number == number) as (λ b. Each P (cond b (taken_all s ∷ ss) (s ∷ taken_among number ss))) [ true ↦ (f s h.0, h.1) | false ↦ (h.0, each_taken number f ss h.1) ]
+-- what each session has leaves each another, once that of a number has taken its messages
+pub each_took : (P Q : Session → Type 0) (number : ℕ) → ((s : Session) → P s → Q s) → ((s : Session) → s.number ≡ number → P s → Q (taken_all s)) → (ss : List Session) → Each P ss → Each Q (taken_among number ss)
+each_took P Q number other own [] h = tt
+each_took P Q number other own (s ∷ ss) h =
+    elim (s.number == number) as (λ b. (s.number == number) ≡ b → Each Q (cond b (taken_all s ∷ ss) (s ∷ taken_among number ss))) [
+      | true ↦ λ is. (own s (eqb-true s.number number is) h.0, each_weaker P Q other ss h.1)
+      | false ↦ λ _. (other s h.0, each_took P Q number other own ss h.1)
+    ] refl
+
+pub each_taken : (P : Session → Type 0) (number : ℕ) → ((s : Session) → P s → P (taken_all s)) → (ss : List Session) → Each P ss → Each P (taken_among number ss)
+each_taken P number f = each_took P P number (λ s h. h) (λ s _. f s)
 
 -- a session that is found by a number has it, and its member is found by it
 pub found_by : (ss : List Session) (number : ℕ) (s : Session) → session_in ss number ≡ Some s → (s.number ≡ number) × (member_in ss number ≡ s.member)

@@ -18,6 +18,7 @@ mod Owing
 mod Pairs
 mod Players
 mod Points
+mod Prefixes
 mod Quiet
 mod Recording
 mod Runs
@@ -32,6 +33,7 @@ mod Steady
 mod Stored
 mod Strangers
 mod Tails
+mod Taken
 mod Telling
 mod Updates
 mod Viewing

@@ -18,7 +18,7 @@ use Rattle.mw_laws.proofs.Applying.{applied_filter}
 use Rattle.mw_laws.proofs.Effects.{MayBecome, same_still, packet_facts, parting_plain}
 use Rattle.mw_laws.proofs.Following.{SeesAs, event_sees}
 use Rattle.mw_laws.proofs.Journals.{next_journal, next_seed, views_grow}
-use Rattle.mw_laws.proofs.Keeping.{prefix_through}
+use Rattle.mw_laws.proofs.Prefixes.{prefix_through}
 use Rattle.mw_laws.proofs.Sessions.{none_before}
 use Rattle.mw_laws.proofs.Tails.{stranger_tells}
 use Rattle.mw_laws.proofs.Viewing.{items_are, items_at, asked_whole, grown_is}
@@ -51,7 +51,7 @@ front_seen seed mask journal (Some k) list h =
       | false ↦ λ other. (all, ap (λ front. front ++ all) (h.1 (λ is. true≢false (sym (eq-eqb k.mask mask is) ∙ other))))
     ] refl
 
-seen_grows : (seed : Seed) (mask : ℕ) (journal more : List Record) (before then : Option Member) → MayBecome before then → IsPrefix (seen seed mask journal before) (seen seed mask (journal ++ more) then)
+pub seen_grows : (seed : Seed) (mask : ℕ) (journal more : List Record) (before then : Option Member) → MayBecome before then → IsPrefix (seen seed mask journal before) (seen seed mask (journal ++ more) then)
 seen_grows seed mask journal more None then h = (seen seed mask (journal ++ more) then, refl)
 seen_grows seed mask journal more (Some k) None h = absurd h
 seen_grows seed mask journal more (Some k) (Some n) h =
@@ -98,7 +98,7 @@ module _ (seed : Seed) (mask : ℕ) (room : Room) (same : room.seed ≡ seed) (e
   before_is m masked = ap (λ e. view_of e (standing e room.journal) m) same ∙ view_is seed room.journal m ∙ ap (λ k. view seed k m.team m.slot room.journal) masked
 
   -- what a slot received through the mask grows
-  pub seen_then : (before then : Option Member) → MayBecome before then → IsPrefix (seen seed mask room.journal before) (seen seed mask journal_then then)
+  seen_then : (before then : Option Member) → MayBecome before then → IsPrefix (seen seed mask room.journal before) (seen seed mask journal_then then)
   seen_then before then h =
       subst (λ journal. IsPrefix (seen seed mask room.journal before) (seen seed mask journal then)) (sym (next_journal room event)) (seen_grows seed mask room.journal (effect_in room event).records before then h)
 

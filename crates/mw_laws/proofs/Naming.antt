@@ -1,5 +1,5 @@
 -- The records of a room's lives name only what its seed has.
-use Rattle.std.proofs.Common.{◌≡◌, ℕ, ℤ, zero, suc, ◌==◌, ◌&&◌, ◌||◌, List, Bool, true, not, cond, ◌∷◌, [], Option, Some, None, Result, Ok, Err, is_some, map, take, get_or, codes, nat_lt, refl, sym, ap, subst, ◌∙◌, true≢false, eqb-true, eq-eqb}
+use Rattle.std.proofs.Common.{◌≡◌, ℕ, ℤ, ◌+◌, ◌==◌, ◌&&◌, ◌||◌, List, Bool, true, not, cond, ◌∷◌, [], Option, Some, None, Result, Ok, Err, is_some, map, codes, nat_lt, refl, sym, ap, subst, ◌∙◌, true≢false, eqb-true, eq-eqb}
 use Rattle.std.specs.List.{list_all}
 use Rattle.std.specs.Ordering.{int_eq}
 use Rattle.std.proofs.lemmas.Bool.{and_from, and_parts, cond_both, cond-true}
@@ -15,7 +15,7 @@ use Rattle.mw_protocol.specs.Effects.{stranger_effect, member_effect, effect_of}
 use Rattle.mw_protocol.specs.Entering.{joining, parting}
 use Rattle.mw_protocol.specs.HintList.{hint_at}
 use Rattle.mw_protocol.specs.Hints.{paid, bought_hint, item_bought, location_bought, first_where, first_if, is_open, item_named, location_named, held_named, scouted_hint, scouted_among, scouted_for, receives, differs, marks}
-use Rattle.mw_protocol.specs.Lives.{Life, Call, happens, commits, takes, Reply, Outcome, passes, lacks, stops, StopCause, disk_fault, journal_full, too_many_calls, Step, acts, crashes, new_life, refusal, outcome, records_of, room_then, risked_then, with_risk, risked_by, life_of, life_unless, at_risk, left_by, after, after_all, life_after_all}
+use Rattle.mw_protocol.specs.Lives.{Life, Call, happens, commits, takes, Step, acts, crashes, new_life, records_of, room_then, left_by, after, after_all, life_after_all}
 use Rattle.mw_protocol.specs.Locating.{checks_record, hints_scouted, mark_record, slot_number}
 use Rattle.mw_protocol.specs.Locations.{location_of, known, known_checks, new_checks}
 use Rattle.mw_protocol.specs.Named.{has_player, has_location, has_locations, is_named, are_named}
@@ -31,11 +31,12 @@ use Rattle.mw_protocol.specs.Storing.{is_kept, storing}
 use Rattle.mw_laws.specs.Kept.{journal_after}
 use Rattle.mw_laws.specs.Naming.{NamesFit, JournalsAreNamed}
 use Rattle.mw_laws.proofs.Among.{unseen_each}
-use Rattle.mw_laws.proofs.Each.{Each, each_weaker, each_map, each_push, each_taken}
+use Rattle.mw_laws.proofs.Each.{Each, each_weaker, each_map, each_taken}
 use Rattle.mw_laws.proofs.Keeping.{call_journal, call_seed}
 use Rattle.mw_laws.proofs.Lists.{passed-append, passed-take}
 use Rattle.mw_laws.proofs.Pairs.{each_of}
 use Rattle.mw_laws.proofs.Players.{Plays, IsPlayer, found_plays, next_plays}
+use Rattle.mw_laws.proofs.Runs.{room_after_call}
 
 -- ---- locations
 
@@ -286,9 +287,9 @@ module _ (seed : Seed) (fit : NamesFit seed) where
 
   -- ---- lives
 
-  -- whoever plays is of the seed, and the journal and all records at risk are named
-  abbrev IsFit : Life → Type 0
-  IsFit life = (life.room.seed ≡ seed) × Each (IsPlayer seed) life.room.sessions × Named life.room.journal × Each Named life.risked
+  -- whoever plays is of the seed, and the journal is named
+  abbrev IsFit : Room → Type 0
+  IsFit room = (room.seed ≡ seed) × Each (IsPlayer seed) room.sessions × Named room.journal
 
   call_named : (room : Room) → room.seed ≡ seed → Each (IsPlayer seed) room.sessions → (call : Call) → Named (records_of room call)
   call_named room same h (happens event) = event_named room same h event
@@ -300,61 +301,34 @@ module _ (seed : Seed) (fit : NamesFit seed) where
   call_plays room same h commits = h
   call_plays room same h (takes number) = each_taken (IsPlayer seed) number (λ s plays. plays) room.sessions h
 
-  risked_named : (risked : List (List Record)) (rs : List Record) → Each Named risked → Each Named (risked_then risked rs)
-  risked_named risked [] h = h
-  risked_named risked (r ∷ rs) h = tt
-
-  risk_named : (risked : List (List Record)) (rs : List Record) → Each Named risked → Named rs → Each Named (with_risk risked rs)
-  risk_named risked [] h named = h
-  risk_named risked (r ∷ rs) h named = each_push Named risked (r ∷ rs) h named
-
-  stopped_named : (cause : StopCause) (risked : List (List Record)) (rs : List Record) → Each Named risked → Named rs → Each Named (risked_by cause risked rs)
-  stopped_named disk_fault risked rs h named = risk_named risked rs h named
-  stopped_named (journal_full length) risked rs h named = h
-  stopped_named (too_many_calls count) risked rs h named = h
-
-  outcome_fit : (life : Life) (call : Call) (out : Outcome) → IsFit life → IsFit (life_of life call (records_of life.room call) out)
-  outcome_fit life call passes h = (
-    call_seed life.room call ∙ h.0,
-    call_plays life.room h.0 h.1 call,
-    subst Named (sym (call_journal life.room call)) (passed-append (is_named seed) life.room.journal (records_of life.room call) h.2 (call_named life.room h.0 h.1 call)),
-    risked_named life.risked (records_of life.room call) h.3,
+  call_fit : (room : Room) (call : Call) → IsFit room → IsFit (room_then room call)
+  call_fit room call h = (
+    call_seed room call ∙ h.0,
+    call_plays room h.0 h.1 call,
+    subst Named (sym (call_journal room call)) (passed-append (is_named seed) room.journal (records_of room call) h.2 (call_named room h.0 h.1 call)),
   )
-  outcome_fit life call lacks h = (h.0, h.1, h.2, risk_named life.risked (records_of life.room call) h.3 (call_named life.room h.0 h.1 call))
-  outcome_fit life call (stops cause) h = (h.0, h.1, h.2, stopped_named cause life.risked (records_of life.room call) h.3 (call_named life.room h.0 h.1 call))
 
-  unless_fit : (refused : Option Reply) (life otherwise : Life) → IsFit life → IsFit otherwise → IsFit (life_unless refused life otherwise)
-  unless_fit None life otherwise h k = k
-  unless_fit (Some reply) life otherwise h k = h
+  left_named : (life : Life) (more : ℕ) → IsFit life.room → Named (left_by life more)
+  left_named life more h = passed-take (is_named seed) (life.committed + more) life.room.journal h.2
 
-  risk_at : (risked : List (List Record)) (number : ℕ) → Each Named risked → Named (get_or risked number [])
-  risk_at [] number h = refl
-  risk_at (rs ∷ others) zero h = h.0
-  risk_at (rs ∷ others) (suc number) h = risk_at others number h.1
+  step_fit : (life : Life) (s : Step) → IsFit life.room → IsFit (after life s).room
+  step_fit life (acts call luck) h = room_after_call life call luck IsFit h (λ _. call_fit life.room call h)
+  step_fit life (crashes more place) h = (h.0, tt, left_named life more h)
 
-  left_named : (life : Life) (number kept : ℕ) → IsFit life → Named (left_by life number kept)
-  left_named life number kept h =
-      passed-append (is_named seed) life.room.journal (take kept (at_risk life number)) h.2 (passed-take (is_named seed) kept (at_risk life number) (risk_at life.risked number h.3))
-
-  step_fit : (life : Life) (s : Step) → IsFit life → IsFit (after life s)
-  step_fit life (acts call luck) h =
-      unless_fit (refusal life call) life (life_of life call (records_of life.room call) (outcome life call luck)) h (outcome_fit life call (outcome life call luck) h)
-  step_fit life (crashes number kept place) h = (h.0, tt, left_named life number kept h, tt)
-
-  all_fit : (life : Life) (run : List Step) → IsFit life → IsFit (after_all life run)
+  all_fit : (life : Life) (run : List Step) → IsFit life.room → IsFit (after_all life run).room
   all_fit life [] h = h
   all_fit life (s ∷ ss) h = all_fit (after life s) ss (step_fit life s h)
 
-  pub run_fit : (run : List Step) → IsFit (life_after_all seed run)
-  run_fit run = all_fit (new_life seed [] 40) run (refl, tt, refl, tt)
+  pub run_fit : (run : List Step) → IsFit (life_after_all seed run).room
+  run_fit run = all_fit (new_life seed [] 40) run (refl, tt, refl)
 
 pub journals_are_named : JournalsAreNamed
 journals_are_named = record {
   journal = λ seed run fit. named_all seed (journal_after seed run) ∙ (run_fit seed fit run).2;
-  risked = λ seed run number fit.
+  left = λ seed run more fit.
       let life = life_after_all seed run in
-      named_all seed (at_risk life number) ∙ risk_at seed fit life.risked number (run_fit seed fit run).3;
-  left = λ seed run number kept fit.
-      let life = life_after_all seed run in
-      named_all seed (left_by life number kept) ∙ left_named seed fit life number kept (run_fit seed fit run);
+      named_all seed (left_by life more) ∙ left_named seed fit life more (run_fit seed fit run);
+  anywhere = λ seed journal place run fit named.
+      let first = new_life seed journal place in
+      named_all seed (after_all first run).room.journal ∙ (all_fit seed fit first run (refl, tt, sym (named_all seed journal) ∙ named)).2;
 }

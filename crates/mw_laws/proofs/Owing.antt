@@ -1,25 +1,26 @@
 -- Each message that a session was owed in a life was owed by an event of it that passed.
 use mathlib.Core.List.{IsPrefix}
-use Rattle.std.proofs.Common.{◌≡◌, inl, inr, ℕ, ◌+◌, ◌<◌, ◌≤◌, ◌==◌, List, Bool, true, false, ◌∷◌, [], ◌++◌, Option, Some, None, map, length, take, drop, zero, suc, refl, sym, ap, subst, ◌∙◌, append_assoc, append-nil, arith, eq-eqb, ne_eqb, lt_irrefl}
-use Rattle.std.proofs.lemmas.Bool.{and_from, cond-true, cond-false}
-use Rattle.std.proofs.lemmas.List.{length-append}
+use Rattle.std.proofs.Common.{◌≡◌, ◌⊎◌, inl, inr, ℕ, ◌+◌, ◌<◌, ◌≤◌, ◌==◌, List, false, ◌∷◌, [], ◌++◌, Option, Some, None, IsTrue, map, length, max, take, drop, zero, suc, refl, sym, ap, subst, ◌∙◌, append_assoc, arith, eq-eqb, ne_eqb, lt_irrefl}
+use Rattle.std.proofs.lemmas.Bool.{cond_both, cond-true, cond-false, ltb-true, ltb-false}
+use Rattle.std.proofs.lemmas.List.{length-drop}
 use Rattle.std.specs.List.{list_all}
 use Rattle.mw_model.specs.Seed.{Seed}
-use Rattle.mw_protocol.specs.Lives.{Life, Call, happens, commits, takes, Luck, messages, Step, acts, crashes, new_life, life_after_all, room_then, reply_to}
+use Rattle.mw_protocol.specs.Lives.{Life, Call, happens, commits, takes, Luck, messages, Step, acts, crashes, new_life, pending_of, untaken_in, shows_pending, append_of, committed_then, life_after_all, room_then, reply_to}
 use Rattle.mw_protocol.specs.Messages.{ServerPacket, room_info}
 use Rattle.mw_protocol.specs.Players.{room_info_of}
-use Rattle.mw_protocol.specs.Rooms.{Message, Session, Room, Event, opened, sent, failed, lost, told, untaken_of, text_of, with_member, session_in, new_session, effect_in, next}
-use Rattle.mw_laws.specs.Kept.{Passes, is_done, journal_after}
-use Rattle.mw_laws.specs.Tails.{is_call, Passed, Owes, WasOwed, untaken_in, TakenWasOwed}
+use Rattle.mw_protocol.specs.Records.{Record}
+use Rattle.mw_protocol.specs.Rooms.{Message, Session, Room, Event, opened, sent, failed, lost, greatest, told, untaken_of, text_of, with_member, session_in, new_session, next}
+use Rattle.mw_laws.specs.Kept.{Passes, is_done, is_call, journal_after, committed_after}
+use Rattle.mw_laws.specs.Tails.{Passed, Owes, WasOwed, taking, TakenWasOwed}
 use Rattle.mw_laws.specs.Told.{staying, newcomers, session_then}
 use Rattle.mw_laws.specs.Turns.{member_then, owed_by}
 use Rattle.mw_laws.proofs.Each.{Each, each_weaker, each_with, each_map, each_push, each_in, each_taken, found_by}
 use Rattle.mw_laws.proofs.Following.{staying_each}
-use Rattle.mw_laws.proofs.Journals.{next_journal}
-use Rattle.mw_laws.proofs.Keeping.{passed_reply, done_passes, passed_room, run_grows}
+use Rattle.mw_laws.proofs.Keeping.{passed_reply, done_passes, passed_room, passed_committed, run_grows, first_stay}
 use Rattle.mw_laws.proofs.Lists.{passed-append}
 use Rattle.mw_laws.proofs.Numbers.{IsNumbered, Ascend, above, after_numbered}
 use Rattle.mw_laws.proofs.Pairs.{each_append, each_at}
+use Rattle.mw_laws.proofs.Prefixes.{prefix_length, prefix_first}
 use Rattle.mw_laws.proofs.Runs.{room_after_call, one_more, each_run, each_room}
 use Rattle.mw_laws.proofs.Sessions.{told_any, told_number, new_number}
 use Rattle.mw_laws.proofs.Telling.{events_tell}
@@ -68,22 +69,19 @@ IsOwed seed steps s = Each (WasOwed seed steps s.number) s.owed
 abbrev AreOwed : Seed → List Step → Room → Type 0
 AreOwed seed steps room = Each (IsOwed seed steps) room.sessions
 
-all_push : {X : Type 0} (p : X → Bool) (xs : List X) (x : X) → list_all p xs ≡ true → p x ≡ true → list_all p (xs ++ x ∷ []) ≡ true
-all_push p xs x h is = passed-append p xs (x ∷ []) h (and_from (p x) true is refl)
-
 module _ (seed : Seed) (front : List Step) (call : Call) (luck : Luck) where
   abbrev pub steps_then : List Step
   steps_then = front ++ acts call luck ∷ []
 
   -- a further call leaves what passed in the life before it
-  abbrev passed_still : Passed seed front → Passed seed steps_then
+  abbrev pub passed_still : Passed seed front → Passed seed steps_then
   passed_still p = record {
     before = p.before;
     event = p.event;
     luck = p.luck;
     later = p.later ++ acts call luck ∷ [];
     run = ap (λ steps. steps ++ acts call luck ∷ []) p.run ∙ append_assoc p.before (acts (happens p.event) p.luck ∷ p.later) (acts call luck ∷ []);
-    calls = all_push is_call p.later (acts call luck) p.calls refl;
+    calls = passed-append is_call p.later (acts call luck ∷ []) p.calls refl;
     passes = p.passes;
   }
 
@@ -92,7 +90,7 @@ module _ (seed : Seed) (front : List Step) (call : Call) (luck : Luck) where
 
 module _ (seed : Seed) (front : List Step) (event : Event) (luck : Luck) (passes : Passes (life_after_all seed front) (happens event) luck) where
   -- the event is one that passed
-  abbrev just_passed : Passed seed (steps_then seed front (happens event) luck)
+  abbrev pub just_passed : Passed seed (steps_then seed front (happens event) luck)
   just_passed = record { before = front; event = event; luck = luck; later = []; run = refl; calls = refl; passes = passes }
 
   told_owed : (s : Session) → session_in (life_after_all seed front).room.sessions s.number ≡ Some s → IsOwed seed front s
@@ -150,8 +148,7 @@ step_owed seed front (acts call luck) h =
     let life = life_after_all seed front in
     subst (λ then. AreOwed seed (front ++ acts call luck ∷ []) then.room) (sym (one_more seed front (acts call luck)))
     (room_after_call life call luck (AreOwed seed (front ++ acts call luck ∷ [])) (still_all seed front call luck life.room.sessions h) (call_owed seed front call luck h))
-step_owed seed front (crashes number kept place) h =
-    subst (λ then. AreOwed seed (front ++ crashes number kept place ∷ []) then.room) (sym (one_more seed front (crashes number kept place))) tt
+step_owed seed front (crashes more place) h = subst (λ then. AreOwed seed (front ++ crashes more place ∷ []) then.room) (sym (one_more seed front (crashes more place))) tt
 
 pub run_owed : (seed : Seed) (steps : List Step) → AreOwed seed steps (life_after_all seed steps).room
 run_owed seed steps = each_run (λ front. AreOwed seed front (life_after_all seed front).room) (step_owed seed) tt steps
@@ -179,6 +176,14 @@ taken_texts life number luck texts is =
 
 -- ---- the journal at an event that passed
 
+-- what an event owes carries the journal's length after it
+owes_length : (room : Room) (event : Event) (number : ℕ) (m : Message) → Owes room event number m → m.carries ≡ length (next room event).journal
+owes_length room event number m (inr tells) = ap (λ n. n.carries) tells.is
+owes_length room (opened time) number m (inl greets) = ap (λ n. n.carries) greets.1
+owes_length room (sent sender packet) number m (inl greets) = absurd greets
+owes_length room (failed sender bad) number m (inl greets) = absurd greets
+owes_length room (lost sender) number m (inl greets) = absurd greets
+
 module _ (seed : Seed) (steps : List Step) (p : Passed seed steps) where
   abbrev pub steps_to : List Step
   steps_to = p.before ++ acts (happens p.event) p.luck ∷ []
@@ -186,40 +191,73 @@ module _ (seed : Seed) (steps : List Step) (p : Passed seed steps) where
   pub point_journal : journal_after seed steps_to ≡ (next (life_after_all seed p.before).room p.event).journal
   point_journal = ap (λ life. life.room.journal) (one_more seed p.before (acts (happens p.event) p.luck)) ∙ ap (λ room. room.journal) (passed_room (life_after_all seed p.before) (happens p.event) p.luck p.passes)
 
-  -- it only grew since
-  pub point_grows : (more : List Step) → IsPrefix (journal_after seed steps_to) (journal_after seed (steps ++ more))
-  point_grows more =
-      let s = acts (happens p.event) p.luck in
-      let same : steps_to ++ (p.later ++ more) ≡ steps ++ more =
-      append_assoc p.before (s ∷ []) (p.later ++ more) ∙ sym (append_assoc p.before (s ∷ p.later) more) ∙ ap (λ run. run ++ more) (sym p.run) in
-      subst (λ run. IsPrefix (journal_after seed steps_to) (journal_after seed run)) same (run_grows seed steps_to (p.later ++ more))
+  -- it only grew in the life since
+  pub point_grows : IsPrefix (journal_after seed steps_to) (journal_after seed steps)
+  point_grows =
+      let same : steps_to ++ p.later ≡ steps = append_assoc p.before (acts (happens p.event) p.luck ∷ []) p.later ∙ sym p.run in
+      subst (λ run. IsPrefix (journal_after seed steps_to) (journal_after seed run)) same (run_grows seed steps_to p.later p.calls)
 
-prefix_length : {A : Type 0} (xs ys : List A) → IsPrefix xs ys → length xs ≤ length ys
-prefix_length xs ys h = let whole = ap length h.1 in omega (arith, length-append xs h.0)
+  -- and grows as the life goes on, and in later lives where it is committed
+  pub point_stays : (more : List Step) → IsTrue (list_all is_call more) ⊎ (length (journal_after seed steps_to) ≤ committed_after seed steps) → IsPrefix (journal_after seed steps_to) (journal_after seed (steps ++ more))
+  point_stays more kept =
+      let point = journal_after seed steps_to in
+      subst (λ front. IsPrefix front (journal_after seed (steps ++ more))) (prefix_first point (journal_after seed steps) point_grows) (first_stay seed steps more (length point) kept)
 
-owes_length : (room : Room) (event : Event) (number : ℕ) (m : Message) (high : ℕ) → Owes room event number m
-    → length room.journal ≤ length (next room event).journal → length (next room event).journal ≤ high → m.carries ≤ high
-owes_length room event number m high (inr tells) le lt = subst (λ n. n ≤ high) (ap (λ n. n.carries) (sym tells.is)) lt
-owes_length room (opened time) number m high (inl greets) le lt = subst (λ n. n ≤ high) (ap (λ n. n.carries) (sym greets.1)) lt
-owes_length room (sent sender packet) number m high (inl greets) le lt = absurd greets
-owes_length room (failed sender bad) number m high (inl greets) le lt = absurd greets
-owes_length room (lost sender) number m high (inl greets) le lt = absurd greets
+  -- a message that the event owed carries its length
+  pub point_carries : (number : ℕ) (m : Message) → Owes (life_after_all seed p.before).room p.event number m → m.carries ≡ length (journal_after seed steps_to)
+  point_carries number m owes = owes_length (life_after_all seed p.before).room p.event number m owes ∙ ap length (sym point_journal)
 
 was_carried : (seed : Seed) (steps : List Step) (number : ℕ) (m : Message) → WasOwed seed steps number m → m.carries ≤ length (journal_after seed steps)
-was_carried seed steps number m was =
-    let p = was.0 in
-    let room = (life_after_all seed p.before).room in
-    let now : IsPrefix (journal_after seed (steps_to seed steps p)) (journal_after seed steps) =
-    subst (λ run. IsPrefix (journal_after seed (steps_to seed steps p)) (journal_after seed run)) (append-nil steps) (point_grows seed steps p []) in
-    owes_length room p.event number m (length (journal_after seed steps)) was.1
-    (prefix_length room.journal (next room p.event).journal ((effect_in room p.event).records, sym (next_journal room p.event)))
-    (subst (λ j. length j ≤ length (journal_after seed steps)) (point_journal seed steps p) (prefix_length (journal_after seed (steps_to seed steps p)) (journal_after seed steps) now))
+was_carried seed steps number m (p, owes) =
+    let point = journal_after seed (steps_to seed steps p) in
+    subst (λ n. n ≤ length (journal_after seed steps)) (sym (point_carries seed steps p number m owes)) (prefix_length point (journal_after seed steps) (point_grows seed steps p))
+
+taken_carried : (seed : Seed) (steps : List Step) (number : ℕ) → Each (λ m. m.carries ≤ length (journal_after seed steps)) (untaken_in (life_after_all seed steps) number)
+taken_carried seed steps number =
+    each_weaker (WasOwed seed steps number) (λ m. m.carries ≤ length (journal_after seed steps)) (was_carried seed steps number) (untaken_in (life_after_all seed steps) number) (taken_owed seed steps number)
+
+-- ---- what is committed once a session has taken its messages
+
+each_greatest : (ms : List Message) → Each (λ m. m.carries ≤ greatest ms) ms
+each_greatest [] = tt
+each_greatest (m ∷ ms) = (omega arith, each_weaker (λ n. n.carries ≤ greatest ms) (λ n. n.carries ≤ max m.carries (greatest ms)) (λ n le. omega arith) ms (each_greatest ms))
+
+greatest_at_most : (high : ℕ) (ms : List Message) → Each (λ m. m.carries ≤ high) ms → greatest ms ≤ high
+greatest_at_most high [] h = omega arith
+greatest_at_most high (m ∷ ms) h = let first = h.0 in let rest = greatest_at_most high ms h.1 in omega arith
+
+-- where something is pending, to append all that is commits the whole journal
+pending_commits : (life : Life) (records : List Record) → pending_of life ≡ records → life.committed < length life.room.journal → committed_then life records ≡ length life.room.journal
+pending_commits life [] none less = absurd (omega (arith, ap length none, length-drop life.committed life.room.journal))
+pending_commits life (r ∷ rs) all less = refl
+
+-- what a session that takes appends commits all that the messages carry
+pub take_commits : (seed : Seed) (steps : List Step) (number : ℕ)
+    → Each (λ m. m.carries ≤ committed_then (life_after_all seed steps) (append_of (life_after_all seed steps) (takes number))) (untaken_in (life_after_all seed steps) number)
+take_commits seed steps number =
+    let life = life_after_all seed steps in
+    let ms = untaken_in life number in
+    let AllWithin : ℕ → Type 0 = λ high. Each (λ m. m.carries ≤ high) ms in
+    let carried : AllWithin (length life.room.journal) = taken_carried seed steps number in
+    let most : greatest ms ≤ length life.room.journal = greatest_at_most (length life.room.journal) ms carried in
+    cond_both (shows_pending life number) (pending_of life) [] (λ records. AllWithin (committed_then life records))
+    (λ shows. subst AllWithin (sym (pending_commits life (pending_of life) refl (omega (arith, ltb-true life.committed (greatest ms) shows)))) carried)
+    (λ hides. each_weaker (λ m. m.carries ≤ greatest ms) (λ m. m.carries ≤ life.committed) (λ m le. omega (arith, ltb-false life.committed (greatest ms) hides)) ms (each_greatest ms))
+
+pub taken_committed : (seed : Seed) (steps : List Step) (number : ℕ) (luck : Luck) → Passes (life_after_all seed steps) (takes number) luck
+    → Each (λ m. m.carries ≤ committed_after seed (steps ++ taking number luck ∷ [])) (untaken_in (life_after_all seed steps) number)
+taken_committed seed steps number luck passes =
+    let life = life_after_all seed steps in
+    let same : committed_after seed (steps ++ taking number luck ∷ []) ≡ committed_then life (append_of life (takes number)) =
+    ap (λ then. then.committed) (one_more seed steps (taking number luck)) ∙ passed_committed life (takes number) luck passes in
+    subst (λ high. Each (λ m. m.carries ≤ high) (untaken_in life number)) (sym same) (take_commits seed steps number)
 
 pub taken_was_owed : TakenWasOwed
 taken_was_owed = record {
   owed = λ seed steps number s is. each_at (WasOwed seed steps number) s.owed (session_owed seed steps number s is);
   taken = λ seed steps number. each_at (WasOwed seed steps number) (untaken_in (life_after_all seed steps) number) (taken_owed seed steps number);
   texts = taken_texts;
-  carries = λ seed steps number. each_at (λ m. m.carries ≤ length (journal_after seed steps)) (untaken_in (life_after_all seed steps) number)
-      (each_weaker (WasOwed seed steps number) (λ m. m.carries ≤ length (journal_after seed steps)) (was_carried seed steps number) (untaken_in (life_after_all seed steps) number) (taken_owed seed steps number));
+  carries = λ seed steps number. each_at (λ m. m.carries ≤ length (journal_after seed steps)) (untaken_in (life_after_all seed steps) number) (taken_carried seed steps number);
+  committed = λ seed steps number luck passes.
+      each_at (λ m. m.carries ≤ committed_after seed (steps ++ taking number luck ∷ [])) (untaken_in (life_after_all seed steps) number) (taken_committed seed steps number luck passes);
 }

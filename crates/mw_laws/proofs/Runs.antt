@@ -1,8 +1,8 @@
 -- Runs of lives, step by step.
-use Rattle.std.proofs.Common.{◌≡◌, List, ◌∷◌, [], ◌++◌, Option, Some, None, refl, sym, subst, append_assoc, append-nil}
+use Rattle.std.proofs.Common.{◌≡◌, ℕ, List, ◌∷◌, [], ◌++◌, Option, Some, None, refl, sym, subst, append_assoc, append-nil}
 use Rattle.mw_model.specs.Seed.{Seed}
 use Rattle.mw_protocol.specs.Lives as lives
-use Rattle.mw_protocol.specs.Lives.{Life, Call, Luck, Reply, Outcome, passes, lacks, stops, Step, acts, crashes, new_life, refusal, outcome, records_of, room_then, life_of, life_unless, life_after, after_all, life_after_all}
+use Rattle.mw_protocol.specs.Lives.{Life, Call, Luck, Reply, Outcome, passes, lacks, stops, Step, acts, crashes, new_life, refusal, outcome, append_of, room_then, committed_then, life_of, life_unless, life_after, after_all, life_after_all}
 use Rattle.mw_protocol.specs.Records.{Record}
 use Rattle.mw_protocol.specs.Rooms.{Room, replayed}
 use Rattle.mw_laws.specs.Kept.{Passes}
@@ -10,19 +10,27 @@ use Rattle.mw_laws.specs.Turns as turns
 use Rattle.mw_laws.specs.Turns.{Turn}
 
 -- a life after a call is the one before with one more call, or if the call passes the one that it leaves
-module _ (life : Life) (call : Call) (luck : Luck) (Q : Room → Type 0) (same : Q life.room) (then : Passes life call luck → Q (room_then life.room call)) where
-  by_outcome : refusal life call ≡ None → (out : Outcome) → outcome life call luck ≡ out → Q (life_of life call (records_of life.room call) out).room
+module _ (life : Life) (call : Call) (luck : Luck) (Q : Room → ℕ → Type 0) (same : Q life.room life.committed)
+    (then : Passes life call luck → Q (room_then life.room call) (committed_then life (append_of life call))) where
+  abbrev HoldsOf : Life → Type 0
+  HoldsOf other = Q other.room other.committed
+
+  by_outcome : refusal life call ≡ None → (out : Outcome) → outcome life call luck ≡ out → HoldsOf (life_of life call out)
   by_outcome accepted passes passed = then record { accepted = accepted; passed = passed }
   by_outcome accepted lacks is = same
   by_outcome accepted (stops cause) is = same
 
-  by_refusal : (refused : Option Reply) → refusal life call ≡ refused → Q (life_unless refused life (life_of life call (records_of life.room call) (outcome life call luck))).room
+  by_refusal : (refused : Option Reply) → refusal life call ≡ refused → HoldsOf (life_unless refused life (life_of life call (outcome life call luck)))
   by_refusal None accepted = by_outcome accepted (outcome life call luck) refl
   by_refusal (Some reply) is = same
 
-  -- what holds of the room, and of the one that a call leaves that passes, holds after the call
-  pub room_after_call : Q (life_after life call luck).room
-  room_after_call = by_refusal (refusal life call) refl
+  -- what holds of the room and of what is committed, and of those that a call leaves that passes, holds after the call
+  pub life_after_call : HoldsOf (life_after life call luck)
+  life_after_call = by_refusal (refusal life call) refl
+
+-- so does what holds of the room alone
+pub room_after_call : (life : Life) (call : Call) (luck : Luck) (Q : Room → Type 0) → Q life.room → (Passes life call luck → Q (room_then life.room call)) → Q (life_after life call luck).room
+room_after_call life call luck Q same then = life_after_call life call luck (λ room _. Q room) same then
 
 -- ---- runs
 
@@ -52,7 +60,7 @@ module _ (Q : Room → Type 0) (empty : (seed : Seed) (journal : List Record) �
 
   kept_by_step : (life : Life) (s : Step) → Q life.room → Q (lives.after life s).room
   kept_by_step life (acts call luck) h = room_after_call life call luck Q h (λ _. kept_by_call life.room call h)
-  kept_by_step life (crashes number kept place) h = empty life.room.seed (lives.left_by life number kept)
+  kept_by_step life (crashes more place) h = empty life.room.seed (lives.left_by life more)
 
   pub each_room : (life : Life) (steps : List Step) → Q life.room → Q (after_all life steps).room
   each_room life [] h = h

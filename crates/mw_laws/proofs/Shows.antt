@@ -1,6 +1,8 @@
 -- What any session was shown stays checked.
-use Rattle.std.proofs.Common.{◌≡◌, ℕ, ℤ, ◌+◌, ◌==◌, ◌&&◌, List, Bool, true, false, cond, ◌∷◌, [], ◌++◌, Option, Some, None, Contains, map, length, drop, refl, sym, ap, ap₂, subst, ◌∙◌, arith, true≢false, eqb-true}
+use mathlib.Core.List.{IsPrefix}
+use Rattle.std.proofs.Common.{◌≡◌, inl, inr, ℕ, ℤ, ◌+◌, ◌≤◌, ◌==◌, ◌&&◌, List, Bool, true, false, cond, ◌∷◌, [], ◌++◌, Option, Some, None, IsTrue, All, Contains, map, length, take, drop, refl, sym, ap, ap₂, subst, ◌∙◌, append_assoc, arith, true≢false, eqb-true, le_refl}
 use Rattle.std.proofs.lemmas.Bool.{cond_both, and_parts}
+use Rattle.std.proofs.lemmas.List.{length-append, take-append-le, take_all}
 use Rattle.std.specs.List.{list_all}
 use Rattle.mw_model.specs.Items.{NetItem}
 use Rattle.mw_model.specs.Seed.{Seed}
@@ -8,17 +10,19 @@ use Rattle.mw_protocol.specs.Asked.{asked, checked}
 use Rattle.mw_protocol.specs.Checks.{Check, unseen}
 use Rattle.mw_protocol.specs.Connecting.{Member}
 use Rattle.mw_protocol.specs.Heard.{heard_by}
-use Rattle.mw_protocol.specs.Lives.{Step, new_life, life_after_all}
+use Rattle.mw_protocol.specs.Lives as lives
+use Rattle.mw_protocol.specs.Lives.{Luck, Step, new_life, untaken_in, life_after_all}
 use Rattle.mw_protocol.specs.Messages.{ServerPacket, room_info, connected, received_items, room_update, connection_refused, location_info, data_package, invalid_packet, print, retrieved, set_reply, bounced}
 use Rattle.mw_protocol.specs.Owed.{items_from, items_owed, update_with, update_owed, growth_owed, answers_to, owed, view_of}
 use Rattle.mw_protocol.specs.Players.{room_info_of}
+use Rattle.mw_protocol.specs.Records.{Record}
 use Rattle.mw_protocol.specs.Rooms.{Message, Session, Room, Event, opened, sent, failed, lost, with_member, or_else, session_in, member_in, effect_in, next}
 use Rattle.mw_protocol.specs.Shown.{shown_by, shown_among, shown}
 use Rattle.mw_protocol.specs.Standing.{Standing, standing, steps, checked_of, points}
-use Rattle.mw_laws.specs.Kept.{journal_after}
+use Rattle.mw_laws.specs.Kept.{Passes, is_call, journal_after, committed_after}
 use Rattle.mw_laws.specs.Shows.{MayPlayAs, ShowsChecked, ShownIsChecked}
 use Rattle.mw_laws.specs.Strangers.{is_for_strangers}
-use Rattle.mw_laws.specs.Tails.{untaken_in}
+use Rattle.mw_laws.specs.Tails.{taking}
 use Rattle.mw_laws.specs.Told.{staying, newcomers, session_then}
 use Rattle.mw_laws.specs.Turns.{Turn, happens, takes, after, now, is_of, member_then, owed_by}
 use Rattle.mw_laws.proofs.Among.{Among, among_left, among_contains, still_among, at_among, LocationAmong, locations_among, ItemAmong, items_among, view_among}
@@ -27,12 +31,12 @@ use Rattle.mw_laws.proofs.Effects.{MayBecome}
 use Rattle.mw_laws.proofs.Following.{staying_each}
 use Rattle.mw_laws.proofs.Journal.{standing-append, standing_checked, checked-append}
 use Rattle.mw_laws.proofs.Journals.{next_journal, next_seed}
-use Rattle.mw_laws.proofs.Keeping.{run_seed, run_grows}
+use Rattle.mw_laws.proofs.Keeping.{passed_room, run_seed, first_stay}
 use Rattle.mw_laws.proofs.Masks.{becomes}
 use Rattle.mw_laws.proofs.Numbers.{IsNumbered, after_numbered}
-use Rattle.mw_laws.proofs.Owing.{each_drop, each_told, found_session, untaken_each}
+use Rattle.mw_laws.proofs.Owing.{each_drop, each_told, found_session, untaken_each, taken_committed}
 use Rattle.mw_laws.proofs.Pairs.{each_append, each_at}
-use Rattle.mw_laws.proofs.Runs.{each_room}
+use Rattle.mw_laws.proofs.Runs.{one_more, each_room}
 use Rattle.mw_laws.proofs.Sessions.{told_member}
 use Rattle.mw_laws.proofs.Showing.{ShowsAmong, AnnouncesAmong, heard_among}
 use Rattle.mw_laws.proofs.ShownEffects.{member_of, event_shows}
@@ -149,52 +153,74 @@ played_before m (Some k) (Some n) h plays = (sym h.0 ∙ plays.0, sym h.1 ∙ pl
 
 -- ---- rooms
 
--- all that a session was owed shows what is among the checks
-abbrev MessageAmong : List Check → Member → Message → Type 0
-MessageAmong cs m message = Each (ShowsAmong cs m.team m.slot) message.packets
+-- a message of a session shows only what is among the checks of the journal of the length that it carries
+abbrev MessageAmong : Seed → List Record → Member → Message → Type 0
+MessageAmong seed journal m message = (message.carries ≤ length journal) × Each (ShowsAmong (checked seed (take message.carries journal)) m.team m.slot) message.packets
 
-abbrev WasShown : List Check → Session → Type 0
-WasShown cs s = (m : Member) → MayPlayAs m s.member → Each (MessageAmong cs m) s.owed
+abbrev WasShown : Seed → List Record → Session → Type 0
+WasShown seed journal s = (m : Member) → MayPlayAs m s.member → Each (MessageAmong seed journal m) s.owed
 
-then_shown : (room : Room) (event : Event) (s : Session) → session_in room.sessions s.number ≡ Some s → WasShown (now room).checked s → WasShown (now (next room event)).checked (session_then room event s)
+module _ (seed : Seed) (journal : List Record) (m : Member) where
+  among_grown : (more : List Record) (message : Message) → MessageAmong seed journal m message → MessageAmong seed (journal ++ more) m message
+  among_grown more message h =
+      let long = h.0 in (
+        omega (arith, length-append journal more),
+        subst (λ front. Each (ShowsAmong (checked seed front) m.team m.slot) message.packets) (sym (take-append-le message.carries journal more long)) h.1,
+      )
+
+  among_now : (packets : List ServerPacket) → Each (ShowsAmong (checked seed journal) m.team m.slot) packets → MessageAmong seed journal m record { packets = packets; carries = length journal }
+  among_now packets h =
+      let all = le_refl (length journal) in
+      (all, subst (λ front. Each (ShowsAmong (checked seed front) m.team m.slot) packets) (sym (take_all (length journal) journal all)) h)
+
+then_checked : (room : Room) (event : Event) → (now (next room event)).checked ≡ checked room.seed (next room event).journal
+then_checked room event = standing_checked (next room event).seed (next room event).journal ∙ ap (λ e. checked e (next room event).journal) (next_seed room event)
+
+then_shown : (room : Room) (event : Event) (s : Session) → session_in room.sessions s.number ≡ Some s → WasShown room.seed room.journal s → WasShown room.seed (next room event).journal (session_then room event s)
 then_shown room event s found h m plays =
-    let cs = (now room).checked in
-    let ds = (now (next room event)).checked in
+    let journal = (next room event).journal in
+    let P = MessageAmong room.seed journal m in
     let then = member_then room event s in
     let packets = owed_by room event s in
-    let carries = length (next room event).journal in
+    let carries = length journal in
     let t = with_member then s in
     let plays_then : MayPlayAs m then = subst (MayPlayAs m) (told_member packets carries t) plays in
     let plays_before = played_before m s.member then (becomes room event s (found_by room.sessions s.number s found).1) plays_then in
-    each_told (MessageAmong ds m) packets carries t
-    (each_weaker (MessageAmong cs m) (MessageAmong ds m) (λ message was. each_weaker (ShowsAmong cs m.team m.slot) (ShowsAmong ds m.team m.slot) (shows_more cs ds (then_among room event) m.team m.slot) message.packets was) s.owed (h m plays_before))
-    (playing_among room event s found m then refl plays_then)
+    each_told P packets carries t
+    (subst (λ j. Each (MessageAmong room.seed j m) s.owed) (sym (next_journal room event))
+    (each_weaker (MessageAmong room.seed room.journal m) (MessageAmong room.seed (room.journal ++ (effect_in room event).records) m) (among_grown room.seed room.journal m (effect_in room event).records) s.owed (h m plays_before)))
+    (among_now room.seed journal m packets (subst (λ cs. Each (ShowsAmong cs m.team m.slot) packets) (then_checked room event) (playing_among room event s found m then refl plays_then)))
 
-newcomers_shown : (cs : List Check) (room : Room) (event : Event) → Each (WasShown cs) (newcomers room event)
-newcomers_shown cs room (opened time) = (
-  λ m _. each_told (MessageAmong cs m) (room_info (room_info_of room.seed time) ∷ []) (length room.journal) record { number = room.opened + 1; member = None; owed = []; taken = 0; overrun = false } tt (tt, tt),
+newcomers_shown : (room : Room) (event : Event) → Each (WasShown room.seed (next room event).journal) (newcomers room event)
+newcomers_shown room (opened time) = (
+  λ m _.
+      let packets = room_info (room_info_of room.seed time) ∷ [] in
+      each_told (MessageAmong room.seed room.journal m) packets (length room.journal) record { number = room.opened + 1; member = None; owed = []; taken = 0; overrun = false } tt
+      (among_now room.seed room.journal m packets (tt, tt)),
   tt,
 )
-newcomers_shown cs room (sent sender packet) = tt
-newcomers_shown cs room (failed sender bad) = tt
-newcomers_shown cs room (lost sender) = tt
+newcomers_shown room (sent sender packet) = tt
+newcomers_shown room (failed sender bad) = tt
+newcomers_shown room (lost sender) = tt
 
 abbrev AllShown : Room → Type 0
-AllShown room = IsNumbered room × Each (WasShown (now room).checked) room.sessions
+AllShown room = IsNumbered room × Each (WasShown room.seed room.journal) room.sessions
 
 after_shown : (room : Room) (turn : Turn) → AllShown room → AllShown (after room turn)
-after_shown room (takes number) h = (after_numbered room (takes number) h.0, each_taken (WasShown (now room).checked) number (λ s was. was) room.sessions h.1)
+after_shown room (takes number) h = (after_numbered room (takes number) h.0, each_taken (WasShown room.seed room.journal) number (λ s was. was) room.sessions h.1)
 after_shown room (happens event) h =
-    let cs = (now room).checked in
-    let ds = (now (next room event)).checked in
-    let Found : Session → Type 0 = λ s. session_in room.sessions s.number ≡ Some s in (
+    let journal = (next room event).journal in
+    let P = WasShown room.seed journal in
+    let Found : Session → Type 0 = λ s. session_in room.sessions s.number ≡ Some s in
+    let Was = WasShown room.seed room.journal in (
       after_numbered room (happens event) h.0,
-      subst (Each (WasShown ds)) (sym (events_tell room event))
-          (each_append (WasShown ds) (map (session_then room event) (staying room event)) (newcomers room event)
-          (each_map (WasShown ds) (session_then room event) (staying room event)
-          (each_with Found (WasShown cs) (λ s. WasShown ds (session_then room event s)) (then_shown room event) (staying room event)
-          (staying_each Found room event (found_session 0 room.opened room.sessions h.0)) (staying_each (WasShown cs) room event h.1)))
-          (newcomers_shown ds room event)),
+      subst (λ e. Each (WasShown e journal) (next room event).sessions) (sym (next_seed room event))
+          (subst (Each P) (sym (events_tell room event))
+          (each_append P (map (session_then room event) (staying room event)) (newcomers room event)
+          (each_map P (session_then room event) (staying room event)
+          (each_with Found Was (λ s. P (session_then room event s)) (then_shown room event) (staying room event)
+          (staying_each Found room event (found_session 0 room.opened room.sessions h.0)) (staying_each Was room event h.1)))
+          (newcomers_shown room event))),
     )
 
 run_shown : (seed : Seed) (run : List Step) → AllShown (life_after_all seed run).room
@@ -202,39 +228,63 @@ run_shown seed run = each_room AllShown (λ seed journal. (omega arith, tt)) aft
 
 -- ---- the law
 
--- what is checked at a point is checked at each later one
-later_among : (seed : Seed) (run more : List Step) (c : Check) → Among (now (life_after_all seed run).room).checked c → Among (checked seed (journal_after seed (run ++ more))) c
-later_among seed run more c h =
-    let journal = journal_after seed run in
-    let grown = run_grows seed run more in
-    let same : (now (life_after_all seed run).room).checked ≡ checked seed journal = ap (λ e. (standing e journal).checked) (run_seed seed run) ∙ standing_checked seed journal in
-    subst (λ j. Among (checked seed j) c) grown.1
-    (subst (λ cs. Among cs c) (sym (checked-append seed journal grown.0)) (among_left (checked seed journal) (unseen (checked seed journal) (asked seed grown.0)) c (subst (λ cs. Among cs c) same h)))
+-- what is checked by a front of a journal is checked by all of it
+front_among : (seed : Seed) (front journal : List Record) → IsPrefix front journal → (c : Check) → Among (checked seed front) c → Among (checked seed journal) c
+front_among seed front journal longer c h =
+    subst (λ j. Among (checked seed j) c) longer.1
+    (subst (λ cs. Among cs c) (sym (checked-append seed front longer.0)) (among_left (checked seed front) (unseen (checked seed front) (asked seed longer.0)) c h))
 
 shown_each : (cs : List Check) (team slot : ℕ) (ps : List ServerPacket) → Each (ShowsAmong cs team slot) ps → Each (Among cs) (shown_among team slot ps)
 shown_each cs team slot [] h = tt
 shown_each cs team slot (p ∷ ps) h = each_append (Among cs) (shown_by team slot p) (shown_among team slot ps) h.0 (shown_each cs team slot ps h.1)
 
-message_checked : (seed : Seed) (run more : List Step) (m : Member) (message : Message) → MessageAmong (now (life_after_all seed run).room).checked m message → ShowsChecked seed (journal_after seed (run ++ more)) m message
-message_checked seed run more m message h =
-    let cs = (now (life_after_all seed run).room).checked in
-    let ds = checked seed (journal_after seed (run ++ more)) in
+message_checked : (seed : Seed) (before journal : List Record) (m : Member) (message : Message) → IsPrefix (take message.carries before) journal → MessageAmong seed before m message → ShowsChecked seed journal m message
+message_checked seed before journal m message longer h =
+    let front = take message.carries before in
+    let cs = checked seed front in
+    let ds = checked seed journal in
     each_at (Contains ds) (shown m message)
-    (each_weaker (Among cs) (Contains ds) (λ c was. among_contains ds c (later_among seed run more c was)) (shown m message) (shown_each cs m.team m.slot message.packets h))
+    (each_weaker (Among cs) (Contains ds) (λ c was. among_contains ds c (front_among seed front journal longer c was)) (shown m message) (shown_each cs m.team m.slot message.packets h.1))
 
-session_checked : (seed : Seed) (run : List Step) (number : ℕ) (s : Session) (m : Member) → session_in (life_after_all seed run).room.sessions number ≡ Some s → MayPlayAs m s.member
-    → (more : List Step) → Each (ShowsChecked seed (journal_after seed (run ++ more)) m) s.owed
-session_checked seed run number s m is plays more =
+session_shown : (seed : Seed) (run : List Step) (number : ℕ) (s : Session) (m : Member) → session_in (life_after_all seed run).room.sessions number ≡ Some s → MayPlayAs m s.member
+    → Each (MessageAmong seed (journal_after seed run) m) s.owed
+session_shown seed run number s m is plays =
     let room = (life_after_all seed run).room in
-    each_weaker (MessageAmong (now room).checked m) (ShowsChecked seed (journal_after seed (run ++ more)) m) (message_checked seed run more m) s.owed
-    (each_in (WasShown (now room).checked) room.sessions number s is (run_shown seed run).1 m plays)
+    subst (λ e. Each (MessageAmong e room.journal m) s.owed) (run_seed seed run) (each_in (WasShown room.seed room.journal) room.sessions number s is (run_shown seed run).1 m plays)
+
+owed_checked : (seed : Seed) (run : List Step) (number : ℕ) (s : Session) (m : Member) → session_in (life_after_all seed run).room.sessions number ≡ Some s → MayPlayAs m s.member
+    → (more : List Step) → IsTrue (list_all is_call more) → All (ShowsChecked seed (journal_after seed (run ++ more)) m) s.owed
+owed_checked seed run number s m is plays more calls =
+    let before = journal_after seed run in
+    let journal = journal_after seed (run ++ more) in
+    each_at (ShowsChecked seed journal m) s.owed
+    (each_weaker (MessageAmong seed before m) (ShowsChecked seed journal m) (λ message was. message_checked seed before journal m message (first_stay seed run more message.carries (inl calls)) was) s.owed
+    (session_shown seed run number s m is plays))
+
+module _ (seed : Seed) (run : List Step) (number : ℕ) (luck : Luck) (passes : Passes (life_after_all seed run) (lives.takes number) luck) where
+  -- to take leaves the journal
+  taken_journal : journal_after seed (run ++ taking number luck ∷ []) ≡ journal_after seed run
+  taken_journal = ap (λ life. life.room.journal) (one_more seed run (taking number luck)) ∙ ap (λ room. room.journal) (passed_room (life_after_all seed run) (lives.takes number) luck passes)
+
+  -- and so many of its first records as are committed then stay
+  taken_stay : (more : List Step) (n : ℕ) → n ≤ committed_after seed (run ++ taking number luck ∷ []) → IsPrefix (take n (journal_after seed run)) (journal_after seed (run ++ taking number luck ∷ more))
+  taken_stay more n committed =
+      let then = run ++ taking number luck ∷ [] in
+      subst (λ later. IsPrefix (take n (journal_after seed run)) (journal_after seed later)) (append_assoc run (taking number luck ∷ []) more)
+      (subst (λ before. IsPrefix (take n before) (journal_after seed (then ++ more))) taken_journal (first_stay seed then more n (inr committed)))
+
+  taken_checked : (m : Member) → MayPlayAs m (member_in (life_after_all seed run).room.sessions number) → (more : List Step)
+      → All (ShowsChecked seed (journal_after seed (run ++ taking number luck ∷ more)) m) (untaken_in (life_after_all seed run) number)
+  taken_checked m plays more =
+      let sessions = (life_after_all seed run).room.sessions in
+      let ms = untaken_in (life_after_all seed run) number in
+      let before = journal_after seed run in
+      let journal = journal_after seed (run ++ taking number luck ∷ more) in
+      let Was = MessageAmong seed before m in
+      let were : Each Was ms = untaken_each Was (session_in sessions number) (λ s is. session_shown seed run number s m is (subst (MayPlayAs m) (found_by sessions number s is).1 plays)) in
+      each_at (ShowsChecked seed journal m) ms
+      (each_with Was (λ message. message.carries ≤ committed_after seed (run ++ taking number luck ∷ [])) (ShowsChecked seed journal m)
+      (λ message was committed. message_checked seed before journal m message (taken_stay more message.carries committed) was) ms were (taken_committed seed run number luck passes))
 
 pub shown_is_checked : ShownIsChecked
-shown_is_checked = record {
-  owed = λ seed run number s m is plays more. each_at (ShowsChecked seed (journal_after seed (run ++ more)) m) s.owed (session_checked seed run number s m is plays more);
-  taken = λ seed run number m plays more.
-      let sessions = (life_after_all seed run).room.sessions in
-      let P : Message → Type 0 = ShowsChecked seed (journal_after seed (run ++ more)) m in
-      each_at P (untaken_in (life_after_all seed run) number)
-      (untaken_each P (session_in sessions number) (λ s is. session_checked seed run number s m is (subst (MayPlayAs m) (found_by sessions number s is).1 plays) more));
-}
+shown_is_checked = record { owed = owed_checked; taken = λ seed run number luck m passes. taken_checked seed run number luck passes m }

@@ -2,7 +2,7 @@
 use mathlib.Core.List.{IsPrefix}
 use Rattle.std.proofs.Common.{◌≡◌, ◌⊎◌, inl, inr, ℕ, ◌+◌, ◌≤◌, ◌==◌, List, Bool, true, false, cond, ◌∷◌, [], ◌++◌, Option, Some, None, IsTrue, IsFalse, map, length, take, drop, refl, sym, ap, subst, ◌∙◌, append_assoc, append-nil, arith, true≢false, eqb-true, le_refl}
 use Rattle.std.proofs.lemmas.Bool.{and_from, and_parts, cond_both, both_ways}
-use Rattle.std.proofs.lemmas.List.{drop-append-le, drop_all, length-append}
+use Rattle.std.proofs.lemmas.List.{drop-append-le, drop_all, length-append, take-append-le, take_all}
 use Rattle.std.specs.List.{list_all}
 use Rattle.mw_model.specs.Items.{NetItem}
 use Rattle.mw_model.specs.Seed.{Seed}
@@ -12,37 +12,54 @@ use Rattle.mw_protocol.specs.Lives.{Call, happens, commits, takes, Step, acts, c
 use Rattle.mw_protocol.specs.Messages.{ServerPacket, room_info}
 use Rattle.mw_protocol.specs.Players.{room_info_of}
 use Rattle.mw_protocol.specs.Records.{Record}
-use Rattle.mw_protocol.specs.Rooms.{Message, Session, Room, Event, opened, sent, failed, lost, is_full, text_of, untaken, overrun_by, with_message, with_member, told, session_in, member_in, new_session, next}
-use Rattle.mw_laws.specs.Applied.{Client, applied_packets, applied_messages, having, IsFrontOf, MaskStays, MaskSince, owed_of, owed_since, has_items, ClientsApply}
-use Rattle.mw_laws.specs.Kept.{journal_after}
-use Rattle.mw_laws.specs.Tails.{is_call}
+use Rattle.mw_protocol.specs.Rooms.{Message, Session, Room, Event, opened, sent, failed, lost, is_full, text_of, untaken, overrun_by, with_message, with_member, told, session_in, member_in, effect_in, new_session, next}
+use Rattle.mw_laws.specs.Applied.{Client, applied_packets, applied_messages, having, IsFrontOf, MaskStays, MaskSince, owed_of, owed_before, owed_since, IsHeard, has_items, ClientsApply}
+use Rattle.mw_laws.specs.Kept.{is_call, journal_after, committed_after}
 use Rattle.mw_laws.specs.Told.{staying, newcomers, session_then}
 use Rattle.mw_laws.specs.Turns as turns
 use Rattle.mw_laws.specs.Turns.{now, is_of, member_then, owed_by}
-use Rattle.mw_laws.proofs.Applying.{Along, along_last, along_take, along_front, along_push, along_weaker, applied_push, messages_forget}
+use Rattle.mw_laws.proofs.Applying.{Along, last_carried, last_at_most, along_last, along_take, along_front, along_push, along_weaker, applied_push, messages_forget}
 use Rattle.mw_laws.proofs.Each.{Each, each_weaker, each_with, each_map, each_in, each_taken, found_by, none_some}
+use Rattle.mw_laws.proofs.Effects.{MayBecome}
 use Rattle.mw_laws.proofs.Following.{staying_each}
-use Rattle.mw_laws.proofs.Journals.{views_grow}
-use Rattle.mw_laws.proofs.Keeping.{prefix_through, run_seed, run_grows}
+use Rattle.mw_laws.proofs.Journals.{next_journal, views_grow}
+use Rattle.mw_laws.proofs.Keeping.{run_seed, first_stay}
 use Rattle.mw_laws.proofs.Lists.{passed-append}
-use Rattle.mw_laws.proofs.Masks.{seen, MaskIs, Has, has_seen, seen_then, becomes, Received, receives}
+use Rattle.mw_laws.proofs.Masks.{seen, MaskIs, Has, has_seen, seen_grows, becomes, Received, receives}
 use Rattle.mw_laws.proofs.Numbers.{IsNumbered, Ascend, below, found, after_numbered}
 use Rattle.mw_laws.proofs.Owing.{found_session, run_numbered}
 use Rattle.mw_laws.proofs.Pairs.{each_append}
+use Rattle.mw_laws.proofs.Prefixes.{prefix_through}
 use Rattle.mw_laws.proofs.Runs.{room_after_call, one_more, each_run}
 use Rattle.mw_laws.proofs.Sessions.{told_number, told_member, new_number}
+use Rattle.mw_laws.proofs.Taken.{taken_within}
 use Rattle.mw_laws.proofs.Telling.{events_tell}
 
 -- ---- one session
 
--- all along what it was owed since a point, its client had a front of what was received through the mask, and unless it is overrun now has just that
-abbrev Since : Seed → ℕ → ℕ → List Record → Session → Type 0
-Since seed mask from journal s =
-    Along (IsFrontOf (seen seed mask journal s.member)) (having []) (drop from s.owed)
-    × (IsFalse s.overrun → (from ≤ length s.owed) × Has seed mask journal s.member (applied_messages (having []) (drop from s.owed)).list)
-
 front_of_more : (xs ys : List NetItem) → IsPrefix xs ys → (c : Client) → IsFrontOf xs c → IsFrontOf ys c
 front_of_more xs ys more c h = record { asks = h.asks; front = prefix_through c.list xs ys h.front more }
+
+-- the client has a front of what was received through the mask by so many of the journal's first records
+abbrev HasFront : Seed → ℕ → List Record → Option Member → ℕ → Client → Type 0
+HasFront seed mask journal member n c = (n ≤ length journal) × IsFrontOf (seen seed mask (take n journal) member) c
+
+-- all along what it was owed since a point, its client had a front by the length that the last message carries, and unless it is overrun now has just what was received through the mask
+abbrev Since : Seed → ℕ → ℕ → List Record → Session → Type 0
+Since seed mask from journal s =
+    Along (HasFront seed mask journal s.member) 0 (having []) (drop from s.owed)
+    × (IsFalse s.overrun → (from ≤ length s.owed) × Has seed mask journal s.member (applied_messages (having []) (drop from s.owed)).list)
+
+-- more records leave it the front
+front_still : (seed : Seed) (mask : ℕ) (journal more : List Record) (before then : Option Member) → MayBecome before then → (n : ℕ) (c : Client)
+    → HasFront seed mask journal before n c → HasFront seed mask (journal ++ more) then n c
+front_still seed mask journal more before then may n c h =
+    let low : n ≤ length journal = h.0 in
+    let first = take n journal in
+    let same : first ++ [] ≡ take n (journal ++ more) = append-nil first ∙ sym (take-append-le n journal more low) in
+    let grown : IsPrefix (seen seed mask first before) (seen seed mask (take n (journal ++ more)) then) =
+    subst (λ j. IsPrefix (seen seed mask first before) (seen seed mask j then)) same (seen_grows seed mask first [] before then may) in
+    (omega (arith, length-append journal more), front_of_more (seen seed mask first before) (seen seed mask (take n (journal ++ more)) then) grown c h.1)
 
 -- told nothing, overrun before, overrun now, or told one message more
 told_cases : (P : Session → Type 0) (packets : List ServerPacket) (length : ℕ) (s : Session) → (packets ≡ [] → P s) → (IsTrue s.overrun → P s) → P (overrun_by s)
@@ -65,24 +82,25 @@ module _ (seed : Seed) (mask from : ℕ) (room : Room) (same : room.seed ≡ see
       let client = applied_messages (having []) (drop from s.owed) in
       let message : Message = record { packets = packets; carries = carries } in
       let list = seen seed mask journal then in
-      let Front : Client → Type 0 = IsFrontOf list in
-      let along : Along Front (having []) (drop from s.owed) =
-      along_weaker (IsFrontOf (seen seed mask room.journal s.member)) Front (front_of_more (seen seed mask room.journal s.member) list (seen_then seed mask room same event s.member then (becomes room event s has)))
-      (having []) (drop from s.owed) h.0 in
-      let asks : client.asks ≡ false = (along_last Front (having []) (drop from s.owed) along).asks in
+      let Front : ℕ → Client → Type 0 = HasFront seed mask journal then in
+      let still : (n : ℕ) (c : Client) → HasFront seed mask room.journal s.member n c → Front n c =
+      λ n c was. subst (λ j. HasFront seed mask j then n c) (sym (next_journal room event)) (front_still seed mask room.journal (effect_in room event).records s.member then (becomes room event s has) n c was) in
+      let along : Along Front 0 (having []) (drop from s.owed) = along_weaker (HasFront seed mask room.journal s.member) Front still 0 (having []) (drop from s.owed) h.0 in
+      let asks : client.asks ≡ false = (along_last Front 0 (having []) (drop from s.owed) along).1.asks in
       let got : IsFalse s.overrun → Received client list (applied_packets client packets) = λ fine. receives seed mask room same event s has client then refl masked (h.1 fine).1 in
       told_cases (Since seed mask from journal) packets carries t
       (λ none. (along, λ fine. ((h.1 fine).0, has_seen seed mask journal then client.list masked (ap (λ ps. (applied_packets client ps).list) (sym none) ∙ (got fine).1))))
       (λ over. (along, λ fine. absurd (both_ways s.overrun fine over)))
-      (along_front Front from s.taken (having []) s.owed along, λ fine. absurd (true≢false fine))
+      (along_front Front from s.taken 0 (having []) s.owed along, λ fine. absurd (true≢false fine))
       (λ fine.
       let low : from ≤ length s.owed = (h.1 fine).0 in
       let apart : drop from (s.owed ++ message ∷ []) ≡ drop from s.owed ++ message ∷ [] = drop-append-le from s.owed (message ∷ []) low in
       let pushed = applied_push (having []) (drop from s.owed) message in
       let now_list : (applied_messages (having []) (drop from s.owed ++ message ∷ [])).list ≡ list = ap (λ c. c.list) pushed ∙ (got fine).1 in
-      let now_front : Front (applied_messages (having []) (drop from s.owed ++ message ∷ [])) =
-      record { asks = ap (λ c. c.asks) pushed ∙ (got fine).0 ∙ asks; front = ([], append-nil (applied_messages (having []) (drop from s.owed ++ message ∷ [])).list ∙ now_list) } in (
-        subst (Along Front (having [])) (sym apart) (along_push Front (having []) (drop from s.owed) message along now_front),
+      let whole : list ≡ seen seed mask (take carries journal) then = ap (λ j. seen seed mask j then) (sym (take_all carries journal (le_refl carries))) in
+      let now_front : Front carries (applied_messages (having []) (drop from s.owed ++ message ∷ [])) =
+      (le_refl carries, record { asks = ap (λ c. c.asks) pushed ∙ (got fine).0 ∙ asks; front = ([], append-nil (applied_messages (having []) (drop from s.owed ++ message ∷ [])).list ∙ now_list ∙ whole) }) in (
+        subst (Along Front 0 (having [])) (sym apart) (along_push Front 0 (having []) (drop from s.owed) message along now_front),
         λ _. (omega (arith, length-append s.owed (message ∷ [])), has_seen seed mask journal then (applied_messages (having []) (drop from (s.owed ++ message ∷ []))).list masked (ap (λ ms. (applied_messages (having []) ms).list) apart ∙ now_list)),
       ))
 
@@ -90,9 +108,11 @@ module _ (seed : Seed) (mask from : ℕ) (room : Room) (same : room.seed ≡ see
 new_since : (seed : Seed) (mask : ℕ) (room : Room) (time : ℕ) → Since seed mask 0 room.journal (new_session room time)
 new_since seed mask room time =
     let first : Session = record { number = room.opened + 1; member = None; owed = []; taken = 0; overrun = false } in
-    let front : IsFrontOf [] (having []) = record { asks = refl; front = ([], refl) } in
-    told_cases (Since seed mask 0 room.journal) (room_info (room_info_of room.seed time) ∷ []) (length room.journal) first
-    (λ _. (front, λ _. (omega arith, refl))) (λ _. (front, λ _. (omega arith, refl))) (front, λ fine. absurd (true≢false fine)) (λ _. ((front, front), λ _. (omega arith, refl)))
+    let carries = length room.journal in
+    let front : (n : ℕ) → n ≤ carries → HasFront seed mask room.journal None n (having []) = λ n low. (low, record { asks = refl; front = ([], refl) }) in
+    let none = front 0 (omega arith) in
+    told_cases (Since seed mask 0 room.journal) (room_info (room_info_of room.seed time) ∷ []) carries first
+    (λ _. (none, λ _. (omega arith, refl))) (λ _. (none, λ _. (omega arith, refl))) (none, λ fine. absurd (true≢false fine)) (λ _. ((none, front carries (le_refl carries)), λ _. (omega arith, refl)))
 
 -- ---- rooms
 
@@ -188,10 +208,6 @@ all_front p (x ∷ xs) ys h =
     let rest = all_front p xs ys parts.1 in
     (and_from (p x) (list_all p xs) parts.0 rest.0, rest.1)
 
--- how many messages the session of a number was owed before a point of a run
-abbrev owed_before : Seed → List Step → ℕ → ℕ
-owed_before seed front number = length (owed_of (session_in (life_after_all seed front).room.sessions number))
-
 -- since then it had the mask
 abbrev Masked : Seed → List Step → ℕ → ℕ → List Step → Type 0
 Masked seed front number mask back =
@@ -224,12 +240,12 @@ module _ (seed : Seed) (front : List Step) (number mask : ℕ) (other : (m : Mem
           let all : (owed_before seed front number) ≡ length s.owed = ap (λ o. length (owed_of o)) here in
           let none : drop (owed_before seed front number) s.owed ≡ [] = drop_all (owed_before seed front number) s.owed (omega arith) in
           let apart : (k : Member) → s.member ≡ Some k → k.mask ≡ mask → ⊥ = λ k plays. other k ((found_by room.sessions number s here).1 ∙ plays) in (
-            subst (Along (IsFrontOf (seen seed mask room.journal s.member)) (having [])) (sym none) record { asks = refl; front = (seen seed mask room.journal s.member, refl) },
+            subst (Along (HasFront seed mask room.journal s.member) 0 (having [])) (sym none) (omega arith, record { asks = refl; front = (seen seed mask [] s.member, refl) }),
             λ _. (omega arith, subst (λ ms. Has seed mask room.journal s.member (applied_messages (having []) ms).list) (sym none) (none_had room.journal s.member apart)),
           )
 
   steady_more : (back : List Step) (s : Step) → (list_all is_call back ≡ true → Masked seed front number mask back → SteadyAt (front ++ back)) → list_all is_call (back ++ s ∷ []) ≡ true → Masked seed front number mask (back ++ s ∷ []) → SteadyAt (front ++ (back ++ s ∷ []))
-  steady_more back (crashes who kept place) h calls masked = absurd (true≢false (sym (all_front is_call back (crashes who kept place ∷ []) calls).1))
+  steady_more back (crashes more place) h calls masked = absurd (true≢false (sym (all_front is_call back (crashes more place ∷ []) calls).1))
   steady_more back (acts call luck) h calls masked =
       let s = acts call luck in
       let life = life_after_all seed (front ++ back) in
@@ -247,19 +263,26 @@ module _ (seed : Seed) (front : List Step) (number mask : ℕ) (other : (m : Mem
 
 -- ---- the law
 
--- it has a front at each count of messages, and by each longer journal
-module _ (seed : Seed) (steps more : List Step) (s : Session) (m : Member) (plays : s.member ≡ Some m) (from : ℕ) (since : Since seed m.mask from (journal_after seed steps) s) where
-  front_later : (count : ℕ) → IsFrontOf (view seed m.mask m.team m.slot (journal_after seed (steps ++ more))) (applied_messages (having []) (take count (drop from s.owed)))
-  front_later count =
-      let ms = drop from s.owed in
-      let now = seen seed m.mask (journal_after seed steps) s.member in
-      let P : Client → Type 0 = IsFrontOf now in
-      let grown = run_grows seed steps more in
-      let longer : IsPrefix (view seed m.mask m.team m.slot (journal_after seed steps)) (view seed m.mask m.team m.slot (journal_after seed (steps ++ more))) =
-      subst (λ journal. IsPrefix (view seed m.mask m.team m.slot (journal_after seed steps)) (view seed m.mask m.team m.slot journal)) grown.1 (views_grow.journals seed m.mask m.team m.slot (journal_after seed steps) grown.0) in
-      front_of_more now (view seed m.mask m.team m.slot (journal_after seed (steps ++ more)))
-      (subst (λ member. IsPrefix (seen seed m.mask (journal_after seed steps) member) (view seed m.mask m.team m.slot (journal_after seed (steps ++ more)))) (sym plays) longer)
-      (applied_messages (having []) (take count ms)) (along_last P (having []) (take count ms) (along_take P count (having []) ms since.0))
+-- it has a front at each count of messages, by the journal of each later point of the life, and of later lives where it took them
+module _ (seed : Seed) (steps more : List Step) (number : ℕ) (s : Session) (m : Member) (is : session_in (life_after_all seed steps).room.sessions number ≡ Some s) (plays : s.member ≡ Some m)
+    (from : ℕ) (since : Since seed m.mask from (journal_after seed steps) s) where
+  heard_stays : (count : ℕ) → IsHeard s (from + count) more → IsTrue (list_all is_call more) ⊎ (last_carried 0 (take count (drop from s.owed)) ≤ committed_after seed steps)
+  heard_stays count (inl calls) = inl calls
+  heard_stays count (inr taken) = inr (last_at_most (committed_after seed steps) 0 (take count (drop from s.owed)) (omega arith) (taken_within seed steps number s is from count taken))
+
+  front_later : (count : ℕ) → IsHeard s (from + count) more → IsFrontOf (view seed m.mask m.team m.slot (journal_after seed (steps ++ more))) (applied_messages (having []) (take count (drop from s.owed)))
+  front_later count heard =
+      let journal = journal_after seed steps in
+      let later = view seed m.mask m.team m.slot (journal_after seed (steps ++ more)) in
+      let ms = take count (drop from s.owed) in
+      let client = applied_messages (having []) ms in
+      let first = take (last_carried 0 ms) journal in
+      let P : ℕ → Client → Type 0 = HasFront seed m.mask journal s.member in
+      let own : IsFrontOf (seen seed m.mask first s.member) client = (along_last P 0 (having []) ms (along_take P count 0 (having []) (drop from s.owed) since.0)).1 in
+      let grown = first_stay seed steps more (last_carried 0 ms) (heard_stays count heard) in
+      let longer : IsPrefix (view seed m.mask m.team m.slot first) later =
+      subst (λ j. IsPrefix (view seed m.mask m.team m.slot first) (view seed m.mask m.team m.slot j)) grown.1 (views_grow.journals seed m.mask m.team m.slot first grown.0) in
+      front_of_more (view seed m.mask m.team m.slot first) later longer client (subst (λ member. IsFrontOf (seen seed m.mask first member) client) plays own)
 
 -- so it is from a point since which the mask stayed
 since_point : (seed : Seed) (front back : List Step) (number : ℕ) (s : Session) (mask : ℕ) → session_in (life_after_all seed (front ++ back)).room.sessions number ≡ Some s → MaskSince seed front back number mask
@@ -285,12 +308,12 @@ began_more seed steps (acts call luck) b = record {
   calls = passed-append is_call b.back (acts call luck ∷ []) b.calls refl;
   empty = b.empty;
 }
-began_more seed steps (crashes number kept place) b = record {
-  front = steps ++ crashes number kept place ∷ [];
+began_more seed steps (crashes more place) b = record {
+  front = steps ++ crashes more place ∷ [];
   back = [];
-  run = sym (append-nil (steps ++ crashes number kept place ∷ []));
+  run = sym (append-nil (steps ++ crashes more place ∷ []));
   calls = refl;
-  empty = ap (λ life. life.room.sessions) (one_more seed steps (crashes number kept place));
+  empty = ap (λ life. life.room.sessions) (one_more seed steps (crashes more place));
 }
 
 run_began : (seed : Seed) (steps : List Step) → Began seed steps
@@ -316,8 +339,10 @@ stays_since seed steps number s mask is stays =
     subst (λ from. Since seed mask from (journal_after seed steps) s) none (subst (λ run. Since seed mask (owed_before seed b.front number) (journal_after seed run) s) (sym b.run) since)
 
 connected_apply : (seed : Seed) (steps : List Step) (number : ℕ) (s : Session) (m : Member) → session_in (life_after_all seed steps).room.sessions number ≡ Some s → s.member ≡ Some m → MaskStays seed steps number m.mask
-    → (count : ℕ) (more : List Step) → IsFrontOf (view seed m.mask m.team m.slot (journal_after seed (steps ++ more))) (applied_messages (having []) (take count s.owed))
-connected_apply seed steps number s m is plays stays count more = front_later seed steps more s m plays 0 (stays_since seed steps number s m.mask is stays) count
+    → (count : ℕ) (more : List Step) → IsHeard s count more → IsFrontOf (view seed m.mask m.team m.slot (journal_after seed (steps ++ more))) (applied_messages (having []) (take count s.owed))
+connected_apply seed steps number s m is plays stays count more heard =
+    let all : 0 + count ≡ count = omega arith in
+    front_later seed steps more number s m is plays 0 (stays_since seed steps number s m.mask is stays) count (subst (λ n. IsHeard s n more) (sym all) heard)
 
 heard_apply : (seed : Seed) (steps : List Step) (number : ℕ) (s : Session) (m : Member) → session_in (life_after_all seed steps).room.sessions number ≡ Some s → s.member ≡ Some m → MaskStays seed steps number m.mask → IsFalse s.overrun
     → (applied_messages (having []) s.owed).list ≡ view seed m.mask m.team m.slot (journal_after seed steps)
@@ -328,12 +353,13 @@ heard_apply seed steps number s m is plays stays fine =
     has.0 refl
 
 changed_apply : (seed : Seed) (front back : List Step) (number : ℕ) (s : Session) (m : Member) → session_in (life_after_all seed (front ++ back)).room.sessions number ≡ Some s → s.member ≡ Some m → MaskSince seed front back number m.mask
-    → (list : List NetItem) (count : ℕ) (more : List Step) → IsTrue (has_items (take count (owed_since seed front number s)))
+    → (list : List NetItem) (count : ℕ) (more : List Step) → IsHeard s (owed_before seed front number + count) more → IsTrue (has_items (take count (owed_since seed front number s)))
     → IsFrontOf (view seed m.mask m.team m.slot (journal_after seed ((front ++ back) ++ more))) (applied_messages (having list) (take count (owed_since seed front number s)))
-changed_apply seed front back number s m is plays masked list count more has =
+changed_apply seed front back number s m is plays masked list count more heard has =
     let ms = take count (owed_since seed front number s) in
     let whole = view seed m.mask m.team m.slot (journal_after seed ((front ++ back) ++ more)) in
-    let own : IsFrontOf whole (applied_messages (having []) ms) = front_later seed (front ++ back) more s m plays (owed_before seed front number) (since_point seed front back number s m.mask is masked) count in
+    let own : IsFrontOf whole (applied_messages (having []) ms) =
+    front_later seed (front ++ back) more number s m is plays (owed_before seed front number) (since_point seed front back number s m.mask is masked) count heard in
     subst (IsFrontOf whole) (sym (messages_forget list ms has own.asks)) own
 
 pub clients_apply : ClientsApply

@@ -1,5 +1,5 @@
 -- What a client knows of its items that follows the network protocol, and asks for Sync where an index isn't the one that it waits for.
-use Rattle.std.specs.Prelude.{◌≡◌, ℕ, ◌==◌, ◌||◌, ◌++◌, ◌∷◌, [], List, Bool, true, false, Option, Some, None, IsTrue, IsFalse, length, take, drop, if◌then◌else◌}
+use Rattle.std.specs.Prelude.{◌≡◌, ℕ, ◌⊎◌, ◌≤◌, ◌+◌, ◌==◌, ◌||◌, ◌++◌, ◌∷◌, [], List, Bool, true, false, Option, Some, None, IsTrue, IsFalse, length, take, drop, if◌then◌else◌}
 use Rattle.std.specs.List.{list_all, list_any}
 use mathlib.Core.List.{IsPrefix}
 use Rattle.mw_model.specs.Items.{NetItem}
@@ -9,8 +9,7 @@ use Rattle.mw_protocol.specs.Connecting.{Member}
 use Rattle.mw_protocol.specs.Lives.{Step, life_after_all}
 use Rattle.mw_protocol.specs.Messages.{ServerPacket, room_info, connected, received_items, room_update, connection_refused, location_info, data_package, invalid_packet, print, retrieved, set_reply, bounced}
 use Rattle.mw_protocol.specs.Rooms.{Message, Session, session_in, member_in}
-use Rattle.mw_laws.specs.Kept.{journal_after}
-use Rattle.mw_laws.specs.Tails.{is_call}
+use Rattle.mw_laws.specs.Kept.{is_call, journal_after}
 use Rattle.mw_laws.specs.Views.{is_received_items}
 
 -- its list, and whether it ever asked for Sync
@@ -79,23 +78,30 @@ abbrev pub owed_of : Option Session → List Message
 owed_of None = []
 owed_of (Some s) = s.owed
 
--- what a session was owed since a point of its life
+-- how many messages the session of a number was owed by a point of its life, and which it was owed since then
+abbrev pub owed_before : Seed → List Step → ℕ → ℕ
+owed_before seed front number =
+    length (owed_of (session_in (life_after_all seed front).room.sessions number))
+
 abbrev pub owed_since : Seed → List Step → ℕ → Session → List Message
-owed_since seed front number s =
-    drop (length (owed_of (session_in (life_after_all seed front).room.sessions number))) s.owed
+owed_since seed front number s = drop (owed_before seed front number) s.owed
+
+-- so many of the first messages that a session was owed are heard as its life goes on, or were taken
+abbrev pub IsHeard : Session → ℕ → List Step → Type 0
+IsHeard s count more = IsTrue (list_all is_call more) ⊎ (count ≤ s.taken)
 
 -- whether some ReceivedItems is among them
 abbrev pub has_items : List Message → Bool
 has_items [] = false
 has_items (m ∷ ms) = list_any is_received_items m.packets || has_items ms
 
--- a client that hears what a session is owed that plays a slot, all of it or any front, in any life of any run: it never asks for Sync, and its list is a front of the view, which is what the session's mask keeps of what its slot received, by the journal of each later point
+-- a client that hears what a session is owed that plays a slot, all of it or any front, in any life of any run: it never asks for Sync, and its list is a front of the view, which is what the session's mask keeps of what its slot received, by the journal of each later point of the life, and of each later point of the run where what it heard was taken
 pub record ClientsApply : Type 0 where
   -- as long as the mask stays as it was connected, from no list on
   pub connected : (seed : Seed) (steps : List Step) (number : ℕ) (s : Session) (m : Member)
       → session_in (life_after_all seed steps).room.sessions number ≡ Some s → s.member ≡ Some m
       → MaskStays seed steps number m.mask
-      → (count : ℕ) (more : List Step)
+      → (count : ℕ) (more : List Step) → IsHeard s count more
       → IsFrontOf (view seed m.mask m.team m.slot (journal_after seed (steps ++ more)))
       (applied_messages (having []) (take count s.owed))
   -- where the session isn't overrun either, who heard all that it was owed has just its view
@@ -110,6 +116,7 @@ pub record ClientsApply : Type 0 where
       → s.member ≡ Some m
       → MaskSince seed front back number m.mask
       → (list : List NetItem) (count : ℕ) (more : List Step)
+      → IsHeard s (owed_before seed front number + count) more
       → IsTrue (has_items (take count (owed_since seed front number s)))
       → IsFrontOf (view seed m.mask m.team m.slot (journal_after seed (front ++ back ++ more)))
       (applied_messages (having list) (take count (owed_since seed front number s)))

@@ -1,20 +1,16 @@
 -- What sessions take over the lives of a room: messages that events of their life owed, and in these the tails of what their slots received.
-use Rattle.std.specs.Prelude.{◌≡◌, ◌⊎◌, ℕ, ◌+◌, ◌≤◌, ◌++◌, ◌∷◌, [], List, Bool, true, false, Some, IsTrue, All, Contains, map, length, take, drop}
+use Rattle.std.specs.Prelude.{◌≡◌, ◌⊎◌, ℕ, ◌+◌, ◌≤◌, ◌++◌, ◌∷◌, [], List, Some, IsTrue, All, Contains, map, length, take, drop}
 use Rattle.std.specs.List.{list_all}
 use Rattle.mw_model.specs.Items.{NetItem}
 use Rattle.mw_model.specs.Seed.{Seed}
 use Rattle.mw_protocol.specs.Asked.{view}
 use Rattle.mw_protocol.specs.Connecting.{Member}
-use Rattle.mw_protocol.specs.Lives.{Life, happens, takes, Luck, messages, Step, acts, crashes, reply_to, life_after_all}
+use Rattle.mw_protocol.specs.Lives.{Life, happens, takes, Luck, messages, Step, acts, reply_to, life_after_all, untaken_in}
 use Rattle.mw_protocol.specs.Messages.{room_info, received_items}
 use Rattle.mw_protocol.specs.Players.{room_info_of}
-use Rattle.mw_protocol.specs.Rooms.{Message, Session, Room, Event, opened, sent, failed, lost, text_of, untaken_of, session_in, next}
-use Rattle.mw_laws.specs.Kept.{Passes, journal_after}
+use Rattle.mw_protocol.specs.Rooms.{Message, Session, Room, Event, opened, sent, failed, lost, text_of, session_in, next}
+use Rattle.mw_laws.specs.Kept.{Passes, is_call, journal_after, committed_after}
 use Rattle.mw_laws.specs.Turns.{member_then, owed_by}
-
-abbrev pub is_call : Step → Bool
-is_call (acts call luck) = true
-is_call (crashes number kept place) = false
 
 -- an event that passed in the life that a run comes to: before it come any steps, and after it calls alone
 pub record Passed (seed : Seed) (steps : List Step) : Type 0 where
@@ -57,11 +53,11 @@ WasOwed seed steps number message =
 
 -- ---- what a session takes
 
--- the messages that the session of a number takes, if it does
-abbrev pub untaken_in : Life → ℕ → List Message
-untaken_in life number = untaken_of (session_in life.room.sessions number)
+-- a session takes its messages
+abbrev pub taking : ℕ → Luck → Step
+taking number luck = acts (takes number) luck
 
--- in any life of any run, all that a session was owed, and so all that it takes, was owed to it by events that passed in this life; it takes these messages' texts, none of which carries more than the journal's length
+-- in any life of any run, all that a session was owed, and so all that it takes, was owed to it by events that passed in this life; it takes these messages' texts; none carries more than the journal's length, and none that it takes more than is then committed
 pub record TakenWasOwed : Type 0 where
   pub owed : (seed : Seed) (steps : List Step) (number : ℕ) (s : Session)
       → session_in (life_after_all seed steps).room.sessions number ≡ Some s
@@ -74,12 +70,16 @@ pub record TakenWasOwed : Type 0 where
   pub carries : (seed : Seed) (steps : List Step) (number : ℕ)
       → All (λ m. m.carries ≤ length (journal_after seed steps))
       (untaken_in (life_after_all seed steps) number)
+  pub committed : (seed : Seed) (steps : List Step) (number : ℕ) (luck : Luck)
+      → Passes (life_after_all seed steps) (takes number) luck
+      → All (λ m. m.carries ≤ committed_after seed (steps ++ taking number luck ∷ []))
+      (untaken_in (life_after_all seed steps) number)
 
 -- ---- tails
 
--- items from an index on that a message tells the session of a number
-pub record IsTail (seed : Seed) (steps : List Step) (number : ℕ) (message : Message) (index : ℕ)
-    (items : List NetItem) : Type 0 where
+-- items from an index on that a message tells the session of a number, which takes it with some luck
+pub record IsTail (seed : Seed) (steps : List Step) (number : ℕ) (luck : Luck) (message : Message)
+    (index : ℕ) (items : List NetItem) : Type 0 where
   -- the event that owed the message, and the member that the session then was
   pub point : Passed seed steps
   pub told : Tells (life_after_all seed point.before).room point.event number message
@@ -90,29 +90,31 @@ pub record IsTail (seed : Seed) (steps : List Step) (number : ℕ) (message : Me
   pub own : items
       ≡ drop index (view seed member.mask member.team member.slot
       (journal_after seed (point.before ++ acts (happens point.event) point.luck ∷ [])))
-  -- and stand at the index in its view by the journal of each later point of the run, in this life and in later ones
+  -- and stand at the index in its view by the journal of each point of the run since it took them, in this life and in later ones
   pub last : (more : List Step)
       → items ≡ take (length items)
       (drop index (view seed member.mask member.team member.slot
-      (journal_after seed (steps ++ more))))
+      (journal_after seed (steps ++ taking number luck ∷ more))))
 
 -- so it is for each ReceivedItems of a message
-abbrev pub AreTails : Seed → List Step → ℕ → Message → Type 0
-AreTails seed steps number message =
+abbrev pub AreTails : Seed → List Step → ℕ → Luck → Message → Type 0
+AreTails seed steps number luck message =
     (index : ℕ) (items : List NetItem) → Contains message.packets (received_items index items)
-    → IsTail seed steps number message index items
+    → IsTail seed steps number luck message index items
 
--- the items that an event owes which passes are such tails, and so are those of each message that a session takes, in any life of any run
+-- the items that an event owes which passes are such tails as long as its life goes on; those of each message that a session takes, in any life of any run, are it in later lives too
 pub record TailsOfTheLastView : Type 0 where
-  -- to a session that is open before it, and then this member: by the journal of each later point
+  -- to a session that is open before it, and then this member: by the journal of each later point of the life
   pub owed : (seed : Seed) (before more : List Step) (event : Event) (luck : Luck) (number : ℕ)
       (s : Session) (m : Member) (index : ℕ) (items : List NetItem)
       → Passes (life_after_all seed before) (happens event) luck
       → session_in (life_after_all seed before).room.sessions number ≡ Some s
       → member_then (life_after_all seed before).room event s ≡ Some m
       → Contains (owed_by (life_after_all seed before).room event s) (received_items index items)
+      → IsTrue (list_all is_call more)
       → items ≡ take (length items)
       (drop index (view seed m.mask m.team m.slot
       (journal_after seed (before ++ acts (happens event) luck ∷ more))))
-  pub taken : (seed : Seed) (steps : List Step) (number : ℕ)
-      → All (AreTails seed steps number) (untaken_in (life_after_all seed steps) number)
+  pub taken : (seed : Seed) (steps : List Step) (number : ℕ) (luck : Luck)
+      → Passes (life_after_all seed steps) (takes number) luck
+      → All (AreTails seed steps number luck) (untaken_in (life_after_all seed steps) number)

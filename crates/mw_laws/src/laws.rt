@@ -139,23 +139,25 @@ pub fn bounces_reach()
     ensures { BouncesReach }
 {}
 
-/// Over the calls and crashes of a room's lives its seed stays and its journal only grows at its
-/// end: a call that is answered as done has its records in the journal at once, any other call
-/// leaves the room as it is, and a crash keeps the journal and may add some records at risk.
+/// Over the calls and crashes of a room's lives its seed stays. Within a life the journal only grows
+/// at its end, by the records of calls that are answered as done; a commit, and a take that shows
+/// what isn't committed, commit all of it. A crash leaves what is committed, and maybe some of the
+/// first records that aren't: so what is committed stays at the front of each later journal.
 pub fn lives_keep()
     ensures { LivesKeep }
 {}
 
 /// All that a session takes, in any life of any run of calls and crashes, is the texts of messages
-/// that events of this life owed to it, none carrying more than the journal's length.
+/// that events of this life owed to it; none carries more than the journal's length, and none that
+/// it takes more than is then committed.
 pub fn taken_was_owed()
     ensures { TakenWasOwed }
 {}
 
-/// Each ReceivedItems that an event owes, and so each of a message that a session takes, in any life
-/// of any run, has as items the tail from its index of what the session's mask kept of what its
-/// slot received at that event; and these stand at that index in the view by the journal of each
-/// later point of the run, over crashes too.
+/// Each ReceivedItems that an event owes, in any life of any run, has as items the tail from its
+/// index of what the session's mask kept of what its slot received at that event; these stand at
+/// that index in the view by the journal of each later point of the life, and once the session took
+/// the message, by that of each later point of the run, over crashes too.
 pub fn tails_of_the_last_view()
     ensures { TailsOfTheLastView }
 {}
@@ -164,25 +166,28 @@ pub fn tails_of_the_last_view()
 /// that come at its list's length, and asks for Sync at any other index, never asks for Sync,
 /// whatever front of what its session was owed it heard, in any life of any run. Its list is a
 /// front of what the session's mask keeps of what its slot received, by the journal of each later
-/// point, and all of that once it heard all that its session was owed, unless that is overrun. This
+/// point of the life, and where it heard what was taken alone, of each later point of the run. It is
+/// all of the view once it heard all that its session was owed, unless that is overrun. This
 /// holds as long as the mask stays as it was connected; after another mask, that it never asks and
 /// has a front holds from the first ReceivedItems on.
 pub fn clients_apply()
     ensures { ClientsApply }
 {}
 
-/// What the messages that a session takes show to be checked, in any life of any run, is checked by
-/// the journal of each later point, over crashes too: the locations of Connected and RoomUpdate,
+/// What the messages that a session was owed show to be checked, in any life of any run, is checked
+/// by the journal of each later point of the life, and of those that it takes, by the journal of
+/// each later point of the run, over crashes too: the locations of Connected and RoomUpdate,
 /// those of the items of ReceivedItems and of prints that tell of an item sent or of a hint that is
 /// found, and those of found hints that a Get is answered.
 pub fn shown_is_checked()
     ensures { ShownIsChecked }
 {}
 
-/// Whatever calls and crashes come, the records of the journal, those at risk and those that a crash
-/// leaves name only teams, slots and locations that the seed has, where no slot has more names than
-/// there are teams, and each location is one of a slot that is there. So a room that takes only such
-/// records can be made anew from what a crash left of any life.
+/// Whatever calls and crashes come, the records of the journal, and those that a crash leaves of it,
+/// name only teams, slots and locations that the seed has, where no slot has more names than
+/// there are teams, and each location is one of a slot that is there; and so it is in each life that
+/// begins with such records, whoever wrote them. So a room that takes only such records can be made
+/// anew from what a crash left of any life.
 pub fn journals_are_named()
     ensures { JournalsAreNamed }
 {}

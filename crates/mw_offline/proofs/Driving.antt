@@ -20,12 +20,13 @@ use Rattle.mw_protocol.specs.Spelled.{records_bytes}
 use Rattle.mw_journal.specs.Settled.{AllSettled, AllShut}
 use Rattle.mw_script.specs.Commands.{Command}
 use Rattle.mw_drive.specs.Ends.{IsFound, IsForeign, IsReady, Refuses, StaysSettled, Drives, StopsWith, IsOfJournal}
-use Rattle.mw_drive.specs.Left.{FindsItself, HasDriven, IsKept, IsLeft, KeepsShown}
+use Rattle.mw_drive.specs.Left.{FindsItself, HasDriven, IsKept, KeepsShown}
+use Rattle.mw_keep.specs.Left.{IsLeft}
 use Rattle.mw_drive.specs.Runs.{HasHalted}
 use Rattle.mw_drive.specs.declared.error.DriveError.{DriveError}
 use Rattle.mw_drive.specs.declared.error.DriveError.TheVariants.{Fault, Memory, Full, Journal, Script}
 use Rattle.mw_drive.specs.declared.error.JournalRefusal.{JournalRefusal}
-use Rattle.mw_drive.proofs.Crashing.{left_by_shut, one_journal, one_place, settled_of}
+use Rattle.mw_drive.proofs.Crashing.{one_journal, one_place, settled_of}
 use Rattle.mw_words.specs.declared.command_line.DriveWords.{DriveWords}
 use Rattle.mw_causes.specs.DriveCauses.{drive_line, drive_status, drive_stop}
 use Rattle.mw_offline.specs.Driving.{DriveEnds, DriveKeeps, DriveStopped, IsNewJournal, JournalKeeps, JournalLeaves, JournalRead, NoImages, ScriptRun, run_of, RunsToEnd, RunsShort}
@@ -50,7 +51,7 @@ module _ (left later : List ℕ → Type 0) (fewer : (c : List ℕ) → later c 
   fewer_settled text body settled c image = settled c (fewer c image)
 
   pub fewer_left : (life : Life) → IsLeft left digest life → IsLeft later digest life
-  fewer_left life l = record { records = l.records; batch = l.batch; each = l.each; among = l.among; settled = λ c image. l.settled c (fewer c image) }
+  fewer_left life l = record { records = l.records; batch = l.batch; first = l.first; settled = λ c image. l.settled c (fewer c image) }
 
   pub fewer_kept : (seed : Seed) (steps : List Step) (old new : Option (List ℕ)) → KeepsShown left digest seed steps old new → KeepsShown later digest seed steps old new
   fewer_kept seed steps old new k = record { more = k.more; left = fewer_left (life_after_all seed (steps ++ k.more)) k.left; put = k.put; front = k.front; kept = k.kept }
@@ -101,6 +102,8 @@ module _ (found held : List Record → ℕ → Type 0) (eased : (j : List Record
           life = s.life;
           commands = s.commands;
           ready = ready_for (source before) (source after) s.life s.commands s.ready;
+          ran = s.ran;
+          outside = λ finds. s.outside (telling s.commands finds);
           halted = λ finds. fewer_halted left later fewer digest seed s.life s.commands old new error (s.halted (telling s.commands finds));
         })
 
@@ -179,7 +182,7 @@ module _ (f : List ℕ) (images : List ℕ → Type 0) (here : images f) (digest
 
   -- it is settled for the first life of a room
   pub new_left : IsLeft images digest (life_after_all seed [])
-  new_left = left_by_shut images digest (life_after_all seed []) 40 tt shut
+  new_left = record { records = tt; batch = []; first = ([], refl); settled = settled_of images digest [] [] 40 shut }
 
   module _ (left : List ℕ → Type 0) (old new : Option (List ℕ)) where
     pub drives_new : (before after : Option (List ℕ)) → Drives (IsFound (Some f) images digest seed) (Some f) left digest seed before after old new
@@ -219,8 +222,7 @@ pub nothing_kept : (digest : List ℕ) (seed : Seed) (held : Option (List ℕ)) 
 nothing_kept digest seed held = unmoved_kept NoImages NoImages (λ c never. never) digest seed [] held record {
   records = tt;
   batch = [];
-  each = tt;
-  among = inl refl;
+  first = ([], refl);
   settled = λ c never. absurd never;
 }
 
@@ -233,7 +235,11 @@ pub record AreUnmoved (files : FilesAround) : Type 0 where
 
 module _ (files : FilesAround) (unmoved : AreUnmoved files) where
   pub unmoved_leaves : (journal : Option (List ℕ)) → JournalLeaves files journal
-  unmoved_leaves journal = record { others = λ n other. unmoved.each n; opened = unmoved.opened }
+  unmoved_leaves journal = record {
+    tells = λ n. ap (λ file. is_some (opened_bytes file)) (unmoved.each n).told;
+    others = λ n other. unmoved.each n;
+    opened = unmoved.opened;
+  }
 
   pub unmoved_keeps : (journal : Option (List ℕ)) (digest : List ℕ) (seed : Seed) (held : Option (List ℕ)) → JournalKeeps files journal digest seed held held
   unmoved_keeps None digest seed held = nothing_kept digest seed held
@@ -304,6 +310,7 @@ module _ {F : Type 0} (holds : F → Files) (images : F → List ℕ → List �
     pub leaves_since : (journal : Option (List ℕ)) → ((n : List ℕ) → opened second n ≡ opened first n)
         → JournalLeaves (files_around holds images opened may_fail faults second last) journal → JournalLeaves (files_around holds images opened may_fail faults first last) journal
     leaves_since journal same_open l = record {
+      tells = λ n. l.tells n ∙ ap (λ file. is_some (opened_bytes file)) (same n);
       others = λ n other. record {
         told = (l.others n other).told ∙ same n;
         crash = λ c. (λ x. (crash n c).0 (((l.others n other).crash c).0 x), λ x. ((l.others n other).crash c).1 ((crash n c).1 x));
@@ -324,6 +331,15 @@ read_keeps files named read seed old new is_file is keeps bytes other told other
     let seeds : seed ≡ other = one_seed bytes seed other (subst (λ b. SeedOf b (Ok seed)) same is) other_is in
     subst (λ b. JournalKeeps files named.journal (digest_of b) other old new) same (subst (λ s. JournalKeeps files named.journal (digest_of read) s old new) seeds keeps)
 
+-- a file that stays, or is made empty, is told as before; and so is one whose disk tells as before
+pub tells_made : (before after : Option (Option (List ℕ))) → StaysOrIsMade before after → is_some (opened_bytes after) ≡ is_some (opened_bytes before)
+tells_made before after (inl same) = ap (λ file. is_some (opened_bytes file)) same
+tells_made before after (inr made) = ap (λ file. is_some (opened_bytes file)) made.1 ∙ sym (ap (λ file. is_some (opened_bytes file)) made.0)
+
+pub tells_closed : (told : Option (List ℕ)) (after : Option (Option (List ℕ))) → after ≡ open_file told → is_some (opened_bytes after) ≡ is_some told
+tells_closed None after is = ap (λ file. is_some (opened_bytes file)) is
+tells_closed (Some bytes) after is = ap (λ file. is_some (opened_bytes file)) is
+
 -- ---- the file's disk
 
 -- of any two names, either they are one or they aren't
@@ -338,8 +354,12 @@ module _ {F : Type 0} (holds : F → Files) (images : F → List ℕ → List �
   -- all files but this one stay
   pub leaves_by : ((n : List ℕ) → (n ≡ name → ⊥) → holds last n ≡ holds first n) → ((n : List ℕ) → (n ≡ name → ⊥) → SameImages (images first n) (images last n))
       → opened last name ≡ opened first name → ((n : List ℕ) → (n ≡ name → ⊥) → opened last n ≡ opened first n)
+      → is_some (opened_bytes (holds last name)) ≡ is_some (opened_bytes (holds first name))
       → JournalLeaves (files_around holds images opened may_fail faults first last) (Some name)
-  leaves_by told crash here there = record {
+  leaves_by told crash here there tells = record {
+    tells = λ n. either_name n name (is_some (opened_bytes (holds last n)) ≡ is_some (opened_bytes (holds first n)))
+        (λ same. subst (λ m. is_some (opened_bytes (holds last m)) ≡ is_some (opened_bytes (holds first m))) (sym same) tells)
+        (λ other. ap (λ file. is_some (opened_bytes file)) (told n other));
     others = λ n other. record { told = told n (λ same. other (ap Some (sym same))); crash = crash n (λ same. other (ap Some (sym same))) };
     opened = λ n. either_name n name (opened last n ≡ opened first n) (λ same. ap (opened last) same ∙ here ∙ ap (opened first) (sym same)) (there n);
   }

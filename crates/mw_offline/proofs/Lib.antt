@@ -5,3 +5,4 @@ pub mod Driving
 pub mod NewRooms
 pub mod Checked
 pub mod OneRun
+pub mod WholeLives

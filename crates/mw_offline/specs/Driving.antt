@@ -9,7 +9,8 @@ use Rattle.mw_multidata.specs.SeedOf.{SeedOf}
 use Rattle.mw_protocol.specs.Lives.{Step, life_after_all}
 use Rattle.mw_protocol.specs.Records.{Record}
 use Rattle.mw_drive.specs.Ends.{IsFound, Refuses, StaysSettled, Drives, StopsWith, IsOfJournal}
-use Rattle.mw_drive.specs.Left.{IsLeft, KeepsShown}
+use Rattle.mw_drive.specs.Left.{KeepsShown}
+use Rattle.mw_keep.specs.Left.{IsLeft}
 use Rattle.mw_drive.specs.declared.error.DriveError.{DriveError}
 use Rattle.mw_drive.specs.declared.error.JournalRefusal.{JournalRefusal}
 use Rattle.mw_causes.specs.DriveCauses.{drive_stop, drive_status, drive_line}
@@ -69,8 +70,11 @@ JournalRead files None = ⊤
 JournalRead files (Some name) = StaysOrIsMade (files.before name) (files.after name)
     × Stays (files.might_leave name) (files.may_leave name)
 
--- the files but the journal's are as they were, and just those are open as disks that were
+-- the files but the journal's are as they were, and just those are open as disks that were; a
+-- journal whose file was told is told
 pub record JournalLeaves (files : FilesAround) (journal : Option (List ℕ)) : Type 0 where
+  pub tells : (n : List ℕ)
+      → is_some (opened_bytes (files.after n)) ≡ is_some (opened_bytes (files.before n))
   pub others : (n : List ℕ) → (journal ≡ Some n → ⊥) → IsUntouched files n
   pub opened : (n : List ℕ) → files.is_open n ≡ files.was_open n
 

@@ -2,7 +2,7 @@
 use Rattle.std.specs.Prelude.{◌≡◌, ◌≢◌, ℕ, List, Bool}
 use Rattle.mw_disk.specs.Crash.{Stays}
 use Rattle.mw_edges.specs.Folders.{SameImages}
-use Rattle.mw_offline.specs.Generating.{SameBut}
+use Rattle.mw_causes.specs.Wrote.{SameBut}
 use Rattle.mw_causes.specs.Tables.{Files}
 
 -- what a folder told of each file and tells now, what a crash might have left of each and may leave

@@ -1,24 +1,16 @@
 -- What `generate` writes and prints, and how it ends.
-use Rattle.std.specs.Prelude.{◌≡◌, ◌≢◌, ◌⊎◌, ◌++◌, ℕ, List, Option, Bool, codes, decimal, length, ⊤}
+use Rattle.std.specs.Prelude.{◌≡◌, ◌⊎◌, ℕ, List, Option, Bool, ⊤}
 use Rattle.std.specs.Io.KnownBytes.{Keeps, Appends}
 use Rattle.mw_edges.specs.Causes.{PutsFront, Rose}
-use Rattle.mw_edges.specs.Folders.{IsWritten}
-use Rattle.mw_model.specs.Seed.{Seed, Spot}
-use Rattle.mw_multi.specs.Joint.{Joint, IsJoint}
-use Rattle.mw_multi.specs.Placement.{Put, what_stands}
-use Rattle.mw_multidata.specs.Written.{seed_text}
-use Rattle.mw_reach.specs.Goals.{IsBeatable}
-use Rattle.mw_fill.specs.Generated.{CanBeTried, IsFirst, IsRefused}
+use Rattle.mw_multi.specs.Joint.{Joint}
+use Rattle.mw_fill.specs.Generated.{IsRefused}
 use Rattle.mw_fill.specs.declared.seed.GenerateError.{GenerateError}
 use Rattle.mw_fill.specs.declared.seed.GenerateError.TheVariants as refused
-use Rattle.mw_spheres.specs.Spots.{placement_table}
-use Rattle.mw_spheres.specs.Spheres.{IsSpheres, Shows}
-use Rattle.mw_spheres.specs.Playthrough.{IsPlaythrough, NoneToSpare}
-use Rattle.mw_seeds.specs.SeedFile.{SeedFile}
-use Rattle.mw_seeds.specs.Played.{played_lines}
+use Rattle.mw_seeds.specs.Made.{Generates}
 use Rattle.mw_causes.specs.GenerateCauses.{generate_status, generate_line}
 use Rattle.mw_causes.specs.Ends.{Told, Ends}
 use Rattle.mw_causes.specs.Tables.{Files, JointIn, HasTableCause}
+use Rattle.mw_causes.specs.Wrote.{Wrote, SameBut, Untouched, HasFile, HasFailed}
 use Rattle.mw_causes.specs.declared.stop.Stop.{Stop}
 use Rattle.mw_causes.specs.declared.stop.Stop.TheVariants.{Fault, Memory, Refused}
 use Rattle.mw_causes.specs.declared.table_cause.TableCause.{TableCause}
@@ -26,60 +18,9 @@ use Rattle.mw_causes.specs.declared.generate_cause.GenerateCause.{GenerateCause}
 use Rattle.mw_causes.specs.declared.generate_cause.GenerateCause.TheVariants.{Tables, NotBeatable, TooManyItems, Exhausted}
 use Rattle.mw_words.specs.declared.command_line.GenerateWords.{GenerateWords}
 
--- what a folder's files were before and after, whether its reads might fail, and how often it had
--- refused a write
-pub record Wrote : Type 0 where
-  pub before : Files
-  pub after : Files
-  pub may_fail : Bool
-  pub refused_before : ℕ
-  pub refused_after : ℕ
-
--- the same of a folder, before and after, which holds and counts so
-abbrev pub wrote_by : {F : Type 0} → (F → Files) → (F → Bool) → (F → ℕ) → F → F → Wrote
-wrote_by holds may_fail refusals old new = record {
-  before = holds old;
-  after = holds new;
-  may_fail = may_fail old;
-  refused_before = refusals old;
-  refused_after = refusals new;
-}
-
 -- ---- the file and the text
 
-abbrev pub generated_line : ℕ → ℕ → ℕ → List ℕ
-generated_line seed stream spheres =
-    codes "seed " ++ decimal seed ++ codes " try " ++ decimal stream ++ codes " spheres "
-    ++ decimal spheres ++ codes "\n"
-
--- the placement can be beaten, as its spheres show, which the file has; the text has its
--- playthrough, of which no entry can be left out
-pub record IsMade (joint : Joint) (seed stream : ℕ) (placement : List Put) (bytes text : List ℕ)
-    : Type 0 where
-  pub kept : IsJoint joint
-  pub beatable : IsBeatable joint (placement_table joint placement)
-  pub spheres : List (List Spot)
-  pub are_spheres : IsSpheres joint placement spheres
-  pub shows : Shows joint placement spheres
-  pub played : List (List Spot)
-  pub is_playthrough : IsPlaythrough joint placement spheres played
-  pub needed : NoneToSpare joint placement played
-  pub file : Seed
-  pub is_file : SeedFile joint seed placement spheres file
-  pub written : bytes ≡ seed_text file
-  pub printed : text ≡ generated_line seed stream (length spheres)
-      ++ played_lines joint.slots (what_stands placement) 1 played
-
--- each goal holds with everything in hand, there is room for all copies, and it is made of the
--- first try's placement
-pub record Generates (joint : Joint) (seed tries : ℕ) (bytes text : List ℕ) : Type 0 where
-  pub can : CanBeTried joint
-  pub stream : ℕ
-  pub placement : List Put
-  pub first : IsFirst joint seed tries stream placement
-  pub made : IsMade joint seed stream placement bytes text
-
--- the same of a joint that is so
+-- what `generate` makes of a joint that is so
 pub record IsTextFor (joined : Joint → Type 0) (wanted : GenerateWords) (bytes text : List ℕ)
     : Type 0 where
   pub joint : Joint
@@ -121,22 +62,6 @@ HasGenerateCause files may_fail wanted stop =
 
 -- ---- ends
 
--- each file but this one is as it was
-abbrev pub SameBut : List ℕ → Files → Files → Type 0
-SameBut name before after = (n : List ℕ) → n ≢ name → after n ≡ before n
-
-abbrev pub Same : Files → Files → Type 0
-Same before after = (n : List ℕ) → after n ≡ before n
-
--- no file is touched and nothing is put
-pub record Untouched (wrote : Wrote) (old new : Option (List ℕ)) : Type 0 where
-  pub files : Same wrote.before wrote.after
-  pub put : Keeps old new
-
--- the named file holds these bytes
-abbrev pub HasFile : Wrote → List ℕ → List ℕ → Type 0
-HasFile wrote name bytes = IsWritten (wrote.before name) (wrote.after name) bytes
-
 -- the due seed file is written and a front of the text is put; or the write was refused, and
 -- nothing is put
 pub record WritesSome (wrote : Wrote) (wanted : GenerateWords)
@@ -157,10 +82,6 @@ pub record IsGenerated (wrote : Wrote) (wanted : GenerateWords)
   pub others : SameBut wanted.out_name wrote.before wrote.after
   pub written : HasFile wrote wanted.out_name bytes
   pub put : Appends old new text
-
--- the out sink failed, or the folder refused the write
-abbrev pub HasFailed : Wrote → Told → Type 0
-HasFailed wrote out = Rose out.before out.now ⊎ Rose wrote.refused_before wrote.refused_after
 
 -- how `generate` ended with a status, with what the out sink held and how often it failed
 abbrev pub GenerateEnds : ℕ → Wrote → GenerateWords → Told → Told → Type 0

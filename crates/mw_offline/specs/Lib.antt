@@ -5,3 +5,4 @@ pub mod Checking
 pub mod FilesAround
 pub mod NewRooms
 pub mod Laws
+pub mod WholeLives

@@ -7,12 +7,15 @@ ghost use Rattle.mw_multi.specs.JointOf.{joint_of};
 ghost use Rattle.mw_causes.specs.Ends.{HasLeft, told_by};
 ghost use Rattle.mw_causes.specs.Tables.{AreUnjoined};
 ghost use Rattle.mw_offline.specs.Laws.{GenerateIsOne};
-ghost use Rattle.mw_offline.specs.Generating.{wrote_by, IsTextFor, IsUntextFor, GeneratedText, HasGenerateCause, IsGenerated, Untouched, WritesSome, HasFailed, GenerateEnds};
+ghost use Rattle.mw_causes.specs.Wrote.{wrote_by, Untouched, HasFailed};
+ghost use Rattle.mw_offline.specs.Generating.{IsTextFor, IsUntextFor, GeneratedText, HasGenerateCause, IsGenerated, WritesSome, GenerateEnds};
 
-use crate::generating::{Made, make};
 use mw_base::Text;
-use mw_causes::{GenerateCause, Stop, Tables, end, join, put_text, read_tables, refusal_stop};
-use mw_edges::{Folder, FolderError, Sink};
+use mw_causes::{
+    GenerateCause, Stop, Tables, end, join, put_file, put_text, read_tables, refusal_stop,
+};
+use mw_edges::{Folder, Sink};
+use mw_seeds::{MadeSeed, make_seed};
 use mw_words::GenerateWords;
 use std::alloc::Global;
 
@@ -22,7 +25,7 @@ fn made_from(
     alloc: Global,
     tables: &Tables,
     words: &GenerateWords,
-) -> Result<Made, Stop<GenerateCause>>
+) -> Result<MadeSeed, Stop<GenerateCause>>
     requires tries { (1 ≤ words.now.tries) × (words.now.tries ≤ 1000) }
     requires number { length tables.now.worlds ≡ length (world_files tables.now.players) }
     ensures ok { IfOk result
@@ -34,7 +37,7 @@ fn made_from(
     ensures fault { result ≢ Err Stop.Fault }
 {
     let joint = join(alloc, tables)?;
-    match make(alloc, &tables.players, &joint, words.seed, words.tries) {
+    match make_seed(alloc, &tables.players, &joint, words.seed, words.tries) {
         Ok(made) => Ok(made),
         Err(error) => Err(refusal_stop(error, words.tries)),
     }
@@ -46,7 +49,7 @@ fn prepare<F: Folder>(
     alloc: Global,
     words: &GenerateWords,
     folder: &mut F,
-) -> Result<Made, Stop<GenerateCause>>
+) -> Result<MadeSeed, Stop<GenerateCause>>
     requires tries { (1 ≤ words.now.tries) × (words.now.tries ≤ 1000) }
     ensures ok { IfOk result (λ m. GeneratedText (F.holds folder.old) words.now m.bytes
         (string_bytes m.text)) }
@@ -59,28 +62,6 @@ fn prepare<F: Folder>(
 {
     let tables = read_tables(alloc, folder, &words.players)?;
     made_from(alloc, &tables, words)
-}
-
-/// Writes a file.
-fn write_out<F: Folder>(
-    alloc: Global,
-    folder: &mut F,
-    name: &Text,
-    bytes: &[u8],
-) -> Result<(), Stop<GenerateCause>>
-    ensures done { OnOk result
-        (IsWritten (F.holds folder.old name.now) (F.holds folder.new name.now) bytes.now) }
-    ensures others { (n : List ℕ) → n ≢ name.now → F.holds folder.new n ≡ F.holds folder.old n }
-    ensures late { IfErr result (λ stop. (stop ≡ Stop.Fault) ⊎ (stop ≡ Stop.Memory)) }
-    ensures fault { result ≡ Err Stop.Fault → Rose (F.faults folder.old) (F.faults folder.new) }
-    ensures later { F.faults folder.old ≤ F.faults folder.new }
-    ensures refused { OnErr result (Rose (F.refusals folder.old) (F.refusals folder.new)) }
-{
-    match folder.write_file(alloc, name, bytes) {
-        Ok(()) => Ok(()),
-        Err(FolderError::Failed) => Err(Stop::Fault),
-        Err(FolderError::Memory) => Err(Stop::Memory),
-    }
 }
 
 /// Does all that `generate` does but for its error line.
@@ -109,7 +90,7 @@ fn write_and_print<F: Folder, O: Sink>(
         ⊎ Rose (O.faults out.old) (O.faults out.new) }
 {
     let made = prepare(alloc, words, folder)?;
-    write_out(alloc, folder, &words.out_name, made.bytes.as_slice())?;
+    put_file::<GenerateCause, F>(alloc, folder, &words.out_name, made.bytes.as_slice())?;
     put_text(out, made.text.as_str())
 }
 

@@ -5,7 +5,6 @@ mod check_command;
 mod creating;
 mod drive_command;
 mod generate_command;
-mod generating;
 mod laws;
 mod new_room;
 mod reach;
@@ -14,7 +13,7 @@ mod reaching;
 pub use check_command::cmd_check;
 pub use drive_command::cmd_drive;
 pub use generate_command::cmd_generate;
-pub use laws::generate_is_one;
+pub use laws::{generate_is_one, journals_keep};
 pub use mw_causes::{
     CheckCause, DriveCause, GenerateCause, RoomCause, SeedCause, Stop, TableCause,
 };

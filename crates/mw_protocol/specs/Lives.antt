@@ -1,8 +1,8 @@
 -- The life of a room that is kept in a journal: what each call answers and leaves, and what a crash leaves of it.
-use Rattle.std.specs.Prelude.{ℕ, ◌+◌, ◌^◌, ◌&&◌, ◌++◌, ◌∷◌, [], List, Bool, true, false, not, Option, Some, None, map, length, take, get_or, nat_le, nat_lt, if◌then◌else◌}
+use Rattle.std.specs.Prelude.{ℕ, ◌+◌, ◌^◌, ◌&&◌, ◌∷◌, [], List, Bool, true, false, not, Option, Some, None, map, length, take, drop, nat_le, nat_lt, if◌then◌else◌}
 use Rattle.mw_model.specs.Seed.{Seed}
 use Rattle.mw_protocol.specs.Records.{Record}
-use Rattle.mw_protocol.specs.Rooms.{Room, Session, Event, opened, sent, failed, lost, effect_in, next, replayed, session_in, taken, text_of, untaken_of}
+use Rattle.mw_protocol.specs.Rooms.{Room, Session, Message, Event, opened, sent, failed, lost, greatest, effect_in, next, replayed, session_in, taken, text_of, untaken_of}
 use Rattle.mw_protocol.specs.Spelled.{records_bytes}
 
 pub data Call : Type 0 where
@@ -33,18 +33,35 @@ pub data Reply : Type 0 where
   stopped : StopCause → Reply
   memory : Reply
 
--- the room; the place of its journal's first gate that isn't open; why it goes no further, if so; how many calls it has had; and the records of those calls since the last append whose own append lacked memory or met a fault: of one of them a crash may leave some
+-- the room; how many records its journal had at the last append that went well, or as the life began: these are committed; the place of the first gate that isn't open; why it goes no further, if so; and how many calls it has had
 pub record Life : Type 0 where
   pub room : Room
+  pub committed : ℕ
   pub place : ℕ
   pub stopped : Option StopCause
   pub calls : ℕ
-  pub risked : List (List Record)
 
 -- a life begins with the journal that it finds, and nobody in its room
 abbrev pub new_life : Seed → List Record → ℕ → Life
 new_life seed journal place =
-    record { room = replayed seed journal; place = place; stopped = None; calls = 0; risked = [] }
+    record {
+      room = replayed seed journal;
+      committed = length journal;
+      place = place;
+      stopped = None;
+      calls = 0;
+    }
+
+-- the records that are committed, and those that aren't yet
+abbrev pub committed_of : Life → List Record
+committed_of life = take life.committed life.room.journal
+
+abbrev pub pending_of : Life → List Record
+pending_of life = drop life.committed life.room.journal
+
+-- the messages that the session of a number hasn't taken
+abbrev pub untaken_in : Life → ℕ → List Message
+untaken_in life number = untaken_of (session_in life.room.sessions number)
 
 -- ---- refusals
 
@@ -111,13 +128,23 @@ records_of room (happens event) = (effect_in room event).records
 records_of room commits = []
 records_of room (takes number) = []
 
+-- whether a message of a session that takes carries a length greater than what is committed
+abbrev pub shows_pending : Life → ℕ → Bool
+shows_pending life number = nat_lt life.committed (greatest (untaken_in life number))
+
+-- what a call appends before it is done: all that is pending, at a commit, and where a session takes a message that shows some of it
+abbrev pub append_of : Life → Call → List Record
+append_of life (happens event) = []
+append_of life commits = pending_of life
+append_of life (takes number) = if shows_pending life number then pending_of life else []
+
 abbrev pub appended_unless : Option Reply → List Record → List Record
 appended_unless None records = records
 appended_unless (Some reply) records = []
 
 -- the records that a call appends as one batch
 abbrev pub appended : Life → Call → List Record
-appended life call = appended_unless (refusal life call) (records_of life.room call)
+appended life call = appended_unless (refusal life call) (append_of life call)
 
 -- the length of the journal's file with a batch at its gate: the open gate, the length, the body and the next gate
 abbrev pub length_with : ℕ → List Record → ℕ
@@ -129,19 +156,23 @@ or_full place records otherwise =
     if nat_lt (2 ^ 30) (length_with place records)
     then stops (journal_full (length_with place records)) else otherwise
 
--- each event that makes records appends them before it is answered
+-- where there is nothing to append, neither memory nor the disk is asked
 abbrev pub append : ℕ → Luck → List Record → Outcome
-append place lacking records = lacks
-append place fine [] = passes
+append place luck [] = passes
+append place lacking (r ∷ rs) = lacks
 append place fine (r ∷ rs) = or_full place (r ∷ rs) passes
-append place faulty [] = passes
 append place faulty (r ∷ rs) = or_full place (r ∷ rs) (stops disk_fault)
 
--- a commit finds nothing that isn't safe, and what a session takes is there
+-- an event asks for memory alone
+abbrev pub planned : Luck → Outcome
+planned fine = passes
+planned lacking = lacks
+planned faulty = passes
+
 abbrev pub outcome : Life → Call → Luck → Outcome
-outcome life (happens event) luck = append life.place luck (records_of life.room (happens event))
-outcome life commits luck = passes
-outcome life (takes number) luck = passes
+outcome life (happens event) luck = planned luck
+outcome life commits luck = append life.place luck (append_of life commits)
+outcome life (takes number) luck = append life.place luck (append_of life (takes number))
 
 -- ---- replies
 
@@ -182,45 +213,35 @@ abbrev pub place_then : ℕ → List Record → ℕ
 place_then place [] = place
 place_then place (r ∷ rs) = place + 5 + length (records_bytes (r ∷ rs))
 
--- an append that went well stands in the place of all that were at risk
-abbrev pub risked_then : List (List Record) → List Record → List (List Record)
-risked_then risked [] = risked
-risked_then risked (r ∷ rs) = []
+-- an append leaves the whole journal committed
+abbrev pub committed_then : Life → List Record → ℕ
+committed_then life [] = life.committed
+committed_then life (r ∷ rs) = length life.room.journal
 
-abbrev pub with_risk : List (List Record) → List Record → List (List Record)
-with_risk risked [] = risked
-with_risk risked (r ∷ rs) = risked ++ (r ∷ rs) ∷ []
-
--- nothing is written of a batch that is too long
-abbrev pub risked_by : StopCause → List (List Record) → List Record → List (List Record)
-risked_by disk_fault risked records = with_risk risked records
-risked_by (journal_full len) risked records = risked
-risked_by (too_many_calls count) risked records = risked
-
-abbrev pub life_of : Life → Call → List Record → Outcome → Life
-life_of life call records passes =
+abbrev pub life_of : Life → Call → Outcome → Life
+life_of life call passes =
     record {
       room = room_then life.room call;
-      place = place_then life.place records;
+      committed = committed_then life (append_of life call);
+      place = place_then life.place (append_of life call);
       stopped = life.stopped;
       calls = life.calls + 1;
-      risked = risked_then life.risked records;
     }
-life_of life call records lacks =
+life_of life call lacks =
     record {
       room = life.room;
+      committed = life.committed;
       place = life.place;
       stopped = life.stopped;
       calls = life.calls + 1;
-      risked = with_risk life.risked records;
     }
-life_of life call records (stops cause) =
+life_of life call (stops cause) =
     record {
       room = life.room;
+      committed = life.committed;
       place = life.place;
       stopped = Some cause;
       calls = life.calls + 1;
-      risked = risked_by cause life.risked records;
     }
 
 -- a refused call counts as one, and changes nothing
@@ -228,10 +249,10 @@ abbrev pub counted : Life → Life
 counted life =
     record {
       room = life.room;
+      committed = life.committed;
       place = life.place;
       stopped = life.stopped;
       calls = life.calls + 1;
-      risked = life.risked;
     }
 
 abbrev pub life_unless : Option Reply → Life → Life → Life
@@ -241,32 +262,28 @@ life_unless (Some reply) life otherwise = counted life
 -- the life after a call
 abbrev pub life_after : Life → Call → Luck → Life
 life_after life call luck =
-    life_unless (refusal life call) life
-    (life_of life call (records_of life.room call) (outcome life call luck))
+    life_unless (refusal life call) life (life_of life call (outcome life call luck))
 
 -- ---- crashes
 
--- the records at risk of a number, of which a crash may leave some
-abbrev pub at_risk : Life → ℕ → List Record
-at_risk life number = get_or life.risked number []
-
--- a crash leaves the journal, and as many of the first records at risk as it may
-abbrev pub left_by : Life → ℕ → ℕ → List Record
-left_by life number kept = life.room.journal ++ take kept (at_risk life number)
+-- a crash leaves the committed records, and as many of the first pending ones as it may
+abbrev pub left_by : Life → ℕ → List Record
+left_by life more = take (life.committed + more) life.room.journal
 
 -- the life after a crash, of whose journal the first gate that isn't open is at a place
-abbrev pub life_anew : Life → ℕ → ℕ → ℕ → Life
-life_anew life number kept place = new_life life.room.seed (left_by life number kept) place
+abbrev pub life_anew : Life → ℕ → ℕ → Life
+life_anew life more place = new_life life.room.seed (left_by life more) place
 
 -- ---- runs
 
 pub data Step : Type 0 where
   acts : Call → Luck → Step
-  crashes : ℕ → ℕ → ℕ → Step
+  -- a crash that leaves so many pending records, and a life anew
+  crashes : ℕ → ℕ → Step
 
 abbrev pub after : Life → Step → Life
 after life (acts call luck) = life_after life call luck
-after life (crashes number kept place) = life_anew life number kept place
+after life (crashes more place) = life_anew life more place
 
 abbrev pub after_all : Life → List Step → Life
 after_all life [] = life

@@ -31,16 +31,18 @@ fn told(alloc: Global, bytes: &[u8], player: &str) -> Result<Text, Fail> {
     Ok(last_taken(&mut room).ok_or("no message")?)
 }
 
-/// Ann checks both of her locations.
+/// Ann checks both of her locations, and each check is committed.
 const PLAY: &str = "open | opened
 Ann | done
 first | done
-second | done";
+commit | done
+second | done
+commit | done";
 
-/// The disk after two checks of Ann's.
-fn played_disk(alloc: Global) -> Result<MemDisk, Fail> {
+/// The disk after calls on a new room.
+fn played_disk(alloc: Global, calls: &str) -> Result<MemDisk, Fail> {
     let mut room = new_room(alloc, None)?;
-    try_calls(alloc, &mut room, PLAY)?;
+    try_calls(alloc, &mut room, calls)?;
     Ok(room.into_disk())
 }
 
@@ -48,20 +50,36 @@ fn played_disk(alloc: Global) -> Result<MemDisk, Fail> {
 const SWORD: &str =
     r#"{"cmd":"ReceivedItems","index":0,"items":[{"class":"NetworkItem","flags":1,"item":7,"location":101,"player":1}]}"#;
 
-/// An event commits before it is done, so a check comes back after a crash that no commit precedes:
-/// Bob is told of his item, and Ann of both of her checks.
+/// Ann checks her first location, and nobody takes or commits.
+const UNCOMMITTED: &str = "open | opened
+Ann | done
+first | done";
+
+/// The same, and it is committed.
+const COMMITTED: &str = "open | opened
+Ann | done
+first | done
+commit | done";
+
+/// A check that no commit and no take covered is lost at a crash: Bob is told of no item, and Ann
+/// that nothing is checked. With a commit both are told of it.
 #[test]
 fn crash_before_commit(rt: HostRuntime) -> Result<(), Fail> {
-    let disk = played_disk(rt.alloc())?;
-    let bob = told(rt.alloc(), disk.bytes(), BOB)?;
-    let ann = told(rt.alloc(), disk.bytes(), ANN)?;
+    let lost = played_disk(rt.alloc(), UNCOMMITTED)?;
+    let kept = played_disk(rt.alloc(), COMMITTED)?;
+    let no_bob = told(rt.alloc(), lost.bytes(), BOB)?;
+    let no_ann = told(rt.alloc(), lost.bytes(), ANN)?;
+    let bob = told(rt.alloc(), kept.bytes(), BOB)?;
+    let ann = told(rt.alloc(), kept.bytes(), ANN)?;
     fine(&[
+        ("no item", !no_bob.as_str().contains("ReceivedItems")),
+        ("no check", no_ann.as_str().contains(NONE_CHECKED)),
         ("Bob", bob.as_str().contains(SWORD)),
-        ("Ann", ann.as_str().contains(BOTH_CHECKED)),
+        ("Ann", ann.as_str().contains(FIRST_CHECKED)),
     ])
 }
 
-/// How a player's Connected begins once so many of the calls on the disk of two checks are made:
+/// How a player's Connected begins once so many of the calls on the disk of two commits are made:
 /// opening makes three, and each append four.
 fn least_checked(moment: usize) -> &'static str {
     if moment >= 11 {
@@ -73,8 +91,8 @@ fn least_checked(moment: usize) -> &'static str {
     }
 }
 
-/// Whether a crash that leaves these bytes keeps the checks that were done before it, and at most
-/// the next one.
+/// Whether a crash that leaves these bytes keeps the checks that were committed before it, and at
+/// most the next one.
 fn keeps(alloc: Global, bytes: &[u8], moment: usize) -> Result<bool, Fail> {
     let text = told(alloc, bytes, ANN)?;
     let next = least_checked(moment.saturating_add(4));
@@ -94,8 +112,8 @@ fn survives(alloc: Global, disk: &MemDisk, calls: usize, moment: usize) -> Resul
 }
 
 #[test]
-fn a_crash_at_each_call_keeps_what_is_done(rt: HostRuntime) -> Result<(), Fail> {
-    let disk = played_disk(rt.alloc())?;
+fn a_crash_at_each_call_keeps_what_is_committed(rt: HostRuntime) -> Result<(), Fail> {
+    let disk = played_disk(rt.alloc(), PLAY)?;
     fine(&[("eleven calls", disk.calls().len() == 11)])?;
     for moment in 0..12usize {
         survives(rt.alloc(), &disk, moment, moment)?;
@@ -103,13 +121,36 @@ fn a_crash_at_each_call_keeps_what_is_done(rt: HostRuntime) -> Result<(), Fail> 
     Ok(())
 }
 
-/// All that is asked of a room is stopped once Ann has connected and a check fails.
+/// Fails unless a second crash does, at each call of the recovery after a first one.
+fn survives_twice(alloc: Global, bytes: &[u8], moment: usize) -> Result<(), Fail> {
+    let again = kept_room(alloc, bytes, None)?.into_disk();
+    for calls in 0..again.calls().len() {
+        survives(alloc, &again, calls, moment)?;
+    }
+    Ok(())
+}
+
+#[test]
+fn a_crash_at_each_call_of_a_recovery_keeps_it(rt: HostRuntime) -> Result<(), Fail> {
+    let disk = played_disk(rt.alloc(), PLAY)?;
+    // The calls of both appends, where a crash may leave a gate that is neither shut nor open.
+    for moment in 3..12usize {
+        let image = disk.image_at(moment, Tear::Filled(7))?;
+        survives_twice(rt.alloc(), image.as_slice(), moment)?;
+    }
+    Ok(())
+}
+
+/// A check is done once Ann has connected; her take of it fails, and then all that is asked of the
+/// room is stopped.
 const STOPPED: &str = "open | opened
 Ann | done
-first | stopped
+first | done
+take | stopped
 second | stopped
 7 | stopped
 take | stopped
+commit | stopped
 open | stopped";
 
 /// The disk of a room whose first append fails at its second sync, after which all is stopped.

@@ -7,6 +7,24 @@ use mw_multidata::digest;
 use std::alloc::Global;
 use std::test::Fail;
 
+/// The room of a seed file that a disk keeps.
+pub(crate) fn room_of(
+    alloc: Global,
+    disk: MemDisk,
+    seed: &[u8],
+) -> Result<KeptRoom<MemDisk>, Fail> {
+    Ok(recover(alloc, disk, seed).ok().ok_or("no room")?)
+}
+
+/// A new room on a disk whose calls of these numbers are answered so.
+pub(crate) fn room_on(
+    alloc: Global,
+    plan: List<(u64, DiskError)>,
+) -> Result<KeptRoom<MemDisk>, Fail> {
+    let bytes = Bytes::from_vec(new_journal(alloc)?);
+    room_of(alloc, MemDisk::new(alloc, bytes, plan)?, ROOM_A.as_bytes())
+}
+
 /// The plan that the call of a number fails, if one is given.
 fn plan_of(alloc: Global, failing: Option<u64>) -> Result<List<(u64, DiskError)>, Fail> {
     let mut plan = List::new(alloc);
@@ -36,12 +54,7 @@ pub(crate) fn kept_room(
     bytes: &[u8],
     failing: Option<u64>,
 ) -> Result<KeptRoom<MemDisk>, Fail> {
-    let disk = disk_of(alloc, bytes, failing)?;
-    Ok(
-        recover(alloc, disk, ROOM_A.as_bytes())
-            .ok()
-            .ok_or("no room")?,
-    )
+    room_of(alloc, disk_of(alloc, bytes, failing)?, ROOM_A.as_bytes())
 }
 
 /// A new room.

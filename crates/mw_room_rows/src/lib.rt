@@ -15,6 +15,8 @@ mod client_members;
 #[cfg(test)]
 mod client_packets;
 #[cfg(test)]
+mod commits;
+#[cfg(test)]
 mod crashes;
 #[cfg(test)]
 mod disks;

@@ -18,3 +18,4 @@ pub mod Walk
 pub mod KeyOrder
 pub mod Agreed
 pub mod OneFile
+pub mod MadeFirst

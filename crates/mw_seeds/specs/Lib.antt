@@ -6,3 +6,4 @@ pub mod FilePuts
 pub mod Keys
 pub mod Refusals
 pub mod Judging
+pub mod Made

@@ -1,11 +1,14 @@
-use Rattle.std.proofs.Common.{◌≡◌, Some, sym, subst}
+use Rattle.std.proofs.Common.{◌≡◌, ◌∷◌, [], Some, refl, sym, subst}
 use Rattle.mw_protocol.specs.Spelled.{records_bytes}
 use Rattle.mw_journal.specs.Settled.{AllSettled}
 use Rattle.mw_multidata.specs.Digest.{digest_of}
 use Rattle.mw_keep.specs.Recovers.{Recovers}
 use Rattle.mw_drive.specs.Calls.{IsOutside}
-use Rattle.mw_drive.specs.Left.{IsLeft}
-use Rattle.mw_drive.proofs.Crashing.{recovers_life, refused_outside, left_after, left_of}
+use Rattle.mw_keep.specs.Left.{IsLeft}
+use Rattle.mw_keep.proofs.Leaving.{left_after, left_of}
+use Rattle.mw_script.specs.Commands.{crashes}
+use Rattle.mw_drive.specs.Runs.{IsOfRun}
+use Rattle.mw_drive.proofs.Crashing.{crash_ran, recovers_life, refused_outside}
 use Rattle.mw_drive.proofs.crash.crash.Goals as goal
 
 pub returns-in-Ok-clause-ok : goal.returns-in-Ok-clause-ok
@@ -25,3 +28,6 @@ returns-in-Err-clause-outside g c seed life accepted keeps going some sound =
     (refused_outside g.D.Disk.told g.D.Disk.may_leave g.met.D.Disk.told_may_stay c.args.file.now seed life c.args.kept accepted keeps going some c.in-Err.error sound
     (λ s is f was batch told a b settled. c.in-Err.ensures.settled s is f was batch (subst (λ d. g.D.Disk.told d ≡ Some f) (sym c.into_disk.ensures) told) a b
     (subst (λ d. AllSettled (g.D.Disk.may_leave d) (digest_of c.args.file.now) (records_bytes was) (records_bytes batch)) (sym c.into_disk.ensures) settled)))
+
+pub returns-in-Err-clause-ran : goal.returns-in-Err-clause-ran
+returns-in-Err-clause-ran g c = subst (IsOfRun (crashes ∷ [])) (sym c.drive_error.ensures) (crash_ran (crashes ∷ []) c.in-Err.error refl)

@@ -4,11 +4,11 @@ use Rattle.mw_disk.specs.Crash.{LeavesOnly}
 use Rattle.mw_journal.specs.Settled.{AllSettled, IsSettled}
 use Rattle.mw_journal.proofs.Told.{on_ok_one}
 use Rattle.mw_protocol.specs.Lives.{life_after_all}
-use Rattle.mw_protocol.specs.Spelled.{records_bytes}
 use Rattle.mw_multidata.specs.Digest.{digest_of}
+use Rattle.mw_keep.specs.Left.{GoesOn, IsLeft}
 use Rattle.mw_keep.specs.Recovers.{Resumes, RefusesResume}
 use Rattle.mw_drive.specs.Ends.{IsOfJournal}
-use Rattle.mw_drive.proofs.Crashing.{left_after}
+use Rattle.mw_keep.proofs.Leaving.{left_after}
 use Rattle.mw_drive.proofs.Driving.{foreign_error, runs_drive, halts_drive, drive_kept, halts_accepted, cause_of, unopened_accepted, unopened_kept}
 use Rattle.mw_drive.proofs.Passing.{if_err}
 use Rattle.mw_drive.proofs.drive.drive_on.Goals as goal
@@ -17,26 +17,33 @@ pub returns-in-Ok-clause-done : goal.returns-in-Ok-clause-done
 returns-in-Ok-clause-done g c =
     let r = subst (λ d. Resumes g.D.Disk.told g.D.Disk.may_leave d c.args.multidata c.args.disk c.in-Ok.kept) c.digest.ensures c.in-Ok.ensures.resumes in
     on_ok_one c.drive_kept.result.1 c.drive_kept.ensures.done
-    (λ runs. runs_drive g.D.Disk.told g.D.Disk.may_leave c.args.file.now c.args.multidata c.args.disk c.in-Ok.kept c.requires r c.in-Ok.ensures.tells _ _ _ _ c.drive_kept.result.0 runs)
+    (λ runs. runs_drive g.D.Disk.told g.D.Disk.may_leave c.args.file.now c.args.multidata c.args.disk c.in-Ok.kept c.requires c.names_fit.ensures r c.in-Ok.ensures.tells _ _ _ _ c.drive_kept.result.0 runs)
 
 pub returns-in-Ok-clause-stopped : goal.returns-in-Ok-clause-stopped
 returns-in-Ok-clause-stopped g c =
     let r = subst (λ d. Resumes g.D.Disk.told g.D.Disk.may_leave d c.args.multidata c.args.disk c.in-Ok.kept) c.digest.ensures c.in-Ok.ensures.resumes in
     if_err _ _ c.drive_kept.result.1 c.drive_kept.ensures.err
-    (λ e halts. inr (halts_drive g.D.Disk.told g.D.Disk.may_leave c.args.file.now c.args.multidata c.args.disk c.in-Ok.kept c.requires r c.in-Ok.ensures.tells _ _ _ _ c.drive_kept.result.0 e halts))
+    (λ e halts. inr (halts_drive g.D.Disk.told g.D.Disk.may_leave c.args.file.now c.args.multidata c.args.disk c.in-Ok.kept c.requires c.names_fit.ensures r c.in-Ok.ensures.tells _ _ _ _ c.drive_kept.result.0 e halts))
 
 pub returns-in-Ok-clause-kept : goal.returns-in-Ok-clause-kept
 returns-in-Ok-clause-kept g c steps some left =
     let r = subst (λ d. Resumes g.D.Disk.told g.D.Disk.may_leave d c.args.multidata c.args.disk c.in-Ok.kept) c.digest.ensures c.in-Ok.ensures.resumes in
-    drive_kept g.D.Disk.told g.D.Disk.may_leave c.args.file.now c.args.multidata c.args.disk c.in-Ok.kept c.requires r c.in-Ok.ensures.tells c.lives_keep.ensures steps some left _ _ _ _ c.drive_kept.result.0
+    let on = subst (λ (d : List ℕ). GoesOn g.D.Disk.may_leave d (life_after_all c.args.multidata steps) c.in-Ok.kept) c.digest.ensures
+    (c.in-Ok.ensures.goes_on (life_after_all c.args.multidata steps)
+    (some, c.lives_keep.ensures.seed c.args.multidata steps, subst (λ (d : List ℕ). IsLeft (g.D.Disk.may_leave c.args.disk) d (life_after_all c.args.multidata steps)) (sym c.digest.ensures) left)) in
+    drive_kept g.D.Disk.told g.D.Disk.may_leave c.args.file.now c.args.multidata c.args.disk c.in-Ok.kept c.requires c.names_fit.ensures r c.in-Ok.ensures.tells c.lives_keep.ensures steps some on _ _ _ _ c.drive_kept.result.0
     c.drive_kept.result.1 c.drive_kept.ensures.done c.drive_kept.ensures.err
 
 pub returns-in-Ok-clause-accepted : goal.returns-in-Ok-clause-accepted
 returns-in-Ok-clause-accepted g c =
     let r = subst (λ d. Resumes g.D.Disk.told g.D.Disk.may_leave d c.args.multidata c.args.disk c.in-Ok.kept) c.digest.ensures c.in-Ok.ensures.resumes in
     if_err _ _ c.drive_kept.result.1 c.drive_kept.ensures.err
-    (λ e halts steps some left. halts_accepted g.D.Disk.told g.D.Disk.may_leave c.args.file.now c.args.multidata c.args.disk c.in-Ok.kept c.requires r c.in-Ok.ensures.tells c.lives_keep.ensures steps some left
-    _ _ _ _ c.drive_kept.result.0 c.names_fit.ensures e halts)
+    (λ e halts steps some left.
+    let on = subst (λ (d : List ℕ). GoesOn g.D.Disk.may_leave d (life_after_all c.args.multidata steps) c.in-Ok.kept) c.digest.ensures
+    (c.in-Ok.ensures.goes_on (life_after_all c.args.multidata steps)
+    (some, c.lives_keep.ensures.seed c.args.multidata steps, subst (λ (d : List ℕ). IsLeft (g.D.Disk.may_leave c.args.disk) d (life_after_all c.args.multidata steps)) (sym c.digest.ensures) left)) in
+    halts_accepted g.D.Disk.told g.D.Disk.may_leave c.args.file.now c.args.multidata c.args.disk c.in-Ok.kept c.requires c.names_fit.ensures r c.in-Ok.ensures.tells c.lives_keep.ensures steps some on
+    _ _ _ _ c.drive_kept.result.0 e halts)
 
 pub returns-in-Err-clause-stopped : goal.returns-in-Err-clause-stopped
 returns-in-Err-clause-stopped g c = inl record {
@@ -55,14 +62,14 @@ returns-in-Err-clause-stopped g c = inl record {
 
 pub returns-in-Err-clause-kept : goal.returns-in-Err-clause-kept
 returns-in-Err-clause-kept g c steps some left =
-    unopened_kept g.D.Disk.told g.D.Disk.may_leave (digest_of c.args.file.now) c.args.multidata c.args.disk c.journals_are_named.ensures c.names_fit.ensures steps some left (g.O.Sink.held c.args.out.now) c.in-Err.disk
+    unopened_kept (g.D.Disk.may_leave c.in-Err.disk) (digest_of c.args.file.now) c.args.multidata steps (g.O.Sink.held c.args.out.now)
     (left_after g.D.Disk.may_leave g.D.Disk.moment g.D.Disk.left_since g.met.D.Disk.counts_now (digest_of c.args.file.now) (life_after_all c.args.multidata steps) c.args.disk c.in-Err.disk left
     (λ text body settled. subst (λ (d : List ℕ). LeavesOnly g.D.Disk.moment g.D.Disk.left_since c.args.disk c.in-Err.disk (λ x. IsSettled x d text body)) c.digest.ensures
     (c.in-Err.ensures.any_moment text body (subst (λ (d : List ℕ). AllSettled (g.D.Disk.may_leave c.args.disk) d text body) (sym c.digest.ensures) settled))))
 
 pub returns-in-Err-clause-accepted : goal.returns-in-Err-clause-accepted
 returns-in-Err-clause-accepted g c steps some left of =
-    unopened_accepted g.D.Disk.told g.D.Disk.may_leave (digest_of c.args.file.now) c.args.multidata c.args.disk c.journals_are_named.ensures c.names_fit.ensures steps some left c.in-Err.error
-    (λ f was batch told a b settled. c.in-Err.ensures.settled f was batch told a b
-    (subst (λ (d : List ℕ). AllSettled (g.D.Disk.may_leave c.args.disk) d (records_bytes was) (records_bytes batch)) (sym c.digest.ensures) settled))
+    unopened_accepted c.in-Err.error
+    (c.in-Err.ensures.accepted steps
+    (some, c.lives_keep.ensures.seed c.args.multidata steps, subst (λ (d : List ℕ). IsLeft (g.D.Disk.may_leave c.args.disk) d (life_after_all c.args.multidata steps)) (sym c.digest.ensures) left))
     (subst IsOfJournal c.drive_error.ensures of)

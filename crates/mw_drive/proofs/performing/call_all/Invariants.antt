@@ -13,7 +13,7 @@ use Rattle.mw_drive.proofs.performing.call_all.Given as goal
 -- the calls that are left come to what all come to
 abbrev pub invariant-loop-element : goal.invariant-loop-element
 invariant-loop-element g l =
-    ((digest : List ℕ) (seed : Seed) (first : Life) → Keeps g.D.Disk.may_leave digest first l.fn.kept → IsGoing seed first
+    ((digest : List ℕ) (seed : Seed) (first : Life) → Keeps g.D.Disk.may_leave digest first l.fn.kept → IsGoing seed first l.fn.kept
     → AreLeft g.D.Disk.may_leave g.D.Disk.faults digest seed first l.fn.kept l.kept l.met (map (call_for l.session) (map inbound_view (into_iter_items l.element-iterator))) (map (call_for l.session) (map inbound_view l.fn.message)))
     × (is_some (g.D.Disk.told (kept_disk l.kept)) ≡ is_some (g.D.Disk.told (kept_disk l.fn.kept)))
     × (g.D.Disk.faults (kept_disk l.fn.kept) ≤ g.D.Disk.faults (kept_disk l.kept))

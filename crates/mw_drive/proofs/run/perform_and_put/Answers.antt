@@ -9,7 +9,7 @@ use Rattle.mw_drive.proofs.run.perform_and_put.Goals as goal
 pub returns-in-Err-clause-err : goal.returns-in-Err-clause-err
 returns-in-Err-clause-err g c digest seed life keeps going =
     cut_by_stop g.D.Disk.may_leave g.D.Disk.faults digest seed life (command_view c.args.command) c.args.kept (g.O.Sink.held c.args.out.now) c.perform.new.kept c.into_disk.result c.in-Err.error c.into_disk.ensures
-    (c.in-Err.ensures.err digest seed life keeps going)
+    (c.in-Err.ensures.err digest seed life keeps going) c.in-Err.ensures.own
 
 pub returns-in-Err-clause-fault : goal.returns-in-Err-clause-fault
 returns-in-Err-clause-fault g c e digest seed life keeps going =

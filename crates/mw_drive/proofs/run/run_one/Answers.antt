@@ -1,12 +1,13 @@
-use Rattle.std.proofs.Common.{◌≡◌, ◌∙◌, true, inl, sym, subst}
+use Rattle.std.proofs.Common.{◌≡◌, ◌∙◌, ◌∷◌, [], true, inl, sym, subst}
 use Rattle.mw_multidata.specs.Digest.{digest_of}
 use Rattle.mw_keep.specs.Keeps.{kept_disk}
 use Rattle.mw_script.specs.Commands.{command_view, crashes}
 use Rattle.mw_drive.specs.Drive.{is_crash}
-use Rattle.mw_drive.specs.Runs.{HasStepped, IsCut}
+use Rattle.mw_drive.specs.Runs.{HasStepped, IsCut, IsOfRun}
 use Rattle.mw_drive.proofs.Looping.{told_at_crash}
-use Rattle.mw_drive.proofs.Passing.{if_ok, if_err, if_err_all}
-use Rattle.mw_drive.proofs.Stepping.{crash_is, crash_steps, crash_cuts, life_stepped}
+use Rattle.mw_keep.proofs.Going.{if_ok}
+use Rattle.mw_drive.proofs.Passing.{if_err, if_err_all}
+use Rattle.mw_drive.proofs.Stepping.{crash_is, crash_steps, crash_cuts, life_stepped, ran_outside}
 use Rattle.mw_drive.proofs.run.run_one.Goals as goal
 
 pub returns-then-is_crash-clause-ok : goal.returns-then-is_crash-clause-ok
@@ -17,8 +18,8 @@ returns-then-is_crash-clause-ok g c =
     if_ok _ _ c.crash.result c.crash.ensures.ok
     (λ k h seed life kept.
     subst (λ x. HasStepped g.D.Disk.may_leave (digest_of c.args.file.now) seed life x held held k) (sym is)
-    (crash_steps g.D.Disk.may_leave (digest_of c.args.file.now) seed life held k
-    (h seed life kept.accepted kept.keeps kept.going (told_at_crash (g.D.Disk.told (kept_disk c.args.kept)) (command_view c.args.command) test kept.finds)) kept.going))
+    (let then = h seed life kept.accepted kept.keeps kept.going (told_at_crash (g.D.Disk.told (kept_disk c.args.kept)) (command_view c.args.command) test kept.finds) in
+    crash_steps g.D.Disk.may_leave (digest_of c.args.file.now) seed life held k then.0 then.1))
 
 pub returns-then-is_crash-clause-err : goal.returns-then-is_crash-clause-err
 returns-then-is_crash-clause-err g c =
@@ -49,3 +50,11 @@ returns-clause-lives g c = if_ok _ _ c.perform_and_put.result c.perform_and_put.
 
 pub returns-clause-fault : goal.returns-clause-fault
 returns-clause-fault g c = if_err _ _ c.perform_and_put.result c.perform_and_put.ensures.fault (λ e h is has. h is (digest_of c.args.file.now) has.seed has.life has.keeps has.going)
+
+pub returns-then-is_crash-clause-ran : goal.returns-then-is_crash-clause-ran
+returns-then-is_crash-clause-ran g c =
+    let is : command_view c.args.command ≡ crashes = crash_is (command_view c.args.command) (sym c.is_crash.ensures ∙ c.if-is_crash.true) in
+    if_err _ _ c.crash.result c.crash.ensures.ran (λ e ran. subst (λ x. IsOfRun (x ∷ []) e.1) (sym is) ran)
+
+pub returns-clause-ran : goal.returns-clause-ran
+returns-clause-ran g c = if_err _ _ c.perform_and_put.result c.perform_and_put.ensures.own (λ e own. ran_outside (command_view c.args.command ∷ []) e.1 own)

@@ -1,4 +1,5 @@
 use Rattle.std.proofs.Common.{◌∙◌, Some, ℕ, List, ap, refl, sym, subst, inl, inr}
+use Rattle.std.specs.Option.{is_some}
 use Rattle.std.specs.Prelude.{OnOk, IfErr}
 use Rattle.mw_edges.specs.Files.{open_file}
 use Rattle.mw_edges.specs.Folders.{opened_bytes}
@@ -7,7 +8,7 @@ use Rattle.mw_multidata.specs.Digest.{digest_of}
 use Rattle.mw_drive.specs.Ends.{IsAsRead}
 use Rattle.mw_offline.specs.Driving.{JournalKeeps, JournalRead, run_of, RunsToEnd, RunsShort}
 use Rattle.mw_offline.specs.FilesAround.{files_around}
-use Rattle.mw_offline.proofs.Driving.{accepted_over, drives_over, if_err_two, kept_over, leaves_by, opened_same, same_both, stops_over, unopened_keeps, unopened_short}
+use Rattle.mw_offline.proofs.Driving.{accepted_over, drives_over, if_err_two, kept_over, leaves_by, opened_same, same_both, stops_over, tells_closed, tells_made, unopened_keeps, unopened_short}
 use Rattle.mw_offline.proofs.drive_command.drive_on_file.Goals as goal
 
 pub returns-in-Err-Failed-clause-short : goal.returns-in-Err-Failed-clause-short
@@ -26,7 +27,7 @@ pub returns-in-Err-Failed-clause-leaves : goal.returns-in-Err-Failed-clause-leav
 returns-in-Err-Failed-clause-leaves g c =
     let F = g.F.Folder in
     leaves_by F.holds F.images F.is_open F.may_fail F.faults c.args.folder.now c.open_disk.new.self c.args.name.now c.open_disk.ensures.others (λ n other. c.open_disk.ensures.crash n)
-    c.in-Err-Failed.ensures.unopened c.open_disk.ensures.others_open
+    c.in-Err-Failed.ensures.unopened c.open_disk.ensures.others_open (tells_made (F.holds c.args.folder.now c.args.name.now) (F.holds c.open_disk.new.self c.args.name.now) c.in-Err-Failed.ensures.kept)
 
 pub returns-in-Err-Memory-clause-short : goal.returns-in-Err-Memory-clause-short
 returns-in-Err-Memory-clause-short g c =
@@ -44,7 +45,7 @@ pub returns-in-Err-Memory-clause-leaves : goal.returns-in-Err-Memory-clause-leav
 returns-in-Err-Memory-clause-leaves g c =
     let F = g.F.Folder in
     leaves_by F.holds F.images F.is_open F.may_fail F.faults c.args.folder.now c.open_disk.new.self c.args.name.now c.open_disk.ensures.others (λ n other. c.open_disk.ensures.crash n)
-    c.in-Err-Memory.ensures.unopened c.open_disk.ensures.others_open
+    c.in-Err-Memory.ensures.unopened c.open_disk.ensures.others_open (tells_made (F.holds c.args.folder.now c.args.name.now) (F.holds c.open_disk.new.self c.args.name.now) c.in-Err-Memory.ensures.kept)
 
 pub returns-clause-done : goal.returns-clause-done
 returns-clause-done g c =
@@ -125,3 +126,4 @@ returns-clause-leaves g c =
     leaves_by F.holds F.images F.is_open F.may_fail F.faults first last name (λ n other. c.close_disk.ensures.others n other ∙ c.open_disk.ensures.others n other)
     (λ n other. same_both (F.images first n) (F.images middle n) (F.images last n) (c.open_disk.ensures.crash n) (c.close_disk.ensures.crash n other))
     (c.close_disk.ensures.closed ∙ sym c.in-Ok.ensures.one) (λ n other. c.close_disk.ensures.others_open n other ∙ c.open_disk.ensures.others_open n other)
+    (tells_closed (g.F.Drive.Disk.told c.drive_on-disk.result.0) (F.holds last name) c.close_disk.ensures.told ∙ c.drive_on-disk.ensures.tells ∙ ap is_some c.in-Ok.ensures.told)

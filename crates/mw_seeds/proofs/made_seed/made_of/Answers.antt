@@ -3,9 +3,9 @@ use Rattle.mw_multi.specs.Joint.{IsJoint}
 use Rattle.mw_multi.specs.Placement.{what_stands}
 use Rattle.mw_spheres.proofs.Showing.{spheres_show}
 use Rattle.mw_seeds.specs.Played.{played_lines}
-use Rattle.mw_offline.specs.Generating.{generated_line}
-use Rattle.mw_offline.proofs.Generated.{beatable_table}
-use Rattle.mw_offline.proofs.generating.made_of.Goals as goal
+use Rattle.mw_seeds.specs.Made.{generated_line}
+use Rattle.mw_seeds.proofs.MadeFirst.{beatable_table}
+use Rattle.mw_seeds.proofs.made_seed.made_of.Goals as goal
 
 pub returns : goal.returns
 returns c =

@@ -2,7 +2,7 @@ use Rattle.std.proofs.Common.{◌≡◌, map, take}
 use Rattle.mw_protocol.specs.Spelled.{records_bytes}
 use Rattle.mw_records.specs.Records.{record_view}
 use Rattle.mw_keep.specs.Holds.{AreRecords}
-use Rattle.mw_keep.proofs.append.spelled.Given as goal
+use Rattle.mw_keep.proofs.append.spell.Given as goal
 
 -- those of the records so far
 abbrev pub invariant-loop-record : goal.invariant-loop-record

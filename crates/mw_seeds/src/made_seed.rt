@@ -1,27 +1,33 @@
-//! What `generate` writes and prints.
+//! What `generate` writes and prints: the seed file of the first try that gives a placement, and the
+//! text beside it.
 ghost use Rattle.std.specs.Prelude.{◌≡◌, ◌≤◌, ◌++◌, ℕ, IfOk, IfErr, List, Ok, string_bytes};
 ghost use Rattle.mw_multi.specs.World.{World as PlainWorld};
 ghost use Rattle.mw_multi.specs.JointOf.{joint_of};
+ghost use Rattle.mw_multi.specs.Steps.{rule_list};
 ghost use Rattle.mw_multi.specs.Placement.{IsPlacement, IsPlaced, what_stands};
 ghost use Rattle.mw_multi.specs.Events.{with_events};
 ghost use Rattle.mw_reach.specs.Goals.{IsBeatable};
 ghost use Rattle.mw_fill.specs.Generated.{IsRefused};
 ghost use Rattle.mw_seeds.specs.Played.{played_lines};
-ghost use Rattle.mw_offline.specs.Generating.{generated_line, IsMade, Generates};
+ghost use Rattle.mw_seeds.specs.Made.{generated_line, IsMade, Generates};
 
+use crate::making::seed_file;
+use crate::played_lines::with_played;
 use mw_base::{Bytes, Memory, SphereList};
-use mw_fill::{GenerateError, Seed, generate};
-use mw_multi::{Joint, Placement, Players};
+use mw_fill::{GenerateError, Seed, generate_by};
+use mw_multi::{Joint, Placement, Players, TreeRules};
 use mw_multidata::write;
-use mw_seeds::{seed_file, with_played};
+use mw_rules::Ruling;
 use mw_spheres::{playthrough, spheres};
 use std::alloc::Global;
 
 /// A seed file's bytes, and the text that is printed beside it.
 #[derive(Drop)]
-pub(crate) struct Made {
-    pub(crate) bytes: Bytes,
-    pub(crate) text: String,
+pub struct MadeSeed {
+    /// The seed file.
+    pub bytes: Bytes,
+    /// The line of the try, and those of the playthrough.
+    pub text: String,
 }
 
 /// The line of a try.
@@ -55,7 +61,7 @@ fn made_of(
     joint: &Joint,
     seed: u64,
     found: &Seed,
-) -> Result<Made, Memory>
+) -> Result<MadeSeed, Memory>
     requires joined { (worlds : List PlainWorld) × (joint_of worlds players.now ≡ Ok joint.now) }
     requires placement { IsPlacement joint.now found.now.placement }
     requires beatable { (table : List (List ℕ))
@@ -71,22 +77,42 @@ fn made_of(
     let file = seed_file(alloc, players, joint, seed, &found.placement, &spheres)?;
     let bytes = write(alloc, &file)?;
     let text = text_of(alloc, joint, seed, found, spheres.len(), &played)?;
-    Ok(Made { bytes, text })
+    Ok(MadeSeed { bytes, text })
 }
 
-/// The seed file of the first try that gives a placement, and the text beside it.
-pub(crate) fn make(
+/// The seed file of the first of 1 to 1,000 tries that gives a placement, and the text beside it,
+/// with the joint's rules asked of `rules`. It is refused as `generate_by` is.
+pub fn make_seed_by<R: Ruling>(
     alloc: Global,
     players: &Players,
     joint: &Joint,
+    rules: &R,
     seed: u64,
     tries: u32,
-) -> Result<Made, GenerateError>
+) -> Result<MadeSeed, GenerateError>
+    requires rules { R.stands_for rules.now (rule_list joint.now) }
     requires tries { (1 ≤ tries) × (tries ≤ 1000) }
     requires joined { (worlds : List PlainWorld) × (joint_of worlds players.now ≡ Ok joint.now) }
     ensures ok { IfOk result (λ m. Generates joint.now seed tries m.bytes (string_bytes m.text)) }
     ensures err { IfErr result (IsRefused joint.now seed tries) }
 {
-    let found = generate(alloc, joint, seed, tries)?;
+    let found = generate_by(alloc, joint, rules, seed, tries)?;
     Ok(made_of(alloc, players, joint, seed, &found)?)
+}
+
+/// The same, with the joint's rules as its tables have them.
+pub fn make_seed(
+    alloc: Global,
+    players: &Players,
+    joint: &Joint,
+    seed: u64,
+    tries: u32,
+) -> Result<MadeSeed, GenerateError>
+    requires tries { (1 ≤ tries) × (tries ≤ 1000) }
+    requires joined { (worlds : List PlainWorld) × (joint_of worlds players.now ≡ Ok joint.now) }
+    ensures ok { IfOk result (λ m. Generates joint.now seed tries m.bytes (string_bytes m.text)) }
+    ensures err { IfErr result (IsRefused joint.now seed tries) }
+{
+    let rules = TreeRules::of(alloc, joint)?;
+    make_seed_by(alloc, players, joint, &rules, seed, tries)
 }

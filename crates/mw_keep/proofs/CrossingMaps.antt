@@ -1,0 +1,30 @@
+-- Maps in insertion order may cross threads as their keys and values may.
+use denote.RattleType.{RattleType}
+use denote.Param.Send.{IsSend, sendable}
+use Rattle.std.specs.declared.cmp.PartialEq as eq
+use Rattle.std.specs.declared.hash.Hash as hash
+use Rattle.std.specs.declared.hash.Hasher as hasher
+use Rattle.std.specs.declared.hash.BuildHasher as builder
+use Rattle.std.proofs.Crossing.{crosses, Vec-send}
+use Rattle.std.specs.contracts.alloc.Global as heap
+use Rattle.std.specs.contracts.impls.GlobalAllocator.TheImpl as heap_impl
+use Rattle.indexmap.specs.contracts.columns.Columns as Columns
+use Rattle.indexmap.specs.contracts.map.IndexMap as IndexMap
+use Rattle.indexmap.specs.contracts.index_table.Bucket as Bucket
+use Rattle.indexmap.specs.contracts.index_table.IndexTable as IndexTable
+use Rattle.indexmap.specs.contracts.index_table.group.Group as Group
+
+module _ (K V : RattleType) where
+  columns_send : IsSend K → IsSend V → IsSend (Columns.the_field K V heap.the_row heap_impl.ghosts).row
+  columns_send k v = let a = Vec-send K k in let b = Vec-send V v in search sendable depth 20
+
+table_send : IsSend (IndexTable.the_field heap.the_row heap_impl.ghosts).row
+table_send =
+    let a = Vec-send Group.the_row (search sendable depth 20) in
+    let b = Vec-send Bucket.the_row (search sendable depth 20) in
+    search sendable depth 20
+
+module _ (K V S T : RattleType) (e : eq.Ghosts K.Denot) (h : hash.Ghosts K.Denot) (b : builder.Ghosts S.Denot T.Denot) (w : hasher.Ghosts T.Denot) where
+  pub map_send : IsSend K → IsSend V → IsSend S
+      → IsSend (IndexMap.the_field K V S heap.the_row T e h b w heap_impl.ghosts).row
+  map_send k v s = let a = columns_send K V k v in let t = table_send in search sendable depth 20
