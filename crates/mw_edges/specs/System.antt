@@ -22,13 +22,13 @@ abbrev pub writer_faults : {W : Type 0} → WriterSink W → ℕ
 writer_faults s = s.faults
 
 -- how often a folder of the system has failed
-abbrev pub system_faults : {R F D : Type 0} → SystemFolder R F D → ℕ
+abbrev pub system_faults : {R D : Type 0} → SystemFolder R D → ℕ
 system_faults s = s.faults
 
 -- how often a folder of the system has refused to write a file
-abbrev pub system_refusals : {R F D : Type 0} → SystemFolder R F D → ℕ
+abbrev pub system_refusals : {R D : Type 0} → SystemFolder R D → ℕ
 system_refusals s = s.refused
 
 -- whether a disk of a name is open
-abbrev pub is_open_file : {R F D : Type 0} → SystemFolder R F D → List ℕ → Bool
+abbrev pub is_open_file : {R D : Type 0} → SystemFolder R D → List ℕ → Bool
 is_open_file s name = unwrap_or (entry_of s.opened.items name) false

@@ -327,3 +327,34 @@ fn system_files_are_written(rt: HostRuntime) -> Result<(), Fail> {
     fs::remove_file(&rt, "written_bytes")?;
     Ok(())
 }
+
+/// Whether a file that a folder has open as a disk is refused to another folder until its disk is closed.
+fn is_held<F: Folder>(
+    alloc: Global,
+    name: &Text,
+    first: &mut F,
+    second: &mut F,
+) -> Result<bool, FolderError> {
+    let disk = first.open_disk(alloc, name)?;
+    let is_refused = match second.open_disk(alloc, name) {
+        Err(error) => error == FolderError::Failed,
+        Ok(disk) => {
+            second.close_disk(name, disk);
+            false
+        }
+    };
+    first.close_disk(name, disk);
+    let disk = second.open_disk(alloc, name)?;
+    second.close_disk(name, disk);
+    Ok(is_refused)
+}
+
+#[test]
+fn a_file_is_one_disk_at_a_time(rt: HostRuntime) -> Result<(), Fail> {
+    let name = Text::of(rt.alloc(), "held_bytes")?;
+    let mut first = SystemFolder::new(&rt, rt.alloc());
+    let mut second = SystemFolder::new(&rt, rt.alloc());
+    assert!(rt; is_held(rt.alloc(), &name, &mut first, &mut second)?);
+    fs::remove_file(&rt, "held_bytes")?;
+    Ok(())
+}

@@ -1,5 +1,5 @@
-//! Tests alone: the worked rows of the generator, its files and the lock, and what no clause says
-//! of them.
+//! Tests alone: the worked rows of the generator, its files, the lock and the links, and what no
+//! clause says of them.
 #![tactic(auto)]
 
 #[cfg(test)]
@@ -34,6 +34,8 @@ mod reaching;
 mod rules;
 #[cfg(test)]
 mod seed_files;
+#[cfg(test)]
+mod sockets;
 #[cfg(test)]
 mod tables;
 #[cfg(test)]

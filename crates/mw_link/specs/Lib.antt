@@ -1,0 +1,4 @@
+pub mod Logs
+pub mod Memory
+pub mod Sockets
+pub mod Tells

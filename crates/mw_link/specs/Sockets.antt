@@ -1,0 +1,23 @@
+-- What links and gates over sockets show.
+use Rattle.std.specs.Prelude.{ℕ, ◌+◌, Bool, List}
+use Rattle.mw_link.specs.declared.link.Heard.{Heard}
+use Rattle.mw_link.specs.declared.link.LinkError.{LinkError}
+use Rattle.mw_link.specs.declared.link.LinkError.TheVariants.{Failed, Memory}
+
+-- what a link heard and sent, how often it has failed, when it was accepted, and whether it was shut
+pub record SocketLine : Type 0 where
+  pub heard : List Heard
+  pub sent : List (List ℕ)
+  pub faults : ℕ
+  pub opened : ℕ
+  pub shut : Bool
+
+-- the link once this error was counted
+abbrev pub counted : LinkError → SocketLine → SocketLine
+counted Failed l = record l { faults = l.faults + 1 }
+counted Memory l = l
+
+-- how many links a gate has given, and how often it has failed
+pub record SocketGateway : Type 0 where
+  pub given : ℕ
+  pub faults : ℕ
