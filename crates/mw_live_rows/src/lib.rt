@@ -1,0 +1,7 @@
+//! Tests alone: the worked rows of rooms that are served over links, and what no clause says of them.
+#![tactic(auto)]
+
+#[cfg(test)]
+mod served;
+#[cfg(test)]
+mod shy;

@@ -1,0 +1,9 @@
+pub mod Lists
+pub mod Turns
+pub mod Halts
+pub mod Runs
+pub mod Workers
+pub mod Histories
+pub mod Crosses
+pub mod Opening
+pub mod Numbers

@@ -1,0 +1,9 @@
+pub mod Asked
+pub mod Answered
+pub mod Sessions
+pub mod Passes
+pub mod Stops
+pub mod Desks
+pub mod Numbers
+pub mod Opened
+pub mod Rooms
