@@ -1,18 +1,20 @@
 -- How a run ends.
-use Rattle.std.specs.Prelude.{◌≡◌, ◌⊎◌, ℕ, List, Option, codes}
-use Rattle.mw_causes.specs.Ends.{Told, IsTold}
+use Rattle.std.specs.Prelude.{ℕ, List, Option}
+use Rattle.mw_causes.specs.Ends.{Told}
 use Rattle.mw_offline.specs.Driving.{DriveEnds}
 use Rattle.mw_offline.specs.Reaching.{ReachEnds}
-use Rattle.mw_offline.specs.Generating.{Wrote, GenerateEnds}
+use Rattle.mw_causes.specs.Wrote.{Wrote}
+use Rattle.mw_offline.specs.Generating.{GenerateEnds}
 use Rattle.mw_offline.specs.Checking.{CheckEnds}
 use Rattle.mw_offline.specs.FilesAround.{FilesAround}
 use Rattle.mw_offline.specs.NewRooms.{NewRoomEnds}
 use Rattle.mw_words.specs.declared.command_line.CommandLine.{CommandLine}
-use Rattle.mw_words.specs.declared.command_line.CommandLine.TheVariants.{Generate, Check, Reach, NewRoom, Drive}
+use Rattle.mw_words.specs.declared.command_line.ServeWords.{ServeWords}
+use Rattle.mw_words.specs.declared.command_line.CommandLine.TheVariants.{Generate, Check, Reach, NewRoom, Drive, Serve}
 
 -- what the folder's files were and are and what a crash may leave of them, the input before and
 -- after with what it tells is left, what the out sink held before and after and how often it failed,
--- and what the error sink was told
+-- what the error sink was told, and how a room that is served with these words ends with a status
 pub record Around (S : Type 0) : Type 1 where
   pub wrote : Wrote
   pub files : FilesAround
@@ -21,10 +23,11 @@ pub record Around (S : Type 0) : Type 1 where
   pub input_after : S
   pub out : Told
   pub told : Told
+  pub serves : ℕ → ServeWords → Type 0
 
 abbrev pub around : {S : Type 0} → Wrote → FilesAround → (S → Option (List ℕ)) → S → S → Told → Told
-    → Around S
-around wrote files left input after out told = record {
+    → (ℕ → ServeWords → Type 0) → Around S
+around wrote files left input after out told serves = record {
   wrote = wrote;
   files = files;
   left = left;
@@ -32,6 +35,7 @@ around wrote files left input after out told = record {
   input_after = after;
   out = out;
   told = told;
+  serves = serves;
 }
 
 -- what a command line asks for ended with this status
@@ -44,13 +48,4 @@ LineEnds (Reach w) status a =
 LineEnds (NewRoom w) status a = NewRoomEnds status a.files w a.out a.told
 LineEnds (Drive w) status a =
     DriveEnds a.left status a.files w a.input a.input_after a.out a.told
-
--- the line for words that are no command
-abbrev pub bad_words : List ℕ
-bad_words = codes "bad words\n"
-
--- words that are no command are told of as such, but where memory runs out before that is seen
-abbrev pub RefusalEnds : ℕ → Told → Type 0
-RefusalEnds status told =
-    ((status ≡ 2) × IsTold told bad_words)
-    ⊎ ((status ≡ 6) × IsTold told (codes "no memory\n"))
+LineEnds (Serve w) status a = a.serves status w

@@ -18,7 +18,7 @@ take 1
     let expected =
         r#"1 [{"checked_locations":[101],"cmd":"RoomUpdate","hint_points":1},{"cmd":"PrintJSON","data":[{"text":"1","type":"player_id"},{"text":" sent "},{"flags":1,"player":2,"text":"7","type":"item_id"},{"text":" to "},{"text":"2","type":"player_id"},{"text":" ("},{"player":1,"text":"101","type":"location_id"},{"text":")"}],"item":{"class":"NetworkItem","flags":1,"item":7,"location":101,"player":1},"receiving":2,"type":"ItemSend"}]
 "#;
-    marks(rt.alloc(), ROOM_A, lines, expected)
+    marks(&rt, rt.alloc(), ROOM_A, lines, expected)
 }
 
 #[test]
@@ -48,7 +48,7 @@ take 1
 2 [{"checked_locations":[201],"cmd":"RoomUpdate","hint_points":1}]
 1 [{"cmd":"ReceivedItems","index":2,"items":[{"class":"NetworkItem","flags":2,"item":9,"location":201,"player":2}]}]
 "#;
-    marks(rt.alloc(), ROOM_A, lines, expected)
+    marks(&rt, rt.alloc(), ROOM_A, lines, expected)
 }
 
 #[test]
@@ -69,7 +69,7 @@ take 1
     let expected = r#"1 [{"checked_locations":[],"cmd":"RoomUpdate","hint_points":1}]
 1 [{"cmd":"LocationInfo","locations":[{"class":"NetworkItem","flags":1,"item":7,"location":101,"player":2}]}]
 "#;
-    marks(rt.alloc(), ROOM_A, lines, expected)
+    marks(&rt, rt.alloc(), ROOM_A, lines, expected)
 }
 
 #[test]
@@ -87,7 +87,7 @@ take 1
 1 [{"cmd":"PrintJSON","data":[{"text":"Bob changed tags"}],"slot":2,"tags":["Tracker"],"team":0,"type":"TagsChanged"}]
 1 [{"cmd":"PrintJSON","data":[{"text":"Bob left"}],"slot":2,"team":0,"type":"Part"}]
 "#;
-    marks(rt.alloc(), ROOM_A, lines, expected)
+    marks(&rt, rt.alloc(), ROOM_A, lines, expected)
 }
 
 /// Ann says a command, and each of both takes.
@@ -123,7 +123,7 @@ const ANSWERS: &str =
 
 #[test]
 fn each_command_has_its_answer(rt: HostRuntime) -> Result<(), Fail> {
-    cases_tell(rt.alloc(), &FOLDER_A, "", &ANSWERED, ANSWERS)
+    cases_tell(&rt, rt.alloc(), &FOLDER_A, "", &ANSWERED, ANSWERS)
 }
 
 #[test]
@@ -138,7 +138,7 @@ take 2
     let expected =
         r#"2 [{"cmd":"PrintJSON","data":[{"text":"Ann reached the goal"}],"slot":1,"team":0,"type":"Goal"}]
 "#;
-    marks(rt.alloc(), ROOM_A, lines, expected)
+    marks(&rt, rt.alloc(), ROOM_A, lines, expected)
 }
 
 /// Both players of the teams 0 and 1, who hear texts of the room from the mark on.
@@ -171,7 +171,7 @@ fn teams_do_not_hear_each_other(rt: HostRuntime) -> Result<(), Fail> {
 3 [{"cmd":"PrintJSON","data":[{"text":"B1: ho"}],"message":"ho","slot":2,"team":1,"type":"Chat"}]
 4 [{"cmd":"PrintJSON","data":[{"text":"B1: ho"}],"message":"ho","slot":2,"team":1,"type":"Chat"}]
 "#;
-    marks(rt.alloc(), ROOM_OF_TEAMS, TWO_TEAMS, expected)
+    marks(&rt, rt.alloc(), ROOM_OF_TEAMS, TWO_TEAMS, expected)
 }
 
 /// Ann says something, and Bob takes. A case has its spelling in JSON, and the one with which it is
@@ -198,8 +198,8 @@ const PLAIN: &str = "\\u007F\\/\\u002F | \u{7f}//\n\\u00E4\\uD83D\\uDE00 | \u{e4
 
 #[test]
 fn quotes_and_control_characters_are_said(rt: HostRuntime) -> Result<(), Fail> {
-    cases_tell(rt.alloc(), &FOLDER_A, "", &HEARD, ESCAPES)?;
-    cases_tell(rt.alloc(), &FOLDER_A, "", &HEARD, PLAIN)
+    cases_tell(&rt, rt.alloc(), &FOLDER_A, "", &HEARD, ESCAPES)?;
+    cases_tell(&rt, rt.alloc(), &FOLDER_A, "", &HEARD, PLAIN)
 }
 
 #[test]
@@ -207,5 +207,5 @@ fn ten_thousand_characters_are_said(rt: HostRuntime) -> Result<(), Fail> {
     let said = r#"\"\u0001\u00e4\n\\"#.repeat(rt.alloc(), 2_000)?;
     let told = "\\\"\\u0001\u{e4}\\n\\\\".repeat(rt.alloc(), 2_000)?;
     let case = format!(in rt.alloc(); "{} | {}", said.as_str(), told.as_str())?;
-    case_tells(rt.alloc(), &FOLDER_A, "", &HEARD, case.as_str())
+    case_tells(&rt, rt.alloc(), &FOLDER_A, "", &HEARD, case.as_str())
 }

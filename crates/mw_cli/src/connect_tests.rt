@@ -15,7 +15,7 @@ take 1
         r#"1 [{"cmd":"RoomInfo","datapackage_checksums":{"G":"3140df20051ca1c7a5dd4f886f8945c613c6fbba"},"games":["G"],"generator_version":{"build":0,"class":"Version","major":0,"minor":5},"hint_cost":10,"location_check_points":1,"password":true,"permissions":{"collect":2,"release":2,"remaining":2},"seed_name":"A","tags":[],"time":7,"version":{"build":0,"class":"Version","major":0,"minor":5}}]
 1 [{"cmd":"ConnectionRefused","errors":["InvalidPassword","InvalidSlot","InvalidItemsHandling"]}]
 "#;
-    marks(rt.alloc(), seed.as_str(), lines, expected)
+    marks(&rt, rt.alloc(), seed.as_str(), lines, expected)
 }
 
 #[test]
@@ -55,7 +55,7 @@ take 1
 1 [{"cmd":"ConnectionRefused","errors":["InvalidItemsHandling"]}]
 1 [{"cmd":"ConnectionRefused","errors":["InvalidPassword","InvalidGame","IncompatibleVersion","InvalidItemsHandling"]}]
 "#;
-    marks(rt.alloc(), seed.as_str(), lines, expected)
+    marks(&rt, rt.alloc(), seed.as_str(), lines, expected)
 }
 
 #[test]
@@ -70,7 +70,7 @@ take 1
     let expected =
         r#"1 [{"checked_locations":[],"cmd":"Connected","hint_points":0,"missing_locations":[201],"players":[{"alias":"Ann","class":"NetworkPlayer","name":"Ann","slot":1,"team":0},{"alias":"Bob","class":"NetworkPlayer","name":"Bob","slot":2,"team":0}],"slot":2,"slot_data":{},"slot_info":{"1":{"class":"NetworkSlot","game":"G","group_members":[],"name":"Ann","type":1},"2":{"class":"NetworkSlot","game":"G","group_members":[],"name":"Bob","type":1}},"team":0}]
 "#;
-    marks(rt.alloc(), ROOM_A, lines, expected)
+    marks(&rt, rt.alloc(), ROOM_A, lines, expected)
 }
 
 #[test]
@@ -92,7 +92,7 @@ take 2
 2 $info
 2 [{"checked_locations":[],"cmd":"Connected","hint_points":0,"missing_locations":[201],"players":[{"alias":"Ann","class":"NetworkPlayer","name":"Ann","slot":1,"team":0},{"alias":"Bob","class":"NetworkPlayer","name":"Bob","slot":2,"team":0}],"slot":2,"slot_data":{},"slot_info":{"1":{"class":"NetworkSlot","game":"G","group_members":[],"name":"Ann","type":1},"2":{"class":"NetworkSlot","game":"G","group_members":[],"name":"Bob","type":1}},"team":0}]
 "#;
-    marks(rt.alloc(), ROOM_A, lines, expected)
+    marks(&rt, rt.alloc(), ROOM_A, lines, expected)
 }
 
 #[test]
@@ -111,5 +111,5 @@ take 1
 1 [{"cmd":"InvalidPacket","original_cmd":"Connect","text":"already connected","type":"arguments"}]
 1 [{"cmd":"ReceivedItems","index":0,"items":[{"class":"NetworkItem","flags":0,"item":5,"location":-2,"player":0}]}]
 "#;
-    marks(rt.alloc(), ROOM_A, lines, expected)
+    marks(&rt, rt.alloc(), ROOM_A, lines, expected)
 }

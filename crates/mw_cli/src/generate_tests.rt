@@ -1,7 +1,9 @@
 use crate::harness::{File, Run, case_tells, cases_tell, fits, folder_of, told};
 use crate::reach_tests::{ANN, ONE_SWORD};
 use std::alloc::Global;
+use std::sync::Wait;
 use std::test::Fail;
+use std::thread::Threads;
 
 /// Ann's world with one Sword, before a seed is generated.
 const UNMADE: [File<'static>; 3] = [("p.json", ANN), ("w.json", ONE_SWORD), ("o", "")];
@@ -40,7 +42,7 @@ const SEEDS: &str = "0 | 1 | [[[1,0]]]
 
 #[test]
 fn one_sword(rt: HostRuntime) -> Result<(), Fail> {
-    cases_tell(rt.alloc(), &UNMADE, "", &MADE, SEEDS)
+    cases_tell(&rt, rt.alloc(), &UNMADE, "", &MADE, SEEDS)
 }
 
 /// Ann's world with one Sword, and its seed file.
@@ -67,8 +69,8 @@ const CHECK_EMPTY: [Run<'static>; 1] = [(
 
 #[test]
 fn what_check_finds(rt: HostRuntime) -> Result<(), Fail> {
-    cases_tell(rt.alloc(), &SWORD_FILES, "", &CHECK, CHECKED)?;
-    case_tells(rt.alloc(), &EMPTY_FILE, "", &CHECK_EMPTY, "")
+    cases_tell(&rt, rt.alloc(), &SWORD_FILES, "", &CHECK, CHECKED)?;
+    case_tells(&rt, rt.alloc(), &EMPTY_FILE, "", &CHECK_EMPTY, "")
 }
 
 /// Ann's world, by the rule of Second, and by the pool.
@@ -91,7 +93,7 @@ const REFUSED: &str = r#"{"has":"Sword"} |  | 3 not beatable: slot 1
 
 #[test]
 fn table_refusals(rt: HostRuntime) -> Result<(), Fail> {
-    cases_tell(rt.alloc(), &RULED, "", &GENERATE, REFUSED)
+    cases_tell(&rt, rt.alloc(), &RULED, "", &GENERATE, REFUSED)
 }
 
 /// Ann, with a case's options, in a world with one location of the case's rule and one Sword, which
@@ -120,7 +122,7 @@ const STUCK: [Run<'static>; 1] = [(
 #[test]
 fn stuck_local_sword(rt: HostRuntime) -> Result<(), Fail> {
     let case = r#""local_items":["Sword"] | {"has":"Sword"}"#;
-    case_tells(rt.alloc(), &OPTIONS, "", &STUCK, case)
+    case_tells(&rt, rt.alloc(), &OPTIONS, "", &STUCK, case)
 }
 
 /// Each of five seeds lets the Sword lie where a case tells.
@@ -160,21 +162,32 @@ const DECIDED: &str = r#""local_items":["Sword"] | true | 1 Ann: Here -> Ann: Sw
 
 #[test]
 fn options_decide_where_items_lie(rt: HostRuntime) -> Result<(), Fail> {
-    cases_tell(rt.alloc(), &OPTIONS, "", &FIVE, DECIDED)
+    cases_tell(&rt, rt.alloc(), &OPTIONS, "", &FIVE, DECIDED)
 }
 
 /// Whether this seed tells so of a case's options and rule.
-fn seed_tells(alloc: Global, seed: u64, case: &str, wanted: &str) -> Result<bool, Fail> {
+fn seed_tells<R: Threads + Wait + Sync>(
+    rt: &R,
+    alloc: Global,
+    seed: u64,
+    case: &str,
+    wanted: &str,
+) -> Result<bool, Fail> {
     let line = format!(in alloc; "generate p.json s --tries 3 --seed {seed}")?;
     let mut folder = folder_of(alloc, &OPTIONS, "", case)?;
-    let told = told(alloc, &mut folder, line.as_str(), "", "")?;
+    let told = told(rt, alloc, &mut folder, line.as_str(), "", "")?;
     Ok(fits(told.as_str(), wanted))
 }
 
 /// Fails where no seed below 20 does.
-fn some_seed_tells(alloc: Global, case: &str, wanted: &str) -> Result<(), Fail> {
+fn some_seed_tells<R: Threads + Wait + Sync>(
+    rt: &R,
+    alloc: Global,
+    case: &str,
+    wanted: &str,
+) -> Result<(), Fail> {
     for seed in 0..20 {
-        if seed_tells(alloc, seed, case, wanted)? {
+        if seed_tells(rt, alloc, seed, case, wanted)? {
             return Ok(());
         }
     }
@@ -185,10 +198,10 @@ fn some_seed_tells(alloc: Global, case: &str, wanted: &str) -> Result<(), Fail> 
 /// begin with, Ann's own may lie behind it.
 #[test]
 fn without_options_items_lie_anywhere(rt: HostRuntime) -> Result<(), Fail> {
-    some_seed_tells(rt.alloc(), " | true", "..1 Ann: Here -> Ann: Sword\n")?;
-    some_seed_tells(rt.alloc(), " | true", "..1 Bob: There -> Ann: Sword\n")?;
+    some_seed_tells(&rt, rt.alloc(), " | true", "..1 Ann: Here -> Ann: Sword\n")?;
+    some_seed_tells(&rt, rt.alloc(), " | true", "..1 Bob: There -> Ann: Sword\n")?;
     let case = r#""start_inventory":{"Sword":1},"local_items":["Sword"] | {"has":"Sword"}"#;
-    some_seed_tells(rt.alloc(), case, "0 seed ..")
+    some_seed_tells(&rt, rt.alloc(), case, "0 seed ..")
 }
 
 /// A command on devices that fail.
@@ -206,7 +219,7 @@ const FAULTS: &str = "0 | 1 | [[[1,0]]] | 0 - - - | generate p.json o --seed 0
 
 #[test]
 fn generate_and_check_tell_of_faults(rt: HostRuntime) -> Result<(), Fail> {
-    cases_tell(rt.alloc(), &SWORD_FILES, "$3", &FAILED, FAULTS)
+    cases_tell(&rt, rt.alloc(), &SWORD_FILES, "$3", &FAILED, FAULTS)
 }
 
 /// Two players of one world, whose Swords each lie at home.
@@ -244,5 +257,5 @@ take 2
 
 #[test]
 fn a_generated_seed_is_played_to_its_goals(rt: HostRuntime) -> Result<(), Fail> {
-    case_tells(rt.alloc(), &BOTH, "", &PLAYED, "")
+    case_tells(&rt, rt.alloc(), &BOTH, "", &PLAYED, "")
 }

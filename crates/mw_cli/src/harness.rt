@@ -7,8 +7,12 @@ use mw_cases::ROOM_A_INFO;
 use mw_edges::{
     Faults, FileRead, Folder, FolderError, MemoryFolder, MemorySink, MemorySource, Sink,
 };
+use mw_link::{SteadyGate, SteadyLink};
 use std::alloc::Global;
+use std::collections::VecDeque;
+use std::sync::Wait;
 use std::test::Fail;
+use std::thread::Threads;
 
 /// A file's name and its text.
 pub(crate) type File<'a> = (&'a str, &'a str);
@@ -93,7 +97,8 @@ fn sink_of(alloc: Global, calls: &str, place: usize) -> Result<MemorySink, Fail>
 }
 
 /// A run. Its clauses stay here: the tests look at what it leaves.
-fn ran<O: Sink>(
+fn ran<O: Sink, R: Threads + Wait + Sync>(
+    rt: &R,
     alloc: Global,
     words: &[Text],
     folder: &mut MemoryFolder,
@@ -101,11 +106,14 @@ fn ran<O: Sink>(
     out: &mut O,
     err: &mut MemorySink,
 ) -> u8 {
-    run(alloc, words, folder, input, out, err)
+    // A gate without links: only `serve` asks for one.
+    let gate = SteadyGate::<SteadyLink>::new(VecDeque::new(alloc));
+    run(rt, alloc, words, folder, gate, input, out, err).0
 }
 
 /// The status of a run of a line of words and a script, and what the error sink got.
-pub(crate) fn ended<O: Sink>(
+pub(crate) fn ended<O: Sink, R: Threads + Wait + Sync>(
+    rt: &R,
     alloc: Global,
     folder: &mut MemoryFolder,
     line: &str,
@@ -116,7 +124,7 @@ pub(crate) fn ended<O: Sink>(
     let words = words_of(alloc, line)?;
     let mut input = source_of(alloc, script, calls)?;
     let mut err = sink_of(alloc, calls, 3)?;
-    let status = ran(alloc, &words, folder, &mut input, out, &mut err);
+    let status = ran(rt, alloc, &words, folder, &mut input, out, &mut err);
     Ok((status, err))
 }
 
@@ -166,7 +174,8 @@ pub(crate) fn holds(
 
 /// What a run tells of a line of words and a script of short lines. The word `file` and a name
 /// stand for no run, and what that file has is told.
-pub(crate) fn told(
+pub(crate) fn told<R: Threads + Wait + Sync>(
+    rt: &R,
     alloc: Global,
     folder: &mut MemoryFolder,
     line: &str,
@@ -178,7 +187,7 @@ pub(crate) fn told(
     }
     let script = script_of(alloc, lines)?;
     let mut out = sink_of(alloc, calls, 2)?;
-    let (status, err) = ended(alloc, folder, line, script.as_str(), &mut out, calls)?;
+    let (status, err) = ended(rt, alloc, folder, line, script.as_str(), &mut out, calls)?;
     told_of(alloc, status, out.bytes(), err.bytes())
 }
 
@@ -233,7 +242,8 @@ fn agree_from(alloc: Global, told: &str, wanted: &str, case: &str) -> Result<(),
 }
 
 /// Fails where a run, in whose texts a case's parts have their places, tells another text.
-fn run_tells(
+fn run_tells<R: Threads + Wait + Sync>(
+    rt: &R,
     alloc: Global,
     folder: &mut MemoryFolder,
     calls: &str,
@@ -243,12 +253,13 @@ fn run_tells(
     let line = filled(alloc, run.0, " | ", case)?;
     let lines = filled(alloc, run.1, " | ", case)?;
     let wanted = filled(alloc, run.2, " | ", case)?;
-    let told = told(alloc, folder, line.as_str(), lines.as_str(), calls)?;
+    let told = told(rt, alloc, folder, line.as_str(), lines.as_str(), calls)?;
     agree_from(alloc, told.as_str(), wanted.as_str(), case)
 }
 
 /// The same of runs, one after the other.
-pub(crate) fn runs_tell(
+pub(crate) fn runs_tell<R: Threads + Wait + Sync>(
+    rt: &R,
     alloc: Global,
     folder: &mut MemoryFolder,
     calls: &str,
@@ -256,13 +267,14 @@ pub(crate) fn runs_tell(
     case: &str,
 ) -> Result<(), Fail> {
     for run in runs {
-        run_tells(alloc, folder, calls, run, case)?;
+        run_tells(rt, alloc, folder, calls, run, case)?;
     }
     Ok(())
 }
 
 /// The same on a folder of files, where calls fail. Their numbers may be parts of the case too.
-pub(crate) fn case_tells(
+pub(crate) fn case_tells<R: Threads + Wait + Sync>(
+    rt: &R,
     alloc: Global,
     files: &[File<'_>],
     calls: &str,
@@ -271,11 +283,12 @@ pub(crate) fn case_tells(
 ) -> Result<(), Fail> {
     let calls = filled(alloc, calls, " | ", case)?;
     let mut folder = folder_of(alloc, files, calls.as_str(), case)?;
-    runs_tell(alloc, &mut folder, calls.as_str(), runs, case)
+    runs_tell(rt, alloc, &mut folder, calls.as_str(), runs, case)
 }
 
 /// The same of each line of a table, which is a case.
-pub(crate) fn cases_tell(
+pub(crate) fn cases_tell<R: Threads + Wait + Sync>(
+    rt: &R,
     alloc: Global,
     files: &[File<'_>],
     calls: &str,
@@ -283,7 +296,7 @@ pub(crate) fn cases_tell(
     cases: &str,
 ) -> Result<(), Fail> {
     for case in cases.split('\n') {
-        case_tells(alloc, files, calls, runs, case)?;
+        case_tells(rt, alloc, files, calls, runs, case)?;
     }
     Ok(())
 }

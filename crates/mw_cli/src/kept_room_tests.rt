@@ -8,7 +8,9 @@ use mw_cases::ROOM_A;
 use mw_disk::DiskError;
 use mw_edges::MemoryFolder;
 use std::alloc::Global;
+use std::sync::Wait;
 use std::test::Fail;
+use std::thread::Threads;
 
 /// Bob connects, and takes what that owes him.
 const BOB_CONNECTS: &str = "open\nconnect 1 Bob 7\ntake 1\n";
@@ -39,25 +41,32 @@ fn folder_with(alloc: Global, seed: &str, rest: &[u8]) -> Result<MemoryFolder, F
 }
 
 /// Fails where runs on Room A and its empty journal tell otherwise.
-fn room_tells(alloc: Global, runs: &[Run<'_>], case: &str) -> Result<(), Fail> {
+fn room_tells<R: Threads + Wait + Sync>(
+    rt: &R,
+    alloc: Global,
+    runs: &[Run<'_>],
+    case: &str,
+) -> Result<(), Fail> {
     let mut folder = folder_with(alloc, ROOM_A, &[0])?;
-    runs_tell(alloc, &mut folder, "", runs, case)
+    runs_tell(rt, alloc, &mut folder, "", runs, case)
 }
 
-/// Ann checks 101, and Bob is told of it after a crash.
-const CRASH: [Run<'static>; 1] = [(
-    "$0",
-    "open\nconnect 1 Ann 7\nchecks 1 [101]\n$1\ncrash\nopen\nconnect 1 Bob 7\ntake 1\n",
-    BOB_HAS_SWORD,
-)];
+/// Ann checks 101, and after a crash Bob connects.
+const CRASH: &str =
+    "open\nconnect 1 Ann 7\nchecks 1 [101]\n$1\ncrash\nopen\nconnect 1 Bob 7\ntake 1\n";
 
-/// The words, and what comes before the crash.
-const CRASHES: &str = "drive A | #\ndrive A | commit\ndrive A J | #\ndrive A J | commit";
+/// Bob is told of it, or isn't.
+const CRASH_KEEPS: [Run<'static>; 1] = [("$0", CRASH, BOB_HAS_SWORD)];
+
+const CRASH_LOSES: [Run<'static>; 1] = [("$0", CRASH, BOB_HAS_NOTHING)];
 
 #[test]
 fn crash_before_commit(rt: HostRuntime) -> Result<(), Fail> {
-    for case in CRASHES.split('\n') {
-        room_tells(rt.alloc(), &CRASH, case)?;
+    for case in ["drive A | #", "drive A J | #", "drive A J | lost 1"] {
+        room_tells(&rt, rt.alloc(), &CRASH_LOSES, case)?;
+    }
+    for case in ["drive A | commit", "drive A J | commit"] {
+        room_tells(&rt, rt.alloc(), &CRASH_KEEPS, case)?;
     }
     Ok(())
 }
@@ -71,27 +80,35 @@ const ENDED: [Run<'static>; 1] = [(
 
 #[test]
 fn crash_ends_sessions(rt: HostRuntime) -> Result<(), Fail> {
-    room_tells(rt.alloc(), &ENDED, "")
+    room_tells(&rt, rt.alloc(), &ENDED, "")
 }
 
-/// A room is made, and Ann checks 101 in one run of it. Bob is told of that in the next one, and
-/// not without the journal.
-const RUNS: [Run<'static>; 5] = [
+/// A room is made, and Ann checks 101 in one run of it, which ends uncommitted: that is lost. She
+/// checks it again in another one, which commits. Bob is told of that in the next one, and not
+/// without the journal.
+const RUNS: [Run<'static>; 7] = [
     ("new-room A J", "", "0 room made\n"),
     ("drive A J", BOB_CONNECTS, BOB_HAS_NOTHING),
     ("drive A J", "open\nconnect 1 Ann 7\nchecks 1 [101]\n", "0 "),
+    ("drive A J", BOB_CONNECTS, BOB_HAS_NOTHING),
+    (
+        "drive A J",
+        "open\nconnect 1 Ann 7\nchecks 1 [101]\ncommit\n",
+        "0 ",
+    ),
     ("drive A J", BOB_CONNECTS, BOB_HAS_SWORD),
     ("drive A", BOB_CONNECTS, BOB_HAS_NOTHING),
 ];
 
 #[test]
 fn room_goes_on_over_runs(rt: HostRuntime) -> Result<(), Fail> {
-    case_tells(rt.alloc(), &FOLDER_A, "", &RUNS, "")
+    case_tells(&rt, rt.alloc(), &FOLDER_A, "", &RUNS, "")
 }
 
 /// Fails where runs on this seed file and a journal tell otherwise, or leave another end of the
 /// journal.
-fn leaves(
+fn leaves<R: Threads + Wait + Sync>(
+    rt: &R,
     alloc: Global,
     seed: &str,
     rest: &[u8],
@@ -101,7 +118,7 @@ fn leaves(
 ) -> Result<(), Fail> {
     let left = journal_of(alloc, left)?;
     let mut folder = folder_with(alloc, seed, rest)?;
-    runs_tell(alloc, &mut folder, "", runs, case)?;
+    runs_tell(rt, alloc, &mut folder, "", runs, case)?;
     holds(alloc, &mut folder, "J", &left, case)
 }
 
@@ -127,8 +144,16 @@ const SWORD: [Run<'static>; 1] = [("drive A J", BOB_CONNECTS, BOB_HAS_SWORD)];
 
 #[test]
 fn closed_and_open_gate(rt: HostRuntime) -> Result<(), Fail> {
-    leaves(rt.alloc(), ROOM_A, &SHUT, &NOTHING, &SHUT_AGAIN, "shut")?;
-    leaves(rt.alloc(), ROOM_A, &OPEN, &SWORD, &OPEN, "open")
+    leaves(
+        &rt,
+        rt.alloc(),
+        ROOM_A,
+        &SHUT,
+        &NOTHING,
+        &SHUT_AGAIN,
+        "shut",
+    )?;
+    leaves(&rt, rt.alloc(), ROOM_A, &OPEN, &SWORD, &OPEN, "open")
 }
 
 /// An open gate before a check of 101 by slot 3, which Room A hasn't, as a batch.
@@ -138,24 +163,30 @@ const STRANGER: [u8; 22] = [
 
 /// Fails where a seed's run doesn't refuse a journal with this line, before it reads its script, or
 /// doesn't leave its bytes.
-fn refuses(alloc: Global, seed: &str, rest: &[u8], line: &str) -> Result<(), Fail> {
+fn refuses<R: Threads + Wait + Sync>(
+    rt: &R,
+    alloc: Global,
+    seed: &str,
+    rest: &[u8],
+    line: &str,
+) -> Result<(), Fail> {
     let run = ("drive A J", "no line\n", line);
-    leaves(alloc, seed, rest, &[run], rest, line)
+    leaves(rt, alloc, seed, rest, &[run], rest, line)
 }
 
 #[test]
 fn refused_journals(rt: HostRuntime) -> Result<(), Fail> {
     let line = "7 journal refused: NotJournal\n";
-    refuses(rt.alloc(), ROOM_A, &[], line)?;
+    refuses(&rt, rt.alloc(), ROOM_A, &[], line)?;
     let line = "7 journal refused: BadRecord\n";
-    refuses(rt.alloc(), ROOM_A, &STRANGER, line)
+    refuses(&rt, rt.alloc(), ROOM_A, &STRANGER, line)
 }
 
 #[test]
 fn journal_of_another_seed(rt: HostRuntime) -> Result<(), Fail> {
     let other = room_with(rt.alloc(), r#""seed_name":"A""#, r#""seed_name":"B""#)?;
     let line = "7 journal refused: OtherSeed\n";
-    refuses(rt.alloc(), other.as_str(), &[0], line)
+    refuses(&rt, rt.alloc(), other.as_str(), &[0], line)
 }
 
 /// A folder of Room A and its empty journal, on a disk whose calls of these numbers fail.
@@ -186,22 +217,48 @@ fn is_kept(told: &str, failing: u64, next: &str) -> bool {
 const ANN_TAKES: &str = "open\nconnect 1 Ann 7\nchecks 1 [101]\ntake 1\n";
 
 /// Whether that is so.
-fn keeps_what_it_shows(alloc: Global, failing: u64) -> Result<bool, Fail> {
+fn keeps_what_it_shows<R: Threads + Wait + Sync>(
+    rt: &R,
+    alloc: Global,
+    failing: u64,
+) -> Result<bool, Fail> {
     let mut plan = List::new(alloc);
     plan.push((failing, DiskError::Failed))?;
     let mut folder = folder_on(alloc, plan)?;
-    let shown = told(alloc, &mut folder, "drive A J", ANN_TAKES, "")?;
+    let shown = told(rt, alloc, &mut folder, "drive A J", ANN_TAKES, "")?;
     let mut folder = mended(alloc, folder)?;
-    let next = told(alloc, &mut folder, "drive A J", BOB_CONNECTS, "")?;
+    let next = told(rt, alloc, &mut folder, "drive A J", BOB_CONNECTS, "")?;
     Ok(is_kept(shown.as_str(), failing, next.as_str()))
 }
 
 #[test]
 fn disk_fails_at_each_call(rt: HostRuntime) -> Result<(), Fail> {
     for failing in 0..12 {
-        if !keeps_what_it_shows(rt.alloc(), failing)? {
+        if !keeps_what_it_shows(&rt, rt.alloc(), failing)? {
             return Err(Fail::new(failing));
         }
     }
     Ok(())
+}
+
+/// Over a gate without links a room is served to its end at once. A seed file or a journal that is
+/// refused is told.
+const SERVED: [Run<'static>; 4] = [
+    ("serve A J --bind 127.0.0.1:38281", "", "0 sessions 0\n"),
+    (
+        "serve A J --bind 127.0.0.1:38281 --workers 2 --accept 3",
+        "",
+        "0 sessions 0\n",
+    ),
+    ("serve B J --bind 127.0.0.1:38281", "", "5 device failed\n"),
+    (
+        "serve A A --bind 127.0.0.1:38281",
+        "",
+        "7 journal refused: NotJournal\n",
+    ),
+];
+
+#[test]
+fn served_without_links(rt: HostRuntime) -> Result<(), Fail> {
+    room_tells(&rt, rt.alloc(), &SERVED, "")
 }

@@ -2,7 +2,9 @@ use crate::harness::{Run, add_file, faults, filled, runs_tell};
 use mw_base::{Bytes, List, Text};
 use mw_edges::MemoryFolder;
 use std::alloc::Global;
+use std::sync::Wait;
 use std::test::Fail;
+use std::thread::Threads;
 
 /// How worlds are written that differ by their games and by how long two lists are.
 struct Form<'a> {
@@ -44,7 +46,8 @@ fn add_world(
 }
 
 /// Fails where runs on a players file and these worlds tell otherwise.
-fn worlds_tell(
+fn worlds_tell<R: Threads + Wait + Sync>(
+    rt: &R,
     alloc: Global,
     players: &str,
     form: &Form<'_>,
@@ -57,7 +60,7 @@ fn worlds_tell(
         add_world(alloc, &mut files, form, world)?;
     }
     let mut folder = MemoryFolder::new(files, faults(alloc, "", 0)?);
-    runs_tell(alloc, &mut folder, "", runs, "")
+    runs_tell(rt, alloc, &mut folder, "", runs, "")
 }
 
 /// A world with Menu, a list of further regions, a free location, and a list of further ones.
@@ -98,8 +101,8 @@ const TOO_MANY: [Run<'static>; 1] = [("reach p", "", "3 refused: TooManyPlaces 2
 
 #[test]
 fn places_over_all_are_limited(rt: HostRuntime) -> Result<(), Fail> {
-    worlds_tell(rt.alloc(), FOURTEEN, &SHORT, &MOST_PLACES, &READ)?;
-    worlds_tell(rt.alloc(), FOURTEEN, &SHORT, &MORE_PLACES, &TOO_MANY)
+    worlds_tell(&rt, rt.alloc(), FOURTEEN, &SHORT, &MOST_PLACES, &READ)?;
+    worlds_tell(&rt, rt.alloc(), FOURTEEN, &SHORT, &MORE_PLACES, &TOO_MANY)
 }
 
 /// Seven players, each of a world of its own, and one of the world `h`.
@@ -143,8 +146,8 @@ const TOO_MUCH: [Run<'static>; 1] = [("reach p", "", "3 refused: TooMuchText 167
 /// The names of a world's game, Menu and Coin count too: 24 for each, and their bytes.
 #[test]
 fn names_over_all_are_limited(rt: HostRuntime) -> Result<(), Fail> {
-    worlds_tell(rt.alloc(), EIGHT, &LONG, &MOST_TEXT, &READ)?;
-    worlds_tell(rt.alloc(), EIGHT, &LONG, &MORE_TEXT, &TOO_MUCH)
+    worlds_tell(&rt, rt.alloc(), EIGHT, &LONG, &MOST_TEXT, &READ)?;
+    worlds_tell(&rt, rt.alloc(), EIGHT, &LONG, &MORE_TEXT, &TOO_MUCH)
 }
 
 /// Players with one entry in each option.
@@ -188,5 +191,12 @@ const PARTY_RUNS: [Run<'static>; 2] = [
 /// Each Key lies at the priority location of its player's own world.
 #[test]
 fn party(rt: HostRuntime) -> Result<(), Fail> {
-    worlds_tell(rt.alloc(), PARTY, &PARTY_WORLD, &PARTY_WORLDS, &PARTY_RUNS)
+    worlds_tell(
+        &rt,
+        rt.alloc(),
+        PARTY,
+        &PARTY_WORLD,
+        &PARTY_WORLDS,
+        &PARTY_RUNS,
+    )
 }

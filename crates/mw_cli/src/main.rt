@@ -6,6 +6,7 @@ mod run;
 use crate::run::run;
 use mw_base::Text;
 use mw_edges::{ReaderSource, Sink, SystemFolder, WriterSink};
+use mw_link::TcpGate;
 use std::alloc::{AllocError, Global};
 use std::env;
 use std::io::{self, ErrorKind};
@@ -22,29 +23,35 @@ fn words_of(alloc: Global, rt: &HostRuntime) -> io::Result<Vec<Text>> {
     Ok(words)
 }
 
-/// Runs the command, and answers its status.
-fn multiworld(rt: &HostRuntime) -> u8 {
+fn main(rt: HostRuntime) -> ExitCode {
     let alloc = rt.alloc();
     let mut err = WriterSink::new(rt.stderr());
-    let words = match words_of(alloc, rt) {
+    let words = match words_of(alloc, &rt) {
         Ok(words) => words,
         Err(error) if error.kind() == ErrorKind::OutOfMemory => {
             let _ = err.put(b"no memory\n");
-            return 6;
+            return ExitCode::from(6);
         }
         Err(_) => {
             let _ = err.put(b"bad words\n");
-            return 2;
+            return ExitCode::from(2);
         }
     };
-    let mut folder = SystemFolder::new(rt, alloc);
+    let mut folder = SystemFolder::new(&rt, alloc);
+    let gate = TcpGate::new(rt, alloc);
     let mut input = ReaderSource::new(rt.stdin());
     let mut out = WriterSink::new(rt.stdout());
-    run(alloc, &words, &mut folder, &mut input, &mut out, &mut err)
-}
-
-fn main(rt: HostRuntime) -> ExitCode {
-    ExitCode::from(multiworld(&rt))
+    let (status, _, _) = run(
+        &rt,
+        alloc,
+        &words,
+        &mut folder,
+        gate,
+        &mut input,
+        &mut out,
+        &mut err,
+    );
+    ExitCode::from(status)
 }
 
 #[cfg(test)]

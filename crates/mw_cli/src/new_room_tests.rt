@@ -3,7 +3,9 @@ use crate::tests::FOLDER_A;
 use mw_cases::ROOM_A;
 use mw_edges::MemoryFolder;
 use std::alloc::Global;
+use std::sync::Wait;
 use std::test::Fail;
+use std::thread::Threads;
 
 /// An empty journal for room A: the magic, the digest, and a gate that isn't open.
 pub(crate) const EMPTY: [u8; 41] = [
@@ -13,16 +15,26 @@ pub(crate) const EMPTY: [u8; 41] = [
 ];
 
 /// Fails where `new-room A J` tells another line, or leaves no empty journal for room A.
-fn leaves_a_room(alloc: Global, folder: &mut MemoryFolder, wanted: &str) -> Result<(), Fail> {
-    runs_tell(alloc, folder, "", &[("new-room A J", "", wanted)], "")?;
+fn leaves_a_room<R: Threads + Wait + Sync>(
+    rt: &R,
+    alloc: Global,
+    folder: &mut MemoryFolder,
+    wanted: &str,
+) -> Result<(), Fail> {
+    runs_tell(rt, alloc, folder, "", &[("new-room A J", "", wanted)], "")?;
     holds(alloc, folder, "J", &EMPTY, wanted)
 }
 
 #[test]
 fn new_room(rt: HostRuntime) -> Result<(), Fail> {
     let mut folder = folder_of(rt.alloc(), &FOLDER_A, "", "")?;
-    leaves_a_room(rt.alloc(), &mut folder, "0 room made\n")?;
-    leaves_a_room(rt.alloc(), &mut folder, "7 journal refused: NotEmpty\n")
+    leaves_a_room(&rt, rt.alloc(), &mut folder, "0 room made\n")?;
+    leaves_a_room(
+        &rt,
+        rt.alloc(),
+        &mut folder,
+        "7 journal refused: NotEmpty\n",
+    )
 }
 
 /// A seed file, and one that is none.
@@ -38,7 +50,7 @@ new-room B J | 5 device failed";
 
 #[test]
 fn refused_room_makes_no_journal(rt: HostRuntime) -> Result<(), Fail> {
-    cases_tell(rt.alloc(), &SEEDS, "", &REFUSED, REFUSALS)
+    cases_tell(&rt, rt.alloc(), &SEEDS, "", &REFUSED, REFUSALS)
 }
 
 const FAILED: [Run<'static>; 1] = [("new-room A J", "", "5 device failed\n")];
@@ -46,5 +58,5 @@ const FAILED: [Run<'static>; 1] = [("new-room A J", "", "5 device failed\n")];
 #[test]
 fn new_room_on_devices_that_fail(rt: HostRuntime) -> Result<(), Fail> {
     let calls = "0 - - -\n1 - - -\n- - 0 -";
-    cases_tell(rt.alloc(), &FOLDER_A, "$0", &FAILED, calls)
+    cases_tell(&rt, rt.alloc(), &FOLDER_A, "$0", &FAILED, calls)
 }

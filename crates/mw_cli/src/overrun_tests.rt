@@ -3,7 +3,9 @@ use crate::session_harness::room_with;
 use crate::tests::FIRST_RUN;
 use mw_cases::ROOM_A;
 use std::alloc::Global;
+use std::sync::Wait;
 use std::test::Fail;
+use std::thread::Threads;
 
 /// What Ann's session is owed for a Sync, on a line.
 const SYNCED: &str =
@@ -11,7 +13,8 @@ const SYNCED: &str =
 "#;
 
 /// Fails where runs tell otherwise whose case has so many Syncs of Ann's session, and this part.
-fn syncs_tell(
+fn syncs_tell<R: Threads + Wait + Sync>(
+    rt: &R,
     alloc: Global,
     room: &str,
     count: usize,
@@ -20,7 +23,7 @@ fn syncs_tell(
 ) -> Result<(), Fail> {
     let syncs = "sync 1\n".repeat(alloc, count)?;
     let case = format!(in alloc; "{} | {part}", syncs.as_str())?;
-    case_tells(alloc, &[("A", room)], "", runs, case.as_str())
+    case_tells(rt, alloc, &[("A", room)], "", runs, case.as_str())
 }
 
 /// Ann connects, which owes two messages, and sends more Syncs than there is room for.
@@ -33,8 +36,8 @@ const OVERRUN: [Run<'static>; 1] = [(
 #[test]
 fn overrun_of_4096_messages(rt: HostRuntime) -> Result<(), Fail> {
     let owed = SYNCED.repeat(rt.alloc(), 4_094)?;
-    syncs_tell(rt.alloc(), ROOM_A, 4_094, owed.as_str(), &FIRST_RUN)?;
-    syncs_tell(rt.alloc(), ROOM_A, 4_095, "", &OVERRUN)
+    syncs_tell(&rt, rt.alloc(), ROOM_A, 4_094, owed.as_str(), &FIRST_RUN)?;
+    syncs_tell(&rt, rt.alloc(), ROOM_A, 4_095, "", &OVERRUN)
 }
 
 /// Ann takes, and sends one more Sync.
@@ -48,7 +51,7 @@ const TAKEN: [Run<'static>; 1] = [(
 
 #[test]
 fn taken_messages_do_not_count(rt: HostRuntime) -> Result<(), Fail> {
-    syncs_tell(rt.alloc(), ROOM_A, 4_094, "", &TAKEN)
+    syncs_tell(&rt, rt.alloc(), ROOM_A, 4_094, "", &TAKEN)
 }
 
 /// The second of three Syncs in one text is owed too many, while another session of the slot goes
@@ -87,7 +90,7 @@ take 2
 
 #[test]
 fn lines_of_an_overrun_session(rt: HostRuntime) -> Result<(), Fail> {
-    syncs_tell(rt.alloc(), ROOM_A, 4_093, "", &ONCE_OVERRUN)
+    syncs_tell(&rt, rt.alloc(), ROOM_A, 4_093, "", &ONCE_OVERRUN)
 }
 
 /// Ann's session is owed the answers to Syncs, to an unknown cmd of letters, and to what is no
@@ -119,16 +122,21 @@ take 1
 /// Fails where runs in the room where Ann starts with Boots 256 times tell otherwise. RoomInfo and
 /// Connected have 384 and 17,903 bytes, each answer to a Sync 17,453, and that to an unknown cmd of
 /// so many letters 77 more.
-fn letters_tell(alloc: Global, letters: usize, runs: &[Run<'_>]) -> Result<(), Fail> {
+fn letters_tell<R: Threads + Wait + Sync>(
+    rt: &R,
+    alloc: Global,
+    letters: usize,
+    runs: &[Run<'_>],
+) -> Result<(), Fail> {
     let boots = "[5,0],".repeat(alloc, 256)?;
     let boots = boots.as_str().strip_suffix(",").unwrap_or("");
     let room = room_with(alloc, "[5,0]", boots)?;
     let word = "x".repeat(alloc, letters)?;
-    syncs_tell(alloc, room.as_str(), 960, word.as_str(), runs)
+    syncs_tell(rt, alloc, room.as_str(), 960, word.as_str(), runs)
 }
 
 #[test]
 fn overrun_of_16777216_bytes(rt: HostRuntime) -> Result<(), Fail> {
-    letters_tell(rt.alloc(), 3_971, &ALL_TOLD)?;
-    letters_tell(rt.alloc(), 3_972, &TOO_MUCH)
+    letters_tell(&rt, rt.alloc(), 3_971, &ALL_TOLD)?;
+    letters_tell(&rt, rt.alloc(), 3_972, &TOO_MUCH)
 }

@@ -2,7 +2,9 @@
 use crate::harness::{Run, cases_tell};
 use crate::session_harness::room_with;
 use std::alloc::Global;
+use std::sync::Wait;
 use std::test::Fail;
+use std::thread::Threads;
 
 /// Ann, who hears texts of the room, says a command once she has a status. A case has the
 /// permission, the command, her status, and the end of what she hears.
@@ -23,9 +25,15 @@ take 1
 
 /// Fails at the first case in which that is otherwise, where the room's permission is the case's in
 /// the place of one for the goal.
-fn may(alloc: Global, from: &str, to: &str, cases: &str) -> Result<(), Fail> {
+fn may<R: Threads + Wait + Sync>(
+    rt: &R,
+    alloc: Global,
+    from: &str,
+    to: &str,
+    cases: &str,
+) -> Result<(), Fail> {
     let room = room_with(alloc, from, to)?;
-    cases_tell(alloc, &[("A", room.as_str())], "", &ASKED, cases)
+    cases_tell(rt, alloc, &[("A", room.as_str())], "", &ASKED, cases)
 }
 
 const REMAINING: &str =
@@ -39,7 +47,7 @@ goal | !remaining | 30 | [{"text":"2 remaining: Coin, Map"}],"type":"CommandResu
 #[test]
 fn who_may_ask_what_remains(rt: HostRuntime) -> Result<(), Fail> {
     let to = r#""remaining":"$0""#;
-    may(rt.alloc(), r#""remaining":"goal""#, to, REMAINING)
+    may(&rt, rt.alloc(), r#""remaining":"goal""#, to, REMAINING)
 }
 
 /// By an automatic permission it was done at the goal.
@@ -58,7 +66,7 @@ auto_enabled | !release | 30 | [{"text":"nothing left"}],"type":"CommandResult"}
 #[test]
 fn who_may_release(rt: HostRuntime) -> Result<(), Fail> {
     let to = r#""release":"$0""#;
-    may(rt.alloc(), r#""release":"goal""#, to, RELEASE)
+    may(&rt, rt.alloc(), r#""release":"goal""#, to, RELEASE)
 }
 
 /// By an automatic permission it was done at the goal.
@@ -77,5 +85,5 @@ auto_enabled | !collect | 30 | [{"text":"nothing left"}],"type":"CommandResult"}
 #[test]
 fn who_may_collect(rt: HostRuntime) -> Result<(), Fail> {
     let to = r#""collect":"$0""#;
-    may(rt.alloc(), r#""collect":"goal""#, to, COLLECT)
+    may(&rt, rt.alloc(), r#""collect":"goal""#, to, COLLECT)
 }

@@ -1,6 +1,8 @@
 use crate::harness::{File, Run, case_tells, cases_tell};
 use std::alloc::Global;
+use std::sync::Wait;
 use std::test::Fail;
+use std::thread::Threads;
 
 /// One player, Ann, whose world is `w.json`.
 pub(crate) const ANN: &str =
@@ -39,7 +41,8 @@ const EVENT: &str =
     r#"{"format":"mw-world-1","game":"G","regions":["Menu"],"items":[{"name":"Sword","id":1,"class":"progression"},{"name":"Won","id":null,"class":"progression"},{"name":"Coin","id":2,"class":"filler"}],"entrances":[],"locations":[{"name":"First","id":1,"region":"Menu","rule":{"has":"Won"}},{"name":"Fight","id":null,"region":"Menu","rule":{"has":"Sword"},"event":"Won"}],"pool":[{"item":"Sword","count":1}],"filler":"Coin","goal":{"has":"Won"}}"#;
 
 /// Fails where `reach p.json` of this players file and the world `w.json` tells another text.
-fn reach_tells<'a>(
+fn reach_tells<'a, R: Threads + Wait + Sync>(
+    rt: &R,
     alloc: Global,
     players: &'a str,
     world: &'a str,
@@ -50,7 +53,14 @@ fn reach_tells<'a>(
         ("w.json", world),
         ("v.json", ONE_SWORD),
     ];
-    case_tells(alloc, &files, "", &[("reach p.json", "", wanted)], wanted)
+    case_tells(
+        rt,
+        alloc,
+        &files,
+        "",
+        &[("reach p.json", "", wanted)],
+        wanted,
+    )
 }
 
 /// The players file, the world file, and what is told.
@@ -85,7 +95,7 @@ const REACHED: [(&str, &str, &str); 9] = [
 #[test]
 fn what_reach_says(rt: HostRuntime) -> Result<(), Fail> {
     for (players, world, wanted) in &REACHED {
-        reach_tells(rt.alloc(), players, world, wanted)?;
+        reach_tells(&rt, rt.alloc(), players, world, wanted)?;
     }
     Ok(())
 }
@@ -104,18 +114,19 @@ const FAILED_UNTOLD: [Run<'static>; 1] = [("reach p.json", "", "5 ")];
 #[test]
 fn reach_tells_of_faults(rt: HostRuntime) -> Result<(), Fail> {
     cases_tell(
+        &rt,
         rt.alloc(),
         &FILES,
         "$0",
         &FAILED,
         "0 - - -\n1 - - -\n- - 0 -",
     )?;
-    case_tells(rt.alloc(), &FILES, "- - 0 0", &FAILED_UNTOLD, "")
+    case_tells(&rt, rt.alloc(), &FILES, "- - 0 0", &FAILED_UNTOLD, "")
 }
 
 #[test]
 fn a_world_file_over_its_limit(rt: HostRuntime) -> Result<(), Fail> {
     let world = " ".repeat(rt.alloc(), 16_777_217)?;
     let wanted = "3 refused: w.json TooLong /\n";
-    reach_tells(rt.alloc(), ANN, world.as_str(), wanted)
+    reach_tells(&rt, rt.alloc(), ANN, world.as_str(), wanted)
 }

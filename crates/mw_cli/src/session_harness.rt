@@ -2,7 +2,9 @@
 use crate::harness::{after_mark, agree, filled, folder_of, told};
 use mw_cases::ROOM_A;
 use std::alloc::Global;
+use std::sync::Wait;
 use std::test::Fail;
+use std::thread::Threads;
 
 /// The seed file of Room A, where one text stands in the place of another.
 pub(crate) fn room_with(alloc: Global, from: &str, to: &str) -> Result<String, Fail> {
@@ -56,9 +58,15 @@ pub(crate) fn script_of(alloc: Global, lines: &str) -> Result<String, Fail> {
 }
 
 /// Fails where `drive` prints another text of a script of short lines after its first mark.
-pub(crate) fn marks(alloc: Global, seed: &str, lines: &str, wanted: &str) -> Result<(), Fail> {
+pub(crate) fn marks<R: Threads + Wait + Sync>(
+    rt: &R,
+    alloc: Global,
+    seed: &str,
+    lines: &str,
+    wanted: &str,
+) -> Result<(), Fail> {
     let mut folder = folder_of(alloc, &[("A", seed)], "", "")?;
-    let told = told(alloc, &mut folder, "drive A", lines, "")?;
+    let told = told(rt, alloc, &mut folder, "drive A", lines, "")?;
     let after = after_mark(told.as_str()).unwrap_or("no mark");
     agree(alloc, after, wanted, "")
 }

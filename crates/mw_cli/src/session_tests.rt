@@ -19,7 +19,7 @@ take 1
     let expected = r#"1 [{"checked_locations":[102],"cmd":"RoomUpdate","hint_points":1}]
 1 [{"cmd":"ReceivedItems","index":0,"items":[{"class":"NetworkItem","flags":2,"item":9,"location":201,"player":2}]}]
 "#;
-    marks(rt.alloc(), ROOM_A, lines, expected)
+    marks(&rt, rt.alloc(), ROOM_A, lines, expected)
 }
 
 #[test]
@@ -42,7 +42,7 @@ take 3
 3 $info
 3 [{"checked_locations":[],"cmd":"Connected","hint_points":0,"missing_locations":[201],"players":[{"alias":"Ann","class":"NetworkPlayer","name":"Ann","slot":1,"team":0},{"alias":"Bob","class":"NetworkPlayer","name":"Bob","slot":2,"team":0}],"slot":2,"slot_data":{},"slot_info":{"1":{"class":"NetworkSlot","game":"G","group_members":[],"name":"Ann","type":1},"2":{"class":"NetworkSlot","game":"G","group_members":[],"name":"Bob","type":1}},"team":0},{"cmd":"ReceivedItems","index":0,"items":[{"class":"NetworkItem","flags":1,"item":7,"location":101,"player":1}]}]
 "#;
-    marks(rt.alloc(), ROOM_A, lines, expected)
+    marks(&rt, rt.alloc(), ROOM_A, lines, expected)
 }
 
 #[test]
@@ -58,7 +58,7 @@ take 1
         r#"1 [{"cmd":"InvalidPacket","original_cmd":"LocationChecks","text":"arguments: locations","type":"arguments"}]
 1 [{"cmd":"ReceivedItems","index":0,"items":[{"class":"NetworkItem","flags":0,"item":5,"location":-2,"player":0}]}]
 "#;
-    marks(rt.alloc(), ROOM_A, lines, expected)
+    marks(&rt, rt.alloc(), ROOM_A, lines, expected)
 }
 
 #[test]
@@ -79,7 +79,7 @@ take 1
         r#"1 [{"cmd":"InvalidPacket","original_cmd":"Fly","text":"unknown cmd","type":"cmd"}]
 1 [{"cmd":"InvalidPacket","original_cmd":null,"text":"no JSON list","type":"cmd"}]
 "#;
-    marks(rt.alloc(), ROOM_A, lines, expected)
+    marks(&rt, rt.alloc(), ROOM_A, lines, expected)
 }
 
 #[test]
@@ -123,7 +123,7 @@ take 7
 6 [{"cmd":"ReceivedItems","index":0,"items":[{"class":"NetworkItem","flags":0,"item":5,"location":-2,"player":0},{"class":"NetworkItem","flags":2,"item":9,"location":201,"player":2}]}]
 7 [{"cmd":"ReceivedItems","index":0,"items":[{"class":"NetworkItem","flags":0,"item":5,"location":-2,"player":0},{"class":"NetworkItem","flags":0,"item":8,"location":102,"player":1},{"class":"NetworkItem","flags":2,"item":9,"location":201,"player":2}]}]
 "#;
-    marks(rt.alloc(), ROOM_A, lines, expected)
+    marks(&rt, rt.alloc(), ROOM_A, lines, expected)
 }
 
 #[test]
@@ -169,7 +169,7 @@ take 6
 5 [{"cmd":"ReceivedItems","index":1,"items":[{"class":"NetworkItem","flags":2,"item":9,"location":201,"player":2}]}]
 6 [{"cmd":"ReceivedItems","index":2,"items":[{"class":"NetworkItem","flags":2,"item":9,"location":201,"player":2}]}]
 "#;
-    marks(rt.alloc(), ROOM_A, lines, expected)
+    marks(&rt, rt.alloc(), ROOM_A, lines, expected)
 }
 
 #[test]
@@ -198,7 +198,7 @@ take 1
 1 [{"cmd":"ReceivedItems","index":2,"items":[{"class":"NetworkItem","flags":2,"item":9,"location":201,"player":2}]}]
 1 [{"cmd":"ReceivedItems","index":0,"items":[{"class":"NetworkItem","flags":0,"item":5,"location":-2,"player":0},{"class":"NetworkItem","flags":2,"item":9,"location":201,"player":2}]}]
 "#;
-    marks(rt.alloc(), ROOM_A, lines, expected)
+    marks(&rt, rt.alloc(), ROOM_A, lines, expected)
 }
 
 #[test]
@@ -215,7 +215,7 @@ take 1
 1 [{"cmd":"InvalidPacket","original_cmd":null,"text":"no cmd","type":"cmd"}]
 1 [{"cmd":"InvalidPacket","original_cmd":"Fly","text":"unknown cmd","type":"cmd"}]
 "#;
-    marks(rt.alloc(), ROOM_A, lines, expected)
+    marks(&rt, rt.alloc(), ROOM_A, lines, expected)
 }
 
 #[test]
@@ -235,7 +235,7 @@ take 1
 1 [{"cmd":"DataPackage","data":{"games":{"G":{"checksum":"3140df20051ca1c7a5dd4f886f8945c613c6fbba","item_name_to_id":{"Boots":5,"Coin":8,"Map":9,"Sword":7},"location_name_to_id":{"A1":101,"A2":102,"B1":201}}}}}]
 1 [{"cmd":"DataPackage","data":{"games":{}}}]
 "#;
-    marks(rt.alloc(), ROOM_A, lines, expected)
+    marks(&rt, rt.alloc(), ROOM_A, lines, expected)
 }
 
 #[test]
@@ -262,7 +262,7 @@ take 2
 7 gone
 2 $info
 "#;
-    marks(rt.alloc(), ROOM_A, lines, expected)
+    marks(&rt, rt.alloc(), ROOM_A, lines, expected)
 }
 
 #[test]
@@ -275,7 +275,7 @@ text 1 []
 take 1
 text 2 []
 "#;
-    marks(rt.alloc(), ROOM_A, lines, "2 gone\n")
+    marks(&rt, rt.alloc(), ROOM_A, lines, "2 gone\n")
 }
 
 #[test]
@@ -300,5 +300,5 @@ take 3
 2 [{"cmd":"ReceivedItems","index":0,"items":[{"class":"NetworkItem","flags":1,"item":7,"location":101,"player":1}]}]
 3 [{"checked_locations":[101],"cmd":"RoomUpdate","hint_points":1}]
 "#;
-    marks(rt.alloc(), ROOM_A, lines, expected)
+    marks(&rt, rt.alloc(), ROOM_A, lines, expected)
 }

@@ -1,17 +1,24 @@
 use crate::session_harness::marks;
 use mw_cases::ROOM_A;
 use std::alloc::Global;
+use std::sync::Wait;
 use std::test::Fail;
+use std::thread::Threads;
 
 /// Ann connects, sends a message, and takes.
 const SENDS: &str = "open\nconnect 1 Ann 7\ntake 1\nmark\ntext 1 $0\ntake 1\n";
 
 /// Fails where another text is printed once Ann, with session 1, sends the messages that these
 /// lines are, one after another, and takes after each.
-fn are_answered(alloc: Global, messages: &str, wanted: &str) -> Result<(), Fail> {
+fn are_answered<R: Threads + Wait + Sync>(
+    rt: &R,
+    alloc: Global,
+    messages: &str,
+    wanted: &str,
+) -> Result<(), Fail> {
     let sent = messages.replace(alloc, "\n", "\ntake 1\ntext 1 ")?;
     let lines = SENDS.replace(alloc, "$0", sent.as_str())?;
-    marks(alloc, ROOM_A, lines.as_str(), wanted)
+    marks(rt, alloc, ROOM_A, lines.as_str(), wanted)
 }
 
 #[test]
@@ -25,7 +32,7 @@ fn storage_out_of_range(rt: HostRuntime) -> Result<(), Fail> {
 1 [{"cmd":"Retrieved","keys":{"k":null}}]
 1 [{"cmd":"InvalidPacket","original_cmd":"Set","text":"arguments: operations","type":"arguments"}]
 "#;
-    are_answered(rt.alloc(), messages, expected)
+    are_answered(&rt, rt.alloc(), messages, expected)
 }
 
 #[test]
@@ -41,7 +48,7 @@ fn a_change_is_answered(rt: HostRuntime) -> Result<(), Fail> {
 1 [{"cmd":"SetReply","key":"r","original_value":-7,"slot":1,"value":4}]
 1 [{"cmd":"SetReply","key":"s","original_value":[3,4],"slot":1,"value":[3,4,5]}]
 "#;
-    are_answered(rt.alloc(), messages, expected)
+    are_answered(&rt, rt.alloc(), messages, expected)
 }
 
 #[test]
@@ -56,7 +63,7 @@ fn a_refused_change_keeps_nothing(rt: HostRuntime) -> Result<(), Fail> {
 1 [{"cmd":"InvalidPacket","original_cmd":"Set","text":"operation 0: bad operation","type":"arguments"}]
 1 [{"cmd":"Retrieved","keys":{"_read_x":null,"k":2}}]
 "#;
-    are_answered(rt.alloc(), messages, expected)
+    are_answered(&rt, rt.alloc(), messages, expected)
 }
 
 #[test]
@@ -85,7 +92,7 @@ take 2
 1 [{"cmd":"SetReply","key":"k","original_value":{"a":true,"b":null},"slot":1,"value":{"a":true,"b":null}}]
 2 [{"cmd":"SetReply","key":"other","original_value":0,"slot":2,"value":0}]
 "#;
-    marks(rt.alloc(), ROOM_A, lines, expected)
+    marks(&rt, rt.alloc(), ROOM_A, lines, expected)
 }
 
 #[test]
@@ -98,7 +105,7 @@ fn hints_and_statuses_are_read(rt: HostRuntime) -> Result<(), Fail> {
 1 [{"cmd":"Retrieved","keys":{"_read_hints_0_1":[{"class":"Hint","entrance":"","finding_player":1,"found":false,"item":7,"item_flags":1,"location":101,"receiving_player":2,"status":0}]},"n":4}]
 1 [{"cmd":"Retrieved","keys":{"_read_client_status_00_1":null,"_read_client_status_0_1":20,"_read_client_status_0_2":0,"_read_client_status_0_3":null,"_read_hints_0":null,"_read_hints_1_1":null,"_read_slot_data_1":null}}]
 "#;
-    are_answered(rt.alloc(), messages, expected)
+    are_answered(&rt, rt.alloc(), messages, expected)
 }
 
 /// Ann connects with a death link, and Bob without.
@@ -112,9 +119,14 @@ mark
 $0"#;
 
 /// Fails where another text is printed after that.
-fn are_linked(alloc: Global, lines: &str, wanted: &str) -> Result<(), Fail> {
+fn are_linked<R: Threads + Wait + Sync>(
+    rt: &R,
+    alloc: Global,
+    lines: &str,
+    wanted: &str,
+) -> Result<(), Fail> {
     let lines = LINKED.replace(alloc, "$0", lines)?;
-    marks(alloc, ROOM_A, lines.as_str(), wanted)
+    marks(rt, alloc, ROOM_A, lines.as_str(), wanted)
 }
 
 #[test]
@@ -127,7 +139,7 @@ take 2
     let expected =
         r#"1 [{"cmd":"Bounced","data":{"cause":"","source":"Ann","time":1712345678},"tags":["DeathLink"]}]
 "#;
-    are_linked(rt.alloc(), lines, expected)
+    are_linked(&rt, rt.alloc(), lines, expected)
 }
 
 #[test]
@@ -146,5 +158,5 @@ take 2
 1 [{"cmd":"Bounced","games":["G"],"tags":[]}]
 2 [{"cmd":"Bounced","games":["G"],"tags":[]}]
 "#;
-    are_linked(rt.alloc(), lines, expected)
+    are_linked(&rt, rt.alloc(), lines, expected)
 }

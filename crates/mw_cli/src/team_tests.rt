@@ -94,7 +94,7 @@ take 16
 
 #[test]
 fn a_team_hears_of_no_other(rt: HostRuntime) -> Result<(), Fail> {
-    case_tells(rt.alloc(), &[("A", ROOM)], "", &ROUNDS, PARTS)
+    case_tells(&rt, rt.alloc(), &[("A", ROOM)], "", &ROUNDS, PARTS)
 }
 
 /// What the first player of team 5 is owed for a Connect, once the first one of team 4 has checked
@@ -117,7 +117,7 @@ mark
 connect 3 A5 7
 take 3
 "#;
-    marks(rt.alloc(), ROOM, lines, CONNECTED_OF_FIVE)
+    marks(&rt, rt.alloc(), ROOM, lines, CONNECTED_OF_FIVE)
 }
 
 #[test]
@@ -142,5 +142,5 @@ take 3
 2 [{"cmd":"Bounced","slots":[1,2]}]
 3 [{"cmd":"Retrieved","keys":{"k":5}}]
 "#;
-    marks(rt.alloc(), ROOM, lines, expected)
+    marks(&rt, rt.alloc(), ROOM, lines, expected)
 }

@@ -5,7 +5,9 @@ use crate::session_harness::marks;
 use mw_cases::ROOM_A;
 use mw_edges::{Sink, SinkError, Tally};
 use std::alloc::Global;
+use std::sync::Wait;
 use std::test::Fail;
+use std::thread::Threads;
 
 /// The folder that has Room A as `A`.
 pub(crate) const FOLDER_A: [File<'static>; 1] = [("A", ROOM_A)];
@@ -25,14 +27,14 @@ fn first_check(rt: HostRuntime) -> Result<(), Fail> {
     let case = r#"checks 1 [101]
  | 1 [{"checked_locations":[101],"cmd":"RoomUpdate","hint_points":1}]
 "#;
-    case_tells(rt.alloc(), &FOLDER_A, "", &FIRST_RUN, case)
+    case_tells(&rt, rt.alloc(), &FOLDER_A, "", &FIRST_RUN, case)
 }
 
 const EMPTY_SCRIPT: [Run<'static>; 1] = [("drive A", "", "0 ")];
 
 #[test]
 fn empty_script(rt: HostRuntime) -> Result<(), Fail> {
-    case_tells(rt.alloc(), &FOLDER_A, "", &EMPTY_SCRIPT, "")
+    case_tells(&rt, rt.alloc(), &FOLDER_A, "", &EMPTY_SCRIPT, "")
 }
 
 #[test]
@@ -50,7 +52,7 @@ take 1
     let expected =
         r#"1 [{"cmd":"ReceivedItems","index":0,"items":[{"class":"NetworkItem","flags":1,"item":7,"location":101,"player":1}]}]
 "#;
-    marks(rt.alloc(), ROOM_A, lines, expected)
+    marks(&rt, rt.alloc(), ROOM_A, lines, expected)
 }
 
 #[test]
@@ -69,7 +71,7 @@ take 1
 "#;
     let expected = r#"1 [{"checked_locations":[101],"cmd":"RoomUpdate","hint_points":1}]
 "#;
-    marks(rt.alloc(), ROOM_A, lines, expected)
+    marks(&rt, rt.alloc(), ROOM_A, lines, expected)
 }
 
 #[test]
@@ -90,7 +92,7 @@ take 2
         r#"1 [{"checked_locations":[102],"cmd":"RoomUpdate","hint_points":1},{"cmd":"ReceivedItems","index":1,"items":[{"class":"NetworkItem","flags":0,"item":8,"location":102,"player":1}]}]
 2 [{"checked_locations":[102],"cmd":"RoomUpdate","hint_points":1},{"cmd":"ReceivedItems","index":1,"items":[{"class":"NetworkItem","flags":0,"item":8,"location":102,"player":1}]}]
 "#;
-    marks(rt.alloc(), ROOM_A, lines, expected)
+    marks(&rt, rt.alloc(), ROOM_A, lines, expected)
 }
 
 #[test]
@@ -113,7 +115,7 @@ take 1
         r#"1 [{"cmd":"ReceivedItems","index":0,"items":[{"class":"NetworkItem","flags":1,"item":7,"location":101,"player":1}]}]
 1 [{"cmd":"ReceivedItems","index":0,"items":[{"class":"NetworkItem","flags":1,"item":7,"location":101,"player":1}]}]
 "#;
-    marks(rt.alloc(), ROOM_A, lines, expected)
+    marks(&rt, rt.alloc(), ROOM_A, lines, expected)
 }
 
 #[test]
@@ -123,7 +125,7 @@ sync 1
  | 1 [{"checked_locations":[101],"cmd":"RoomUpdate","hint_points":1}]
 1 [{"cmd":"ReceivedItems","index":0,"items":[{"class":"NetworkItem","flags":0,"item":5,"location":-2,"player":0}]}]
 "#;
-    case_tells(rt.alloc(), &FOLDER_A, "", &FIRST_RUN, case)
+    case_tells(&rt, rt.alloc(), &FOLDER_A, "", &FIRST_RUN, case)
 }
 
 /// Seed files: Room A, and two that are none.
@@ -160,7 +162,7 @@ const RUNS: [Run<'static>; 10] = [
 
 #[test]
 fn each_status_has_its_line(rt: HostRuntime) -> Result<(), Fail> {
-    case_tells(rt.alloc(), &SEEDS, "", &RUNS, "")
+    case_tells(&rt, rt.alloc(), &SEEDS, "", &RUNS, "")
 }
 
 /// Calls that fail.
@@ -174,15 +176,22 @@ const FAILED_UNTOLD: [Run<'static>; 1] = [("drive A", "open\ntake 1\ntake 1\n", 
 
 #[test]
 fn drive_tells_of_faults(rt: HostRuntime) -> Result<(), Fail> {
-    cases_tell(rt.alloc(), &FOLDER_A, "$0", &FAILED, FAULTS)?;
-    case_tells(rt.alloc(), &FOLDER_A, "0 - - 0", &FAILED_UNTOLD, "")
+    cases_tell(&rt, rt.alloc(), &FOLDER_A, "$0", &FAILED, FAULTS)?;
+    case_tells(&rt, rt.alloc(), &FOLDER_A, "0 - - 0", &FAILED_UNTOLD, "")
 }
 
 const BAD_WORDS: [Run<'static>; 1] = [("$0", "", "2 bad words\n")];
 
 #[test]
 fn bad_words(rt: HostRuntime) -> Result<(), Fail> {
-    cases_tell(rt.alloc(), &FOLDER_A, "", &BAD_WORDS, "fly\ndrive A B C")
+    cases_tell(
+        &rt,
+        rt.alloc(),
+        &FOLDER_A,
+        "",
+        &BAD_WORDS,
+        "fly\ndrive A B C",
+    )
 }
 
 /// A take and a Sync of sessions that aren't open.
@@ -190,7 +199,7 @@ const GONE: [Run<'static>; 1] = [("drive A", "take 007\nsync 1\n", "0 7 gone\n1 
 
 #[test]
 fn gone_where_no_session_is_open(rt: HostRuntime) -> Result<(), Fail> {
-    case_tells(rt.alloc(), &FOLDER_A, "", &GONE, "")
+    case_tells(&rt, rt.alloc(), &FOLDER_A, "", &GONE, "")
 }
 
 const CUT_FILE: [File<'static>; 1] = [("A", "$0")];
@@ -198,16 +207,16 @@ const CUT_FILE: [File<'static>; 1] = [("A", "$0")];
 const CUT: [Run<'static>; 1] = [("drive A", "", "7 multidata refused: NoJson /\n")];
 
 /// Fails where the front of a seed file isn't refused.
-fn is_refused(alloc: Global, front: &[u8]) -> Result<(), Fail> {
+fn is_refused<R: Threads + Wait + Sync>(rt: &R, alloc: Global, front: &[u8]) -> Result<(), Fail> {
     let front = std::str::from_utf8(front).or(Err("no text"))?;
-    case_tells(alloc, &CUT_FILE, "", &CUT, front)
+    case_tells(rt, alloc, &CUT_FILE, "", &CUT, front)
 }
 
 #[test]
 fn cut_seed_file(rt: HostRuntime) -> Result<(), Fail> {
     let whole = ROOM_A.as_bytes();
     for length in 0..whole.len() {
-        is_refused(rt.alloc(), &whole[..length])?;
+        is_refused(&rt, rt.alloc(), &whole[..length])?;
     }
     Ok(())
 }
@@ -232,17 +241,17 @@ impl Sink for FullSink {
 }
 
 /// What is told of `drive A` with a sink that has no memory.
-fn without_memory(alloc: Global) -> Result<String, Fail> {
+fn without_memory<R: Threads + Wait + Sync>(rt: &R, alloc: Global) -> Result<String, Fail> {
     let mut folder = folder_of(alloc, &FOLDER_A, "", "")?;
     let mut out = FullSink {
         refused: Tally::new(),
     };
-    let (status, err) = ended(alloc, &mut folder, "drive A", "open\n", &mut out, "")?;
+    let (status, err) = ended(rt, alloc, &mut folder, "drive A", "open\n", &mut out, "")?;
     told_of(alloc, status, b"", err.bytes())
 }
 
 #[test]
 fn no_memory(rt: HostRuntime) -> Result<(), Fail> {
-    let told = without_memory(rt.alloc())?;
+    let told = without_memory(&rt, rt.alloc())?;
     agree(rt.alloc(), told.as_str(), "6 no memory\n", "")
 }

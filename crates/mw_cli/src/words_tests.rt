@@ -3,7 +3,9 @@ use crate::harness::{agree, words_of};
 use mw_base::Text;
 use mw_words::{CommandLine, WordsError, read_words};
 use std::alloc::Global;
+use std::sync::Wait;
 use std::test::Fail;
+use std::thread::Threads;
 
 /// A command, its first name, and its second one where it has two.
 fn names_of(line: &CommandLine) -> (&'static str, &str, Option<&str>) {
@@ -49,7 +51,7 @@ fn told_error(error: WordsError) -> &'static str {
 }
 
 /// What words ask for.
-fn told(alloc: Global, words: &[Text]) -> Result<String, Fail> {
+fn told<R: Threads + Wait + Sync>(rt: &R, alloc: Global, words: &[Text]) -> Result<String, Fail> {
     match read_words(alloc, words) {
         Ok(line) => told_line(alloc, &line),
         Err(error) => Ok(String::from_str(alloc, told_error(error))?),
@@ -57,10 +59,10 @@ fn told(alloc: Global, words: &[Text]) -> Result<String, Fail> {
 }
 
 /// Fails where words with a blank between them ask for something else than a case tells.
-fn ask_so(alloc: Global, case: &str) -> Result<(), Fail> {
+fn ask_so<R: Threads + Wait + Sync>(rt: &R, alloc: Global, case: &str) -> Result<(), Fail> {
     let (words, wanted) = case.split_once(" | ").ok_or("no case")?;
     let words = words_of(alloc, words)?;
-    agree(alloc, told(alloc, &words)?.as_str(), wanted, case)
+    agree(alloc, told(rt, alloc, &words)?.as_str(), wanted, case)
 }
 
 /// Words, and what they ask for.
@@ -119,12 +121,17 @@ serve A | bad words";
 #[test]
 fn each_row_asks_for_this(rt: HostRuntime) -> Result<(), Fail> {
     for case in ROWS.split('\n') {
-        ask_so(rt.alloc(), case)?;
+        ask_so(&rt, rt.alloc(), case)?;
     }
     Ok(())
 }
 
 #[test]
 fn no_words(rt: HostRuntime) -> Result<(), Fail> {
-    agree(rt.alloc(), told(rt.alloc(), &[])?.as_str(), "bad words", "")
+    agree(
+        rt.alloc(),
+        told(&rt, rt.alloc(), &[])?.as_str(),
+        "bad words",
+        "",
+    )
 }

@@ -1,18 +1,20 @@
 -- Words ask for one thing at most.
-use Rattle.std.proofs.Common.{◌≡◌, ◌<◌, ◌^◌, ◌∙◌, ℕ, List, [], ◌∷◌, Option, Some, true, false, refl, ap, sym, arith, codes, decimal, slice_get}
+use Rattle.std.proofs.Common.{◌≡◌, ◌<◌, ◌≤◌, ◌^◌, ◌∙◌, ℕ, List, [], ◌∷◌, Option, Some, None, IfSome, true, false, refl, ap, sym, arith, codes, decimal, slice_get}
 use Rattle.std.proofs.lemmas.Fmt.{decimal_injective}
 use Rattle.std.proofs.lemmas.Slice.Eq.{bytes_eq-Decides}
 use Rattle.std.specs.Str.{bytes_eq}
 use Rattle.std.specs.Borrow.{Bor}
 use Rattle.clap.specs.Walk.{texts}
-use Rattle.mw_words.specs.Words.{IsGenerate, IsCheck, IsNewRoom, IsDrive}
-use Rattle.mw_words.specs.Lines.{AsksFor, HasOneMeaning, HasTries}
+use Rattle.mw_words.specs.Words.{IsGenerate, IsCheck, IsNewRoom, IsDrive, IsServe}
+use Rattle.mw_words.specs.Numbers.{spelt}
+use Rattle.mw_words.specs.Lines.{AsksFor, HasOneMeaning, HasRanges, HasTries}
 use Rattle.mw_words.specs.declared.command_line.CommandLine.{CommandLine}
 use Rattle.mw_words.specs.declared.command_line.GenerateWords.{GenerateWords}
 use Rattle.mw_words.specs.declared.command_line.CheckWords.{CheckWords}
 use Rattle.mw_words.specs.declared.command_line.NewRoomWords.{NewRoomWords}
 use Rattle.mw_words.specs.declared.command_line.DriveWords.{DriveWords}
-use Rattle.mw_words.specs.declared.command_line.CommandLine.TheVariants.{Generate, Check, Reach, NewRoom, Drive}
+use Rattle.mw_words.specs.declared.command_line.ServeWords.{ServeWords}
+use Rattle.mw_words.specs.declared.command_line.CommandLine.TheVariants.{Generate, Check, Reach, NewRoom, Drive, Serve}
 
 -- the first of borrowed words
 pub first_text : (words : List (Bor (List ℕ))) (word : Bor (List ℕ)) (name : List ℕ) → Some word ≡ slice_get words 0 → word.now ≡ name → slice_get (texts words) 0 ≡ Some name
@@ -29,6 +31,7 @@ name_of (Check w) = codes "check"
 name_of (Reach w) = codes "reach"
 name_of (NewRoom w) = codes "new-room"
 name_of (Drive w) = codes "drive"
+name_of (Serve w) = codes "serve"
 
 named : (words : List (List ℕ)) (line : CommandLine) → AsksFor words line → slice_get words 0 ≡ Some (name_of line)
 named words (Generate w) h = h.taken.named
@@ -36,6 +39,7 @@ named words (Check w) h = h.taken.named
 named words (Reach w) h = h.taken.named
 named words (NewRoom w) h = h.taken.named
 named words (Drive w) h = h.taken.named
+named words (Serve w) h = h.taken.named
 
 -- what is given is one
 given_one : (o : Option (List ℕ)) (a b : List ℕ) → o ≡ Some a → o ≡ Some b → a ≡ b
@@ -66,8 +70,19 @@ pub only_drive : (words : List (List ℕ)) (line : CommandLine) → slice_get wo
 only_drive words (Drive w) first none asks = none _ asks
 only_drive words line first none asks = apart (slice_get words 0) (codes "drive") (name_of line) refl first (named words line asks)
 
+-- the same of `serve`
+pub only_serve : (words : List (List ℕ)) (line : CommandLine) → slice_get words 0 ≡ Some (codes "serve") → ((room : ServeWords) → IsServe words room → ⊥) → AsksFor words line → ⊥
+only_serve words (Serve w) first none asks = none _ asks
+only_serve words line first none asks = apart (slice_get words 0) (codes "serve") (name_of line) refl first (named words line asks)
+
 number_one : (o : Option (List ℕ)) (m n : ℕ) → m < 2 ^ 64 → n < 2 ^ 64 → o ≡ Some (decimal m) → o ≡ Some (decimal n) → m ≡ n
 number_one o m n m_small n_small first second = decimal_injective m n m_small n_small (given_one o (decimal m) (decimal n) first second)
+
+-- a number that may be missing
+spelt_one : (a b : Option ℕ) → IfSome a (λ n. (1 ≤ n) × (n ≤ 4294967295)) → IfSome b (λ n. (1 ≤ n) × (n ≤ 4294967295)) → spelt a ≡ spelt b → a ≡ b
+spelt_one (Some m) (Some n) m_range n_range same = ap Some (decimal_injective m n (omega arith) (omega arith) cc)
+spelt_one None None a_range b_range same = refl
+spelt_one a b a_range b_range same = cc
 
 pub asks_one : HasOneMeaning
 asks_one words (Generate v) (Generate w) p q =
@@ -91,6 +106,13 @@ asks_one words (Drive v) (Drive w) p q =
     let multidata = given_one _ v.multidata w.multidata p.multidata q.multidata in
     let journal = sym p.journal ∙ q.journal in
     λ i. Drive (record { multidata = multidata i; journal = journal i })
+asks_one words (Serve v) (Serve w) p q =
+    let multidata = given_one _ v.multidata w.multidata p.multidata q.multidata in
+    let journal = given_one _ v.journal w.journal p.journal q.journal in
+    let bind = given_one _ v.bind w.bind p.bind q.bind in
+    let workers = number_one _ v.workers w.workers (omega arith) (omega arith) p.workers q.workers in
+    let accept = spelt_one v.accept w.accept p.accept_range q.accept_range (sym p.accept ∙ q.accept) in
+    λ i. Serve (record { multidata = multidata i; journal = journal i; bind = bind i; workers = workers i; accept = accept i })
 asks_one words a b p q =
     absurd (apart (slice_get words 0) (name_of a) (name_of b) refl (named words a p) (named words b q))
 
@@ -101,3 +123,13 @@ has_tries words (Check w) asks = tt
 has_tries words (Reach w) asks = tt
 has_tries words (NewRoom w) asks = tt
 has_tries words (Drive w) asks = tt
+has_tries words (Serve w) asks = tt
+
+-- and its workers and connections
+pub has_ranges : (words : List (List ℕ)) (line : CommandLine) → AsksFor words line → HasRanges line
+has_ranges words (Generate w) asks = tt
+has_ranges words (Check w) asks = tt
+has_ranges words (Reach w) asks = tt
+has_ranges words (NewRoom w) asks = tt
+has_ranges words (Drive w) asks = tt
+has_ranges words (Serve w) asks = (asks.workers_range, asks.accept_range)

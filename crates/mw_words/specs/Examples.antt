@@ -1,8 +1,8 @@
 -- Rows of words beside the definitions.
 use Rattle.std.specs.Prelude.{◌≡◌, List, ℕ, [], ◌∷◌, Some, None, codes, refl}
-use Rattle.clap.specs.declared.error.kind.ErrorKind.TheVariants.{UnknownArgument, ArgumentConflict}
+use Rattle.clap.specs.declared.error.kind.ErrorKind.TheVariants.{UnknownArgument, ArgumentConflict, MissingRequiredArgument}
 use Rattle.clap.proofs.OnLiterals.{clap_on_literals}
-use Rattle.mw_words.specs.Words.{IsDrive, drive_app, faults, generate_app, given}
+use Rattle.mw_words.specs.Words.{IsDrive, drive_app, faults, generate_app, given, serve_app}
 
 -- a file's name
 pub drive_one : IsDrive (codes "drive" ∷ codes "A" ∷ [])
@@ -43,3 +43,34 @@ pub seed_twice : faults generate_app
     ∷ codes "6" ∷ []) ≡ ArgumentConflict ∷ []
 unfolding faults clap_on_literals
 seed_twice = refl
+
+abbrev pub hosted : List (List ℕ)
+hosted = codes "serve" ∷ codes "A" ∷ codes "J" ∷ codes "--bind" ∷ codes "127.0.0.1:38281" ∷ []
+
+-- a room's address
+pub hosted_bind : given serve_app hosted (codes "bind") ≡ Some (codes "127.0.0.1:38281")
+unfolding given clap_on_literals
+hosted_bind = refl
+
+-- workers that aren't said
+pub workers_unsaid : given serve_app hosted (codes "workers") ≡ Some (codes "32")
+unfolding given clap_on_literals
+workers_unsaid = refl
+
+-- a room that goes on
+pub accept_unsaid : given serve_app hosted (codes "accept") ≡ None
+unfolding given clap_on_literals
+accept_unsaid = refl
+
+-- a room that ends after three connections
+pub accept_said : given serve_app
+    (codes "serve" ∷ codes "--accept=3" ∷ codes "A" ∷ codes "J" ∷ codes "--bind=0.0.0.0:1" ∷ [])
+    (codes "accept") ≡ Some (codes "3")
+unfolding given clap_on_literals
+accept_said = refl
+
+-- no room without an address
+pub bind_unsaid : faults serve_app (codes "serve" ∷ codes "A" ∷ codes "J" ∷ [])
+    ≡ MissingRequiredArgument ∷ []
+unfolding faults clap_on_literals
+bind_unsaid = refl

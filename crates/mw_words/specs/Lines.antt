@@ -1,8 +1,8 @@
 -- A command line, and the words that ask for it.
-use Rattle.std.specs.Prelude.{◌≡◌, ◌≤◌, ℕ, List, ⊤}
-use Rattle.mw_words.specs.Words.{IsGenerate, IsCheck, IsReach, IsNewRoom, IsDrive}
+use Rattle.std.specs.Prelude.{◌≡◌, ◌≤◌, ℕ, List, IfSome, ⊤}
+use Rattle.mw_words.specs.Words.{IsGenerate, IsCheck, IsReach, IsNewRoom, IsDrive, IsServe}
 use Rattle.mw_words.specs.declared.command_line.CommandLine.{CommandLine}
-use Rattle.mw_words.specs.declared.command_line.CommandLine.TheVariants.{Generate, Check, Reach, NewRoom, Drive}
+use Rattle.mw_words.specs.declared.command_line.CommandLine.TheVariants.{Generate, Check, Reach, NewRoom, Drive, Serve}
 
 -- the words ask for this
 abbrev pub AsksFor : List (List ℕ) → CommandLine → Type 0
@@ -11,6 +11,7 @@ AsksFor words (Check w) = IsCheck words w
 AsksFor words (Reach w) = IsReach words w.players
 AsksFor words (NewRoom w) = IsNewRoom words w
 AsksFor words (Drive w) = IsDrive words w
+AsksFor words (Serve w) = IsServe words w
 
 -- they ask for nothing
 abbrev pub IsNoCommand : List (List ℕ) → Type 0
@@ -29,3 +30,15 @@ HasTries (Check w) = ⊤
 HasTries (Reach w) = ⊤
 HasTries (NewRoom w) = ⊤
 HasTries (Drive w) = ⊤
+HasTries (Serve w) = ⊤
+
+-- how many workers there are is from 1 to 64, and how many connections are accepted, where it is said, from 1 to
+-- 4,294,967,295
+abbrev pub HasRanges : CommandLine → Type 0
+HasRanges (Generate w) = ⊤
+HasRanges (Check w) = ⊤
+HasRanges (Reach w) = ⊤
+HasRanges (NewRoom w) = ⊤
+HasRanges (Drive w) = ⊤
+HasRanges (Serve w) =
+    ((1 ≤ w.workers) × (w.workers ≤ 64)) × IfSome w.accept (λ n. (1 ≤ n) × (n ≤ 4294967295))

@@ -1,11 +1,13 @@
 -- The words of the command line after the program's name, and what they ask for.
-use Rattle.std.specs.Prelude.{◌≡◌, ◌<◌, ◌≤◌, ◌^◌, ℕ, true, List, [], ◌∷◌, Option, Some, codes, decimal, slice_get}
+use Rattle.std.specs.Prelude.{◌≡◌, ◌<◌, ◌≤◌, ◌^◌, ℕ, true, List, [], ◌∷◌, Option, Some, IfSome, codes, decimal, slice_get}
 use Rattle.clap.specs.Words.{App, Kinds, Rule, fault_of, first_of, matches_of, new_rule}
 use Rattle.clap.specs.Simple.{new_shape}
 use Rattle.mw_words.specs.declared.command_line.GenerateWords.{GenerateWords}
 use Rattle.mw_words.specs.declared.command_line.CheckWords.{CheckWords}
 use Rattle.mw_words.specs.declared.command_line.NewRoomWords.{NewRoomWords}
 use Rattle.mw_words.specs.declared.command_line.DriveWords.{DriveWords}
+use Rattle.mw_words.specs.declared.command_line.ServeWords.{ServeWords}
+use Rattle.mw_words.specs.Numbers.{spelt}
 
 -- ---- the commands, as clap reads their words
 
@@ -37,6 +39,18 @@ seed_rule = record (option_rule (codes "seed")) { required = true }
 abbrev pub tries_rule : Rule
 tries_rule = record (option_rule (codes "tries")) { defaults = codes "100" ∷ [] }
 
+-- `--bind ADDRESS`, which is required
+abbrev pub bind_rule : Rule
+bind_rule = record (option_rule (codes "bind")) { required = true }
+
+-- `--workers N`, 32 where it isn't there
+abbrev pub workers_rule : Rule
+workers_rule = record (option_rule (codes "workers")) { defaults = codes "32" ∷ [] }
+
+-- `--accept N`, which may be missing
+abbrev pub accept_rule : Rule
+accept_rule = option_rule (codes "accept")
+
 -- `generate PLAYERS OUT --seed N [--tries N]`
 abbrev pub generate_app : App
 generate_app =
@@ -52,16 +66,26 @@ check_app =
 abbrev pub reach_app : App
 reach_app = command_app (codes "reach") (word_rule (codes "players") ∷ [])
 
+-- a command of a seed file and a journal
+abbrev pub room_app : List ℕ → App
+room_app name =
+    command_app name (word_rule (codes "multidata") ∷ word_rule (codes "journal") ∷ [])
+
 -- `new-room MULTIDATA JOURNAL`
 abbrev pub new_room_app : App
-new_room_app =
-    command_app (codes "new-room")
-    (word_rule (codes "multidata") ∷ word_rule (codes "journal") ∷ [])
+new_room_app = room_app (codes "new-room")
 
 -- `drive MULTIDATA [JOURNAL]`
 abbrev pub drive_app : App
 drive_app =
     command_app (codes "drive") (word_rule (codes "multidata") ∷ last_rule (codes "journal") ∷ [])
+
+-- `serve MULTIDATA JOURNAL --bind ADDRESS [--workers N] [--accept N]`
+abbrev pub serve_app : App
+serve_app =
+    command_app (codes "serve")
+    (word_rule (codes "multidata") ∷ word_rule (codes "journal") ∷ bind_rule ∷ workers_rule
+    ∷ accept_rule ∷ [])
 
 -- ---- what words ask for
 
@@ -110,3 +134,15 @@ pub record IsDrive (words : List (List ℕ)) (files : DriveWords) : Type 0 where
   pub taken : IsTaken drive_app words
   pub multidata : given drive_app words (codes "multidata") ≡ Some files.multidata
   pub journal : given drive_app words (codes "journal") ≡ files.journal
+
+-- `serve` of a seed file and a journal at an address, with a number of workers, and with one of connections where
+-- it is said
+pub record IsServe (words : List (List ℕ)) (room : ServeWords) : Type 0 where
+  pub taken : IsTaken serve_app words
+  pub multidata : given serve_app words (codes "multidata") ≡ Some room.multidata
+  pub journal : given serve_app words (codes "journal") ≡ Some room.journal
+  pub bind : given serve_app words (codes "bind") ≡ Some room.bind
+  pub workers : given serve_app words (codes "workers") ≡ Some (decimal room.workers)
+  pub workers_range : (1 ≤ room.workers) × (room.workers ≤ 64)
+  pub accept : given serve_app words (codes "accept") ≡ spelt room.accept
+  pub accept_range : IfSome room.accept (λ n. (1 ≤ n) × (n ≤ 4294967295))

@@ -1,8 +1,9 @@
 //! What `clap` finds in words.
-ghost use Rattle.std.specs.Prelude.{◌≡◌, ◌≢◌, ◌≤◌, ℕ, List, [], true, Some, None, IfOk, decimal};
+ghost use Rattle.std.specs.Prelude.{◌≡◌, ◌≢◌, ◌≤◌, ℕ, List, [], true, Option, Some, None, IfOk, IfSome, decimal};
 ghost use Rattle.clap.specs.Words.{app_of, is_simple_and_free, found_of, first_value};
 ghost use Rattle.clap.specs.Walk.{texts};
 ghost use Rattle.mw_words.specs.Words.{faults, given};
+ghost use Rattle.mw_words.specs.Numbers.{spelt};
 
 use crate::error::WordsError;
 use crate::number::number_of;
@@ -77,6 +78,28 @@ pub(crate) fn number(
     };
     match number_of(value, least, most) {
         Some(number) => Ok(number),
+        None => Err(WordsError::BadWords),
+    }
+}
+
+/// The number from `least` to `most` that was given for an argument that may be missing.
+pub(crate) fn number_or_none(
+    matches: &ArgMatches,
+    id: &str,
+    least: u64,
+    most: u64,
+) -> Result<Option<u64>, WordsError>
+    ensures ok { IfOk result (λ o. first_value (found_of matches.now) id.now ≡ spelt o) }
+    ensures range { IfOk result (λ o. IfSome o (λ n. (least ≤ n) × (n ≤ most))) }
+    ensures bad { result ≡ Err WordsError.BadWords → (o : Option ℕ)
+        → IfSome o (λ n. (least ≤ n) × (n ≤ most))
+        → first_value (found_of matches.now) id.now ≢ spelt o }
+{
+    let Some(value) = matches.get_str(id) else {
+        return Ok(None);
+    };
+    match number_of(value, least, most) {
+        Some(number) => Ok(Some(number)),
         None => Err(WordsError::BadWords),
     }
 }

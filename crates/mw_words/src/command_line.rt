@@ -48,6 +48,21 @@ pub struct DriveWords {
     pub journal: Option<Text>,
 }
 
+/// The words of `serve`.
+#[derive(Drop)]
+pub struct ServeWords {
+    /// The seed file's name.
+    pub multidata: Text,
+    /// The journal's name.
+    pub journal: Text,
+    /// The address at which clients connect.
+    pub bind: Text,
+    /// How many clients are served at once, 1 to 64.
+    pub workers: u32,
+    /// After how many accepted connections the room ends, 1 to 4,294,967,295; None where it goes on.
+    pub accept: Option<u64>,
+}
+
 /// What a command line asks for.
 #[derive(Drop)]
 pub enum CommandLine {
@@ -61,4 +76,6 @@ pub enum CommandLine {
     NewRoom(NewRoomWords),
     /// A script is to be run on a room.
     Drive(DriveWords),
+    /// A room is to be hosted.
+    Serve(ServeWords),
 }

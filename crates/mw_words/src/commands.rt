@@ -2,7 +2,7 @@
 ghost use Rattle.std.specs.Prelude.{◌≡◌, [], ◌∷◌, IfOk, false, true};
 ghost use Rattle.clap.specs.Words.{app_of, new_rule, rule_of};
 ghost use Rattle.mw_words.specs.Words.{command_app, word_rule, option_rule, seed_rule, tries_rule, generate_app, check_app, reach_app, new_room_app, drive_app};
-ghost use Rattle.mw_words.specs.Words.{last_rule};
+ghost use Rattle.mw_words.specs.Words.{last_rule, bind_rule, workers_rule, accept_rule, room_app, serve_app};
 
 use clap::{Arg, Command};
 use std::alloc::{AllocError, Global};
@@ -56,6 +56,30 @@ fn tries_option<'a>(alloc: Global) -> Arg<'a>
     option(alloc, "tries").default_value("100")
 }
 
+/// `--bind ADDRESS`, which is required.
+fn bind_option<'a>(alloc: Global) -> Arg<'a>
+    ensures rule { rule_of result ≡ bind_rule }
+    ensures local { result.global ≡ false }
+{
+    option(alloc, "bind").required(true)
+}
+
+/// `--workers N`, 32 where it isn't there.
+fn workers_option<'a>(alloc: Global) -> Arg<'a>
+    ensures rule { rule_of result ≡ workers_rule }
+    ensures local { result.global ≡ false }
+{
+    option(alloc, "workers").default_value("32")
+}
+
+/// `--accept N`, which may be missing.
+fn accept_option<'a>(alloc: Global) -> Arg<'a>
+    ensures rule { rule_of result ≡ accept_rule }
+    ensures local { result.global ≡ false }
+{
+    option(alloc, "accept")
+}
+
 /// `generate PLAYERS OUT --seed N [--tries N]`
 pub(crate) fn generate_command<'a>(alloc: Global) -> Result<Command<'a>, AllocError>
     ensures { IfOk result (λ c. app_of c ≡ generate_app) }
@@ -83,13 +107,20 @@ pub(crate) fn reach_command<'a>(alloc: Global) -> Result<Command<'a>, AllocError
     bare_command(alloc, "reach").arg(word(alloc, "players"))
 }
 
+/// A command of a seed file and a journal.
+fn room_command<'a>(alloc: Global, name: &'a str) -> Result<Command<'a>, AllocError>
+    ensures { IfOk result (λ c. app_of c ≡ room_app name.entry.now) }
+{
+    bare_command(alloc, name)
+        .arg(word(alloc, "multidata"))?
+        .arg(word(alloc, "journal"))
+}
+
 /// `new-room MULTIDATA JOURNAL`
 pub(crate) fn new_room_command<'a>(alloc: Global) -> Result<Command<'a>, AllocError>
     ensures { IfOk result (λ c. app_of c ≡ new_room_app) }
 {
-    bare_command(alloc, "new-room")
-        .arg(word(alloc, "multidata"))?
-        .arg(word(alloc, "journal"))
+    room_command(alloc, "new-room")
 }
 
 /// `drive MULTIDATA [JOURNAL]`
@@ -99,4 +130,14 @@ pub(crate) fn drive_command<'a>(alloc: Global) -> Result<Command<'a>, AllocError
     bare_command(alloc, "drive")
         .arg(word(alloc, "multidata"))?
         .arg(last_word(alloc, "journal"))
+}
+
+/// `serve MULTIDATA JOURNAL --bind ADDRESS [--workers N] [--accept N]`
+pub(crate) fn serve_command<'a>(alloc: Global) -> Result<Command<'a>, AllocError>
+    ensures { IfOk result (λ c. app_of c ≡ serve_app) }
+{
+    room_command(alloc, "serve")?
+        .arg(bind_option(alloc))?
+        .arg(workers_option(alloc))?
+        .arg(accept_option(alloc))
 }

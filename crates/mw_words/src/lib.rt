@@ -9,7 +9,7 @@ mod number;
 mod words;
 
 pub use command_line::{
-    CheckWords, CommandLine, DriveWords, GenerateWords, NewRoomWords, ReachWords,
+    CheckWords, CommandLine, DriveWords, GenerateWords, NewRoomWords, ReachWords, ServeWords,
 };
 pub use error::WordsError;
 pub use words::{has_one_meaning, read_words};

@@ -4,15 +4,16 @@ ghost use Rattle.mw_words.specs.declared.command_line.GenerateWords.{GenerateWor
 ghost use Rattle.mw_words.specs.declared.command_line.CheckWords.{CheckWords};
 ghost use Rattle.mw_words.specs.declared.command_line.NewRoomWords.{NewRoomWords};
 ghost use Rattle.mw_words.specs.declared.command_line.DriveWords.{DriveWords};
-ghost use Rattle.mw_words.specs.Words.{IsGenerate, IsCheck, IsReach, IsNewRoom, IsDrive};
+ghost use Rattle.mw_words.specs.declared.command_line.ServeWords.{ServeWords};
+ghost use Rattle.mw_words.specs.Words.{IsGenerate, IsCheck, IsReach, IsNewRoom, IsDrive, IsServe};
 ghost use Rattle.mw_words.specs.Lines.{AsksFor, IsNoCommand, HasOneMeaning};
 
-use crate::arguments::{number, parse, text, text_or_none};
+use crate::arguments::{number, number_or_none, parse, text, text_or_none};
 use crate::command_line::{
-    CheckWords, CommandLine, DriveWords, GenerateWords, NewRoomWords, ReachWords,
+    CheckWords, CommandLine, DriveWords, GenerateWords, NewRoomWords, ReachWords, ServeWords,
 };
 use crate::commands::{
-    check_command, drive_command, generate_command, new_room_command, reach_command,
+    check_command, drive_command, generate_command, new_room_command, reach_command, serve_command,
 };
 use crate::error::WordsError;
 use mw_base::Text;
@@ -100,6 +101,23 @@ fn read_drive(alloc: Global, words: &[&str]) -> Result<DriveWords, WordsError>
     })
 }
 
+/// The words of `serve`.
+fn read_serve(alloc: Global, words: &[&str]) -> Result<ServeWords, WordsError>
+    requires { slice_get (texts words.now) 0 ≡ Some (codes "serve") }
+    ensures ok { IfOk result (IsServe (texts words.now)) }
+    ensures bad { result ≡ Err WordsError.BadWords → (room : ServeWords)
+        → IsServe (texts words.now) room → ⊥ }
+{
+    let matches = parse(serve_command(alloc)?, words)?;
+    Ok(ServeWords {
+        multidata: text(alloc, &matches, "multidata")?,
+        journal: text(alloc, &matches, "journal")?,
+        bind: text(alloc, &matches, "bind")?,
+        workers: number(&matches, "workers", 1, 64)? as u32,
+        accept: number_or_none(&matches, "accept", 1, 4_294_967_295)?,
+    })
+}
+
 /// What words ask for, by the first of them.
 fn read_command(alloc: Global, words: &[&str]) -> Result<CommandLine, WordsError>
     ensures ok { IfOk result (AsksFor (texts words.now)) }
@@ -114,6 +132,7 @@ fn read_command(alloc: Global, words: &[&str]) -> Result<CommandLine, WordsError
         "reach" => Ok(CommandLine::Reach(read_reach(alloc, words)?)),
         "new-room" => Ok(CommandLine::NewRoom(read_new_room(alloc, words)?)),
         "drive" => Ok(CommandLine::Drive(read_drive(alloc, words)?)),
+        "serve" => Ok(CommandLine::Serve(read_serve(alloc, words)?)),
         _ => Err(WordsError::BadWords),
     }
 }

@@ -2,8 +2,9 @@ use Rattle.std.proofs.Common.{Err, ap, refl, subst, inl, inr}
 use Rattle.std.proofs.KnownBytes.{Keeps-refl}
 use Rattle.mw_causes.specs.declared.stop.Stop.TheVariants.{Memory}
 use Rattle.mw_words.specs.Lines.{AsksFor}
-use Rattle.mw_words.specs.declared.command_line.CommandLine.TheVariants.{Generate, Check, Reach, NewRoom, Drive}
+use Rattle.mw_words.specs.declared.command_line.CommandLine.TheVariants.{Generate, Check, Reach, NewRoom, Drive, Serve}
 use Rattle.mw_offline.proofs.Driving.{unstarted}
+use Rattle.mw_serve.proofs.Starting.{unstarted_serve}
 use Rattle.mw_words.proofs.Asking.{asks_one}
 use Rattle.mw_cli.proofs.run.run.Goals as goal
 
@@ -58,12 +59,33 @@ returns-in-Err-Memory-clause-drive g c = λ files _.
 pub returns-in-Err-BadWords-clause-other : goal.returns-in-Err-BadWords-clause-other
 returns-in-Err-BadWords-clause-other g c = λ _. (refl, refl, inl (refl, c.tell.ensures))
 
--- a line of another command is none of the three that change a file
+pub returns-in-Ok-clause-serve : goal.returns-in-Ok-clause-serve
+returns-in-Ok-clause-serve g c = λ room is. rw (asks_one c.args.words.now c.in-Ok.line (Serve room) c.in-Ok.ensures.ok is) at c.run_line.ensures.ends
+
+pub returns-in-Ok-clause-served : goal.returns-in-Ok-clause-served
+returns-in-Ok-clause-served g c = λ room is. c.run_line.ensures.full room (asks_one c.args.words.now c.in-Ok.line (Serve room) c.in-Ok.ensures.ok is)
+
+pub returns-in-Ok-clause-gate : goal.returns-in-Ok-clause-gate
+returns-in-Ok-clause-gate g c = λ no_serve. c.run_line.ensures.gate (λ room is. no_serve room (subst (AsksFor c.args.words.now) is c.in-Ok.ensures.ok))
+
+pub returns-in-Err-BadWords-clause-serve : goal.returns-in-Err-BadWords-clause-serve
+returns-in-Err-BadWords-clause-serve g c = λ room is. absurd (c.in-Err-BadWords.ensures.bad (ap Err c.in-Err-BadWords.field-0-is) (Serve room) is)
+
+pub returns-in-Err-BadWords-clause-served : goal.returns-in-Err-BadWords-clause-served
+returns-in-Err-BadWords-clause-served g c = λ room is. absurd (c.in-Err-BadWords.ensures.bad (ap Err c.in-Err-BadWords.field-0-is) (Serve room) is)
+
+pub returns-in-Err-Memory-clause-serve : goal.returns-in-Err-Memory-clause-serve
+returns-in-Err-Memory-clause-serve g c = λ room _.
+    let F = g.F.Folder in let L = g.G.Line.Link in
+    unstarted_serve L.heard L.sent L.faults L.opened L.is_shut g.F.Drive.Disk.may_leave F.holds F.images F.is_open F.may_fail F.faults c.args.folder.now room (g.O.Sink.held c.args.out.now) (g.O.Sink.faults c.args.out.now) _ c.end_without_memory.result
+    c.new-in-Err-Memory.result c.new-in-Err-Memory.ensures c.end_without_memory.ensures.status c.end_without_memory.ensures.line
+
+-- a line of another command is none of the four that change a file
 pub returns-in-Ok-clause-same : goal.returns-in-Ok-clause-same
-returns-in-Ok-clause-same g c = λ no_seed no_room no_drive.
+returns-in-Ok-clause-same g c = λ no_seed no_room no_drive no_serve.
     let asks = c.in-Ok.ensures.ok in
     c.run_line.ensures.same (λ wanted is. no_seed wanted (subst (AsksFor c.args.words.now) is asks)) (λ room is. no_room room (subst (AsksFor c.args.words.now) is asks))
-    (λ files is. no_drive files (subst (AsksFor c.args.words.now) is asks))
+    (λ files is. no_drive files (subst (AsksFor c.args.words.now) is asks)) (λ room is. no_serve room (subst (AsksFor c.args.words.now) is asks))
 
 -- and but for `drive` none reads the input
 pub returns-in-Ok-clause-input : goal.returns-in-Ok-clause-input

@@ -1,0 +1,7 @@
+mod Lives
+mod Ends
+mod Calls
+mod Keeping
+mod Hosts
+mod Files
+pub mod Starting

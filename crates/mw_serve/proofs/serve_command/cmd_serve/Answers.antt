@@ -1,0 +1,12 @@
+use Rattle.mw_offline.proofs.Driving.{told_so}
+use Rattle.mw_serve.proofs.serve_command.cmd_serve.Goals as goal
+
+pub returns-clause-ends : goal.returns-clause-ends
+returns-clause-ends g c =
+    let run = c.serve-outcome.ensures in
+    let ended = c.end.ensures in
+    record {
+      ends = told_so c.serve-outcome.result.0 c.end.result _ _ _ ended.done ended.kept ended.ended run.done run.stopped;
+      leaves = run.leaves;
+      kept = run.kept;
+    }

@@ -1,0 +1,5 @@
+pub mod Taken
+pub mod Sent
+pub mod Hosted
+pub mod Runs
+pub mod Serving

@@ -1,0 +1,33 @@
+-- What was sent over links, and that it is kept.
+use Rattle.std.specs.Prelude.{◌≡◌, ℕ, ◌++◌, List, [], Option, Some, None}
+use Rattle.std.specs.List.{AllByRecursion}
+use Rattle.mw_model.specs.Seed.{Seed}
+use Rattle.mw_protocol.specs.Lives.{Step, life_after_all}
+use Rattle.mw_keep.specs.Left.{IsLeft}
+use Rattle.mw_session.specs.declared.served.Served.{Served}
+use Rattle.mw_serve.specs.Taken.{IsOfTaken}
+
+-- these texts were sent over a link; where no session was opened over it, none was
+abbrev pub AreOfTaken : Seed → List Step → Option ℕ → List (List ℕ) → Type 0
+AreOfTaken seed steps None texts = texts ≡ []
+AreOfTaken seed steps (Some session) texts = AllByRecursion (IsOfTaken seed steps session) texts
+
+module _ {T : Type 0} (sent_by : T → List (List ℕ)) where
+  -- so it is of all that was sent over a link, over the links of a worker, and over those of all
+  abbrev pub LineKeeps : Seed → List Step → Served T → Type 0
+  LineKeeps seed steps e = AreOfTaken seed steps e.session (sent_by e.line)
+
+  abbrev pub LinesKeep : Seed → List Step → List (Served T) → Type 0
+  LinesKeep seed steps es = AllByRecursion (LineKeeps seed steps) es
+
+  abbrev pub AllKeep : Seed → List Step → List (List (Served T)) → Type 0
+  AllKeep seed steps served = AllByRecursion (LinesKeep seed steps) served
+
+  -- what a crash may leave is settled for the life that a run of lives comes to, which goes on from
+  -- these steps; and what was sent are the texts of messages that were taken in it
+  pub record KeepsSent (images : List ℕ → Type 0) (digest : List ℕ) (seed : Seed)
+      (steps : List Step) (served : List (List (Served T)))
+      : Type 0 where
+    pub more : List Step
+    pub settled : IsLeft images digest (life_after_all seed (steps ++ more))
+    pub sent : AllKeep seed (steps ++ more) served

@@ -1,0 +1,253 @@
+//! The command `serve`.
+ghost use Rattle.std.specs.Prelude.{◌≡◌, ◌⊎◌, ◌<◌, ◌≤◌, ◌+◌, ℕ, List, [], Some, Ok, Err, IfOk, IfErr, OnOk};
+ghost use Rattle.std.specs.Io.KnownBytes.{Appends, Keeps};
+ghost use Rattle.std.specs.Prelude.{IsTrue, is_some, string_bytes};
+ghost use Rattle.mw_edges.specs.Causes.{PutsFront, Rose};
+ghost use Rattle.mw_edges.specs.Folders.{opened_bytes};
+ghost use Rattle.mw_multidata.specs.Digest.{digest_of};
+ghost use Rattle.mw_multidata.specs.SeedOf.{SeedOf};
+ghost use Rattle.mw_protocol.specs.Lives.{Step, life_after_all};
+ghost use Rattle.mw_keep.specs.Left.{IsLeft};
+ghost use Rattle.mw_session.specs.Desks.{left_count, lesser, IsWithin};
+ghost use Rattle.mw_session.specs.Numbers.{all_numbers, NoneTwice};
+ghost use Rattle.mw_session.specs.Rooms.{count_all};
+ghost use Rattle.mw_drive.specs.Ends.{IsOfJournal};
+ghost use Rattle.mw_causes.specs.Ends.{told_by};
+ghost use Rattle.mw_offline.specs.Driving.{JournalLeaves};
+ghost use Rattle.mw_offline.specs.FilesAround.{files_around};
+ghost use Rattle.mw_serve.specs.Sent.{KeepsSent};
+ghost use Rattle.mw_serve.specs.Serving.{FileHostsShort, FileHostsToEnd, Finishes, ServeEnds};
+ghost use Rattle.mw_serve.specs.Serving.{ServeKeeps};
+ghost use Rattle.mw_serve.specs.Serving.{SeedStopped, ServeDone, ServeStopped, sessions_line};
+
+use crate::hosting::{Ending, Terms, host_on};
+use mw_base::{List, Memory, Text};
+use mw_causes::{DriveCause, SeedBytes, Stop, end, put_text, read_seed_bytes};
+use mw_drive::DriveError;
+use mw_edges::{Folder, FolderError, Sink};
+use mw_link::Gate;
+use mw_session::Served;
+use mw_words::ServeWords;
+use std::alloc::Global;
+use std::sync::Wait;
+use std::thread::Threads;
+
+/// What a command that served comes to: how many links were accepted, or why that isn't all; the
+/// gate; and for each worker the links that it served, in order.
+#[derive(Drop)]
+struct Coming<G: Gate> {
+    outcome: Result<u64, DriveError>,
+    gate: G,
+    served: List<List<Served<G::Line>>>,
+}
+
+/// Serves the room that a file keeps. Its disk is closed again.
+fn serve_on_file<F: Folder, G: Gate + Send, R: Threads + Wait + Sync>(
+    rt: &R,
+    alloc: Global,
+    seed: SeedBytes,
+    words: &ServeWords,
+    folder: &mut F,
+    gate: G,
+) -> Coming<G>
+where
+    F::Drive: Drop,
+    requires seed { SeedOf seed.bytes (Ok seed.multidata) }
+    requires workers { 1 ≤ words.now.workers }
+    requires faults { G.faults gate ≡ 0 }
+    requires given { G.given gate ≡ 0 }
+    ensures done { IfOk result.outcome (λ n. (n ≡ count_all result.served)
+        × FileHostsToEnd G.Line.heard G.Line.sent G.Line.faults G.Line.opened G.Line.is_shut
+        F.Drive.may_leave
+        (files_around F.holds F.images F.is_open F.may_fail F.faults folder.old folder.new)
+        words.now.journal seed.bytes seed.multidata result.served) }
+    ensures short { IfErr result.outcome
+        (FileHostsShort G.Line.heard G.Line.sent G.Line.faults G.Line.opened G.Line.is_shut
+        F.Drive.may_leave
+        (files_around F.holds F.images F.is_open F.may_fail F.faults folder.old folder.new)
+        words.now.journal seed.bytes seed.multidata result.served) }
+    ensures kept { (steps : List Step)
+        → IsTrue (is_some (opened_bytes (F.holds folder.old words.now.journal)))
+        → IsLeft (F.images folder.old words.now.journal) (digest_of seed.bytes)
+        (life_after_all seed.multidata steps)
+        → KeepsSent G.Line.sent (F.images folder.new words.now.journal) (digest_of seed.bytes)
+        seed.multidata steps result.served }
+    ensures leaves { JournalLeaves
+        (files_around F.holds F.images F.is_open F.may_fail F.faults folder.old folder.new)
+        (Some words.now.journal) }
+    ensures numbers { NoneTwice (all_numbers result.served) }
+    ensures given { G.given result.gate ≡ count_all result.served }
+    ensures within { IsWithin words.now.accept (count_all result.served) }
+    ensures full { IfOk result.outcome
+        (λ n. n ≡ lesser words.now.accept (n + left_count (G.left result.gate))) }
+    ensures fault { result.outcome ≡ Err DriveError.Fault
+        → Rose (F.faults folder.old) (F.faults folder.new) ⊎ (0 < G.faults result.gate) }
+    ensures later { F.faults folder.old ≤ F.faults folder.new }
+{
+    let SeedBytes { bytes, multidata } = seed;
+    let disk = match folder.open_disk(alloc, &words.journal) {
+        Ok(disk) => disk,
+        Err(FolderError::Failed) => return unserved(alloc, gate, DriveError::Fault),
+        Err(FolderError::Memory) => return unserved(alloc, gate, DriveError::Memory),
+    };
+    let terms = Terms {
+        workers: words.workers,
+        accept: words.accept,
+    };
+    let Ending {
+        disk,
+        gate,
+        served,
+        outcome,
+    } = host_on(
+        rt,
+        alloc,
+        disk,
+        multidata,
+        bytes.as_slice(),
+        &words.bind,
+        terms,
+        gate,
+    );
+    folder.close_disk(&words.journal, disk);
+    Coming {
+        outcome,
+        gate,
+        served,
+    }
+}
+
+/// A room that wasn't served.
+fn unserved<G: Gate>(alloc: Global, gate: G, error: DriveError) -> Coming<G>
+    ensures { result ≡ record { outcome = Err error; gate = gate; served = [] } }
+{
+    Coming {
+        outcome: Err(error),
+        gate,
+        served: List::new(alloc),
+    }
+}
+
+/// The line for how many links were accepted.
+fn sessions_text(alloc: Global, count: u64) -> Result<String, Memory>
+    ensures { IfOk result (λ t. string_bytes t ≡ sessions_line count) }
+{
+    Ok(format!(in alloc; "sessions {count}\n")?)
+}
+
+/// Puts how many links were accepted, where that is all.
+fn finish<O: Sink>(
+    alloc: Global,
+    out: &mut O,
+    outcome: Result<u64, DriveError>,
+) -> Result<(), Stop<DriveCause>>
+    ensures finishes { Finishes outcome (O.held out.old) (O.held out.new) result }
+    ensures fault { result ≡ Err Stop.Fault → (outcome ≡ Err DriveError.Fault)
+        ⊎ Rose (O.faults out.old) (O.faults out.new) }
+{
+    let count = outcome?;
+    let line = sessions_text(alloc, count)?;
+    put_text(out, line.as_str())
+}
+
+/// Does all that `serve` does but for its error line.
+fn serve<F: Folder, G: Gate + Send, O: Sink, R: Threads + Wait + Sync>(
+    rt: &R,
+    alloc: Global,
+    words: &ServeWords,
+    folder: &mut F,
+    gate: G,
+    out: &mut O,
+) -> (Result<(), Stop<DriveCause>>, G, List<List<Served<G::Line>>>)
+where
+    F::Drive: Drop,
+    requires workers { 1 ≤ words.now.workers }
+    requires faults { G.faults gate ≡ 0 }
+    requires given { G.given gate ≡ 0 }
+    ensures done { OnOk result.0 (ServeDone G.Line.heard G.Line.sent G.Line.faults G.Line.opened G.Line.is_shut
+        F.Drive.may_leave
+        (files_around F.holds F.images F.is_open F.may_fail F.faults folder.old folder.new)
+        words.now result.2 (O.held out.old) (O.held out.new)) }
+    ensures stopped { IfErr result.0 (λ stop. SeedStopped
+        (files_around F.holds F.images F.is_open F.may_fail F.faults folder.old folder.new)
+        words.now.multidata result.2 (O.held out.old) (O.held out.new) stop
+        ⊎ ServeStopped G.Line.heard G.Line.sent G.Line.faults G.Line.opened G.Line.is_shut
+        F.Drive.may_leave
+        (files_around F.holds F.images F.is_open F.may_fail F.faults folder.old folder.new)
+        words.now result.2 (O.held out.old) (O.held out.new) stop) }
+    ensures kept { ServeKeeps G.Line.heard G.Line.sent G.Line.faults G.Line.opened G.Line.is_shut
+        F.Drive.may_leave
+        (files_around F.holds F.images F.is_open F.may_fail F.faults folder.old folder.new)
+        words.now result.2 }
+    ensures leaves { JournalLeaves
+        (files_around F.holds F.images F.is_open F.may_fail F.faults folder.old folder.new)
+        (Some words.now.journal) }
+    ensures numbers { NoneTwice (all_numbers result.2) }
+    ensures given { G.given result.1 ≡ count_all result.2 }
+    ensures within { IsWithin words.now.accept (count_all result.2) }
+    ensures full { OnOk result.0 (count_all result.2
+        ≡ lesser words.now.accept (count_all result.2 + left_count (G.left result.1))) }
+    ensures fault { result.0 ≡ Err Stop.Fault
+        → Rose (F.faults folder.old) (F.faults folder.new)
+        ⊎ ((0 < G.faults result.1) ⊎ Rose (O.faults out.old) (O.faults out.new)) }
+{
+    match read_seed_bytes(alloc, folder, &words.multidata) {
+        Ok(seed) => {
+            let Coming {
+                outcome,
+                gate,
+                served,
+            } = serve_on_file(rt, alloc, seed, words, folder, gate);
+            (finish(alloc, out, outcome), gate, served)
+        }
+        Err(stop) => (Err(Stop::from(stop)), gate, List::new(alloc)),
+    }
+}
+
+/// Hosts the room of a seed file, which is kept in a journal: it listens at the address that the
+/// words name, and serves each link by a session, as many at once as there are workers. It ends
+/// once as many links were accepted as the words say, or where the gate gives no more, and prints
+/// how many there were. The gate is handed back, and for each worker the links that it served.
+///
+/// The seed file is judged first, then the journal; both before the gate listens. A journal is
+/// judged after its first gate that isn't open was written 0.
+///
+/// The status is 0 where all is done; 5 where the folder, the journal's disk, the gate or the out
+/// sink failed; 6 where memory ran out; 7 where the seed file or the journal is refused; 8 where the
+/// next batch would pass the journal's limit, or the room has had 2^63 calls. A room that has
+/// stopped is told first, then the gate, then memory. A link's fault changes no status. With a
+/// status other than 0 the error sink gets that status's line, or a front of it where it refuses.
+///
+/// Whatever the status is, what a crash may leave of the journal's file stays settled, and keeps all
+/// that was sent.
+pub fn cmd_serve<F: Folder, G: Gate + Send, O: Sink, E: Sink, R: Threads + Wait + Sync>(
+    rt: &R,
+    alloc: Global,
+    words: &ServeWords,
+    folder: &mut F,
+    gate: G,
+    out: &mut O,
+    err: &mut E,
+) -> (u8, G, List<List<Served<G::Line>>>)
+where
+    F::Drive: Drop,
+    requires workers { 1 ≤ words.now.workers }
+    requires faults { G.faults gate ≡ 0 }
+    requires given { G.given gate ≡ 0 }
+    ensures ends { ServeEnds G.Line.heard G.Line.sent G.Line.faults G.Line.opened G.Line.is_shut
+        F.Drive.may_leave result.0
+        (files_around F.holds F.images F.is_open F.may_fail F.faults folder.old folder.new)
+        words.now result.2 (told_by O.held O.faults out.old out.new)
+        (told_by E.held E.refusals err.old err.new) }
+    ensures numbers { NoneTwice (all_numbers result.2) }
+    ensures given { G.given result.1 ≡ count_all result.2 }
+    ensures within { IsWithin words.now.accept (count_all result.2) }
+    ensures full { result.0 ≡ 0 → count_all result.2
+        ≡ lesser words.now.accept (count_all result.2 + left_count (G.left result.1)) }
+    ensures fault { result.0 ≡ 5
+        → Rose (F.faults folder.old) (F.faults folder.new)
+        ⊎ ((0 < G.faults result.1) ⊎ Rose (O.faults out.old) (O.faults out.new)) }
+{
+    let (outcome, gate, served) = serve(rt, alloc, words, folder, gate, out);
+    (end(alloc, err, outcome), gate, served)
+}
