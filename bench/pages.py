@@ -93,8 +93,11 @@ def main():
     place = folder("shown")
     program = "crates/mw_cli/out/mw_cli"
     seed = "%s generate examples/players.json seed.json --seed 7; %s check examples/players.json seed.json; " % (program, program)
-    shows("README.md", texts("README.md")[0], run(place, seed + program + " drive seed.json < examples/first_find.txt"))
-    told = {page: run_page(page) for page in ("README.md", "docs/GENERATION.md", "docs/SCRIPTS.md", "docs/WORLD_FILES.md")}
+    _, live, played = texts("README.md")
+    shows("README.md", played, run(place, seed + program + " drive seed.json < examples/first_find.txt"))
+    told = {page: run_page(page) for page in ("README.md", "docs/GENERATION.md", "docs/HOSTING.md", "docs/SCRIPTS.md", "docs/WORLD_FILES.md")}
+    shows("README.md", live, told["README.md"][0])
+    shows("docs/HOSTING.md", live, told["docs/HOSTING.md"][0])
     shows("docs/WORLD_FILES.md", texts("docs/WORLD_FILES.md")[0], told["docs/WORLD_FILES.md"][0])
     if told["docs/SCRIPTS.md"][0] != read("examples/reconnect_output.txt"):
         differ("docs/SCRIPTS.md: examples/reconnect_output.txt")

@@ -1,6 +1,6 @@
 #!/usr/bin/env bash
-# Runs what the pages show on the built program, in a folder of its own: the scripts of examples/ beside their stored outputs, words and files that are refused beside the lines and statuses that the
-# pages tell, and, where Python is, the commands of each page, the texts that they show, and the tools beside what is stored in bench/pages/. It prints each difference, and how many there were.
+# Runs what the pages show on the built program, in a folder of its own: the scripts of examples/ beside their stored outputs, words, files and addresses that are refused beside the lines and statuses that
+# the pages tell, and, where Python is, the commands of each page, the texts that they show, a live room, and the tools beside what is stored in bench/pages/. It prints each difference, and how many there were.
 # Run after `rt run` in crates/mw_cli, which leaves the program.
 set -u
 cd "$(dirname "$0")/.."
@@ -49,7 +49,9 @@ same out.txt examples/resumed_output.txt examples/resumed.txt
 
 for words in "" "--help" "-h" "--version" "help" "generate" "generate P" "generate P O" "generate P O --seed" "generate P O --seed 05" "generate P O --seed +5" "generate P O --seed -1" \
   "generate P O --seed 18446744073709551616" "generate P O --seed 1 --seed 2" "generate P O --seed 1 --tries 0" "generate P O --seed 1 --tries 1001" "generate -- P O --seed 1" \
-  "check P" "check P S T" "reach" "reach -p" "new-room A" "drive" "drive A J K" "serve A"; do
+  "check P" "check P S T" "reach" "reach -p" "new-room A" "drive" "drive A J K" "serve A" "serve A J" "serve A --bind 127.0.0.1:1" "serve A J K --bind 127.0.0.1:1" "serve A J --bind" \
+  "serve A J --bind 127.0.0.1:1 --bind 127.0.0.1:2" "serve A J --bind 127.0.0.1:1 --workers 0" "serve A J --bind 127.0.0.1:1 --workers 65" "serve A J --bind 127.0.0.1:1 --workers 08" \
+  "serve A J --bind 127.0.0.1:1 --accept 0" "serve A J --bind 127.0.0.1:1 --accept 4294967296" "serve A J --bind 127.0.0.1:1 --accept 1 --accept 1"; do
   # The words are split at blanks.
   ends 2 'bad words' $words
 done
@@ -151,6 +153,26 @@ if [ "$(id -u)" != 0 ]; then
   chmod u+w folder room.journal
 fi
 
+# ---- rooms that aren't hosted
+
+"$program" new-room examples/room_a.json hosted.journal > out.txt
+ends 7 'journal refused: NotJournal' serve examples/room_a.json mistyped_room.journal --bind 127.0.0.1:1
+if [ ! -e mistyped_room.journal ] || [ -s mistyped_room.journal ]; then
+  echo "differs: a mistyped journal of a hosted room leaves no empty file"
+  differ=$((differ + 1))
+fi
+ends 7 'journal refused: OtherSeed' serve blank.json hosted.journal --bind 127.0.0.1:1
+ends 7 'multidata refused: NoJson /' serve hosted.journal examples/room_a.json --bind 127.0.0.1:1
+ends 5 'device failed' serve no_such_file.json hosted.journal --bind 127.0.0.1:1
+ends 5 'device failed' serve examples/room_a.json folder --bind 127.0.0.1:1
+for address in 127.0.0.1 38281 192.0.2.1:38281 127.0.0.1:65536 nowhere ''; do
+  ends 5 'device failed' serve examples/room_a.json hosted.journal --workers=64 --accept=4294967295 --bind "$address"
+done
+if [ "$(stat -c %s hosted.journal)" != 41 ]; then
+  echo "differs: a room that wasn't hosted changed its journal"
+  differ=$((differ + 1))
+fi
+
 # ---- lines of a script that are refused, and some that aren't
 
 script() {
@@ -172,6 +194,8 @@ done
 
 if command -v python3 > /dev/null; then
   PYTHONDONTWRITEBYTECODE=1 python3 "$top/bench/pages.py" "$top" "$work/pages"
+  differ=$((differ + $?))
+  PYTHONDONTWRITEBYTECODE=1 python3 "$top/bench/pages_live.py" "$program" "$work/live"
   differ=$((differ + $?))
 else
   echo "no python3: the commands of the pages and the tools are left out"

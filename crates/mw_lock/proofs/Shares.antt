@@ -164,6 +164,7 @@ module _ {V C R B : Type 0} (base : V → B) (replies : B → List (C × R) → 
           mine.seen,
           mine.told,
           subst (λ (z : B). IsLegal (replies z) r.log) (sym mine.base_is) r.legal,
+          mine.apart,
           each_map (Stood r.log r.made r.holder id) (λ x. calls_by x.0 r.log ≡ x.1) (listed me.0) (λ x h. h.2) mine.numbers,
           omega arith,
         ),
@@ -365,7 +366,7 @@ module _ {V C R B : Type 0} (base : V → B) (replies : B → List (C × R) → 
   -- where a pass stands for as many numbers as were given, the value is at home, and the pass has seen the whole history
   pub closes : (s : St) (r : Rule s) (id : ℕ) (v : Vw) → get_elem? s.views id ≡ some v → v.turn ≡ Free → v.live ≡ true → v.told ≡ [] → v.made ≡ length (listed v)
       → (x : D) × (s.homes ≡ some x ∷ []) × DeskStands base replies stands v.base.value (events v.seen) x
-      × Each (λ e. Has e.by (listed v)) v.seen × Each (λ y. calls_by y.0 v.seen ≡ y.1) (listed v)
+      × Each (λ e. Has e.by (listed v)) v.seen × Apart (listed v) × Each (λ y. calls_by y.0 v.seen ≡ y.1) (listed v)
   closes s r id v at free live told many = let mine = r.each_seat id v at live in let all : r.made ≡ length (listed v) = mine.whole many ∙ many in let k = r.known_all in
       let is_v : k.1 ≡ v = one_value s.views id k.1 v (ap (get_elem? s.views) (sym (alone s r id k.0 v k.1 at live all k.2 k.3)) ∙ k.2) at in
       let seen : v.seen ≡ r.log = seen_it r.log v mine.seen told (subst (KnowsAll r.log) is_v k.4) in
@@ -378,6 +379,7 @@ module _ {V C R B : Type 0} (base : V → B) (replies : B → List (C × R) → 
         subst (Each (λ e. Has e.by (listed v))) (sym seen)
             (entries_have r.made r.log (λ n. Has n (listed v)) r.below
             (all_of r.made (listed v) (λ n. Has n (listed v)) mine.apart (each_map (Stood r.log r.made r.holder id) (λ y. y.0 < r.made) (listed v) (λ y g. g.0) numbers) all (has_all (listed v)))),
+        mine.apart,
         subst (λ (z : Log). Each (λ y. calls_by y.0 z ≡ y.1) (listed v)) (sym seen) (each_map (Stood r.log r.made r.holder id) (λ y. calls_by y.0 r.log ≡ y.1) (listed v) (λ y g. g.2) numbers),
       ))
       (λ h. let j : ℕ = r.owner (length r.log) in let d = h.1 in

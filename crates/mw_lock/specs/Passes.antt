@@ -4,7 +4,7 @@ use mathlib.Core.List.{IsPrefix}
 use Rattle.atomic_table.specs.Seated.{TableId}
 use Rattle.mw_lock.specs.declared.view.Entry.{Entry}
 use Rattle.mw_lock.specs.History.{entry, events, calls_by, IsLegal}
-use Rattle.mw_lock.specs.Rule.{Each, Has}
+use Rattle.mw_lock.specs.Rule.{Apart, Each, Has}
 
 -- What a contract says of a pass: its lock, its number, the entries that it has seen, its own calls, the passes that met in it, each with its number and its calls, and the base of the lock's value.
 -- `counts` tells how many numbers the lock had given, each time that this pass counted them, the last first.
@@ -42,10 +42,13 @@ module _ {C R B : Type 0} where
   Counts v w out = (given : ℕ) × (w ≡ record v { counts = given ∷ v.counts })
       × (out + length (numbers v) ≡ given)
 
-  -- what the pass has seen are the calls of the numbers that it stands for, and no others
+  -- the numbers that the pass stands for all differ, and what it has seen has under each of them just its calls
+  abbrev pub KnowsCalls : Known C R B → Type 0
+  KnowsCalls v = Apart (numbers v) × Each (λ x. calls_by x.0 v.seen ≡ x.1) (numbers v)
+
+  -- what the pass has seen are the calls of the numbers that it stands for, each once, and no others
   abbrev pub IsWhole : Known C R B → Type 0
-  IsWhole v = Each (λ e. Has e.by (numbers v)) v.seen
-      × Each (λ x. calls_by x.0 v.seen ≡ x.1) (numbers v)
+  IsWhole v = Each (λ e. Has e.by (numbers v)) v.seen × KnowsCalls v
 
 module _ {C R B : Type 0} (replies : B → List (C × R) → C → R → Type 0) where
   -- what was seen is legal, and has just the pass's own calls under its number
