@@ -1,11 +1,9 @@
 //! What words ask for.
 use crate::harness::{agree, words_of};
 use mw_base::Text;
-use mw_words::{CommandLine, WordsError, read_words};
+use mw_words::{CommandLine, ServeWords, WordsError, read_words};
 use std::alloc::Global;
-use std::sync::Wait;
 use std::test::Fail;
-use std::thread::Threads;
 
 /// A command, its first name, and its second one where it has two.
 fn names_of(line: &CommandLine) -> (&'static str, &str, Option<&str>) {
@@ -18,6 +16,7 @@ fn names_of(line: &CommandLine) -> (&'static str, &str, Option<&str>) {
             Some(journal) => ("drive", w.multidata.as_str(), Some(journal.as_str())),
             None => ("drive", w.multidata.as_str(), None),
         },
+        CommandLine::Serve(w) => ("serve", w.multidata.as_str(), Some(w.journal.as_str())),
     }
 }
 
@@ -30,6 +29,16 @@ fn told_names(alloc: Global, line: &CommandLine) -> Result<String, Fail> {
     }
 }
 
+/// What `serve` is asked for, behind its names.
+fn told_terms(alloc: Global, names: &str, words: &ServeWords) -> Result<String, Fail> {
+    let bind = words.bind.as_str();
+    let workers = u64::from(words.workers);
+    match words.accept {
+        Some(accept) => Ok(format!(in alloc; "{names} <{bind}> {workers} {accept}")?),
+        None => Ok(format!(in alloc; "{names} <{bind}> {workers}")?),
+    }
+}
+
 /// What a command line asks for, in one line.
 fn told_line(alloc: Global, line: &CommandLine) -> Result<String, Fail> {
     let names = told_names(alloc, line)?;
@@ -38,6 +47,7 @@ fn told_line(alloc: Global, line: &CommandLine) -> Result<String, Fail> {
             let names = names.as_str();
             Ok(format!(in alloc; "{names} {} {}", w.seed, w.tries)?)
         }
+        CommandLine::Serve(w) => told_terms(alloc, names.as_str(), w),
         _ => Ok(names),
     }
 }
@@ -51,7 +61,7 @@ fn told_error(error: WordsError) -> &'static str {
 }
 
 /// What words ask for.
-fn told<R: Threads + Wait + Sync>(rt: &R, alloc: Global, words: &[Text]) -> Result<String, Fail> {
+fn told(alloc: Global, words: &[Text]) -> Result<String, Fail> {
     match read_words(alloc, words) {
         Ok(line) => told_line(alloc, &line),
         Err(error) => Ok(String::from_str(alloc, told_error(error))?),
@@ -59,10 +69,10 @@ fn told<R: Threads + Wait + Sync>(rt: &R, alloc: Global, words: &[Text]) -> Resu
 }
 
 /// Fails where words with a blank between them ask for something else than a case tells.
-fn ask_so<R: Threads + Wait + Sync>(rt: &R, alloc: Global, case: &str) -> Result<(), Fail> {
+fn ask_so(alloc: Global, case: &str) -> Result<(), Fail> {
     let (words, wanted) = case.split_once(" | ").ok_or("no case")?;
     let words = words_of(alloc, words)?;
-    agree(alloc, told(rt, alloc, &words)?.as_str(), wanted, case)
+    agree(alloc, told(alloc, &words)?.as_str(), wanted, case)
 }
 
 /// Words, and what they ask for.
@@ -116,22 +126,23 @@ drive A | drive <A>
 drive -- A | drive <A>
 drive A J | drive <A> <J>
 drive A J K | bad words
-serve A | bad words";
+serve A | bad words
+serve A J | bad words
+serve A J --bind h:1 | serve <A> <J> <h:1> 32
+serve A J --bind h:1 --workers 64 --accept 3 | serve <A> <J> <h:1> 64 3
+serve A J --bind h:1 --workers 0 | bad words
+serve A J --bind h:1 --workers 65 | bad words
+serve A J --bind h:1 --accept 0 | bad words";
 
 #[test]
 fn each_row_asks_for_this(rt: HostRuntime) -> Result<(), Fail> {
     for case in ROWS.split('\n') {
-        ask_so(&rt, rt.alloc(), case)?;
+        ask_so(rt.alloc(), case)?;
     }
     Ok(())
 }
 
 #[test]
 fn no_words(rt: HostRuntime) -> Result<(), Fail> {
-    agree(
-        rt.alloc(),
-        told(&rt, rt.alloc(), &[])?.as_str(),
-        "bad words",
-        "",
-    )
+    agree(rt.alloc(), told(rt.alloc(), &[])?.as_str(), "bad words", "")
 }
