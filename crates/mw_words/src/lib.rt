@@ -12,4 +12,5 @@ pub use command_line::{
     CheckWords, CommandLine, DriveWords, GenerateWords, NewRoomWords, ReachWords, ServeWords,
 };
 pub use error::WordsError;
+pub use number::number_of;
 pub use words::{has_one_meaning, read_words};

@@ -14,7 +14,7 @@ fn begins_amiss(word: &str) -> bool
 
 /// The number from `least` to `most` that a word is in decimal; None exactly where it is none, as where a 0 stands
 /// before other digits.
-pub(crate) fn number_of(word: &str, least: u64, most: u64) -> Option<u64>
+pub fn number_of(word: &str, least: u64, most: u64) -> Option<u64>
     ensures some { IfSome result (λ n. word.now ≡ decimal n) }
     ensures range { IfSome result (λ n. (least ≤ n) × (n ≤ most)) }
     ensures none { IfNone result ((n : ℕ) → least ≤ n → n ≤ most → word.now ≡ decimal n → ⊥) }
