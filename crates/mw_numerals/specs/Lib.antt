@@ -1,0 +1,4 @@
+pub mod Marks
+pub mod Numerals
+pub mod Pieces
+pub mod View
