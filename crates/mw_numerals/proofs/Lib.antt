@@ -1,2 +1,4 @@
+pub mod Laws
 pub mod Numerals
 pub mod Pieces
+pub mod Runs

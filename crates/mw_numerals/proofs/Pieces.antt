@@ -7,16 +7,16 @@ use Rattle.mw_numerals.specs.Pieces.{Piece, run, piece_text, begins_run, IsPiece
 
 -- ---- a text by its first piece
 
-pub rewritten_none : (write : Piece → List ℕ) → IsRewritten write [] []
-rewritten_none write = record { pieces = []; are = tt; before_is = refl; after_is = refl }
+pub rewritten_none : (change : Piece → Piece) → IsRewritten change [] []
+rewritten_none change = record { pieces = []; are = tt; before_is = refl; after_is = refl }
 
-pub rewritten_more : (write : Piece → List ℕ) (p : Piece) (rest text after : List ℕ) → piece_text p ++ rest ≡ text → IsPiece p → EndsBefore rest p → IsRewritten write rest after
-    → IsRewritten write text (write p ++ after)
-rewritten_more write p rest text after e is ends r = record {
+pub rewritten_more : (change : Piece → Piece) (p : Piece) (rest text after : List ℕ) → piece_text p ++ rest ≡ text → IsPiece p → EndsBefore rest p → IsRewritten change rest after
+    → IsRewritten change text (piece_text (change p) ++ after)
+rewritten_more change p rest text after e is ends r = record {
   pieces = p ∷ r.pieces;
   are = (is, subst (λ t. EndsBefore t p) (sym r.before_is) ends, r.are);
   before_is = ap (λ t. piece_text p ++ t) r.before_is ∙ e;
-  after_is = ap (λ t. write p ++ t) r.after_is;
+  after_is = ap (λ t. piece_text (change p) ++ t) r.after_is;
 }
 
 -- ---- a string's bytes, one more
@@ -49,18 +49,18 @@ one_more text at e h none is inside =
 
 -- ---- a loop over the pieces
 
-module _ (write : Piece → List ℕ) (whole : List ℕ) where
+module _ (change : Piece → Piece) (whole : List ℕ) where
   -- what is out already is followed by whatever the rest is written as
   abbrev pub GoesOn : List ℕ → List ℕ → Type 0
-  GoesOn out rest = (after : List ℕ) → IsRewritten write rest after → IsRewritten write whole (out ++ after)
+  GoesOn out rest = (after : List ℕ) → IsRewritten change rest after → IsRewritten change whole (out ++ after)
 
-  pub goes_on : (p : Piece) (text rest out more : List ℕ) → GoesOn out text → piece_text p ++ rest ≡ text → IsPiece p → EndsBefore rest p → more ≡ out ++ write p → GoesOn more rest
+  pub goes_on : (p : Piece) (text rest out more : List ℕ) → GoesOn out text → piece_text p ++ rest ≡ text → IsPiece p → EndsBefore rest p → more ≡ out ++ piece_text (change p) → GoesOn more rest
   goes_on p text rest out more h e is ends m = λ after r.
-      subst (IsRewritten write whole) (sym (append_assoc out (write p) after) ∙ ap (λ o. o ++ after) (sym m)) (h (write p ++ after) (rewritten_more write p rest text after e is ends r))
+      subst (IsRewritten change whole) (sym (append_assoc out (piece_text (change p)) after) ∙ ap (λ o. o ++ after) (sym m)) (h (piece_text (change p) ++ after) (rewritten_more change p rest text after e is ends r))
 
-  pub is_out : (rest out : List ℕ) → GoesOn out rest → length rest ≡ 0 → IsRewritten write whole out
+  pub is_out : (rest out : List ℕ) → GoesOn out rest → length rest ≡ 0 → IsRewritten change whole out
   is_out rest out h e =
-      subst (IsRewritten write whole) (append-nil out) (h [] (subst (λ t. IsRewritten write t []) (sym (nil_from_length rest e)) (rewritten_none write)))
+      subst (IsRewritten change whole) (append-nil out) (h [] (subst (λ t. IsRewritten change t []) (sym (nil_from_length rest e)) (rewritten_none change)))
 
 -- ---- the run that a text begins with
 

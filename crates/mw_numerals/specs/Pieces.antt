@@ -1,5 +1,5 @@
 -- A text in pieces: its strings, the numerals' characters between them, and each other byte.
-use Rattle.std.specs.Prelude.{◌≡◌, ◌==◌, ◌&&◌, ℕ, List, [], ◌∷◌, ◌++◌, Bool, true, false, not}
+use Rattle.std.specs.Prelude.{◌≡◌, ◌==◌, ◌&&◌, ℕ, List, [], ◌∷◌, ◌++◌, map, Bool, true, false, not}
 use Rattle.std.specs.List.{list_all, flat_map}
 use Rattle.json.specs.Ascii as ascii
 use Rattle.mw_numerals.specs.Numerals.{is_numeral_byte}
@@ -66,9 +66,9 @@ abbrev pub ArePieces : List Piece → Type 0
 ArePieces [] = Unit {0}
 ArePieces (p ∷ ps) = IsPiece p × EndsBefore (text_of ps) p × ArePieces ps
 
--- one text is the other with each piece written anew
-pub record IsRewritten (write : Piece → List ℕ) (before after : List ℕ) : Type 0 where
+-- one text is the other with each of its pieces changed
+pub record IsRewritten (change : Piece → Piece) (before after : List ℕ) : Type 0 where
   pub pieces : List Piece
   pub are : ArePieces pieces
   pub before_is : text_of pieces ≡ before
-  pub after_is : flat_map write pieces ≡ after
+  pub after_is : text_of (map change pieces) ≡ after

@@ -1,11 +1,13 @@
 //! JSON texts in which each numeral that is no plain whole number stands as a string.
 #![tactic(auto)]
 
+mod undone;
 mod marking;
 mod numeral;
 mod piece;
 mod put;
 mod unmarking;
 
+pub use undone::marks_are_undone;
 pub use marking::mark;
 pub use unmarking::unmark;

@@ -1,6 +1,6 @@
 ghost use Rattle.std.specs.Prelude.{◌≡◌, ◌++◌, IfOk, OnOk};
 ghost use Rattle.mw_numerals.specs.Marks.{marked, IsMarked};
-ghost use Rattle.mw_numerals.specs.Pieces.{IsPiece};
+ghost use Rattle.mw_numerals.specs.Pieces.{IsPiece, piece_text};
 ghost use Rattle.mw_numerals.specs.View.{view};
 
 use crate::numeral::is_kept;
@@ -27,7 +27,8 @@ pub fn mark(alloc: Global, bytes: &[u8]) -> Result<Vec<u8>, AllocError>
 
 fn put_marked(out: &mut Vec<u8>, piece: Piece<'_>) -> Result<(), AllocError>
     requires { IsPiece (view piece) }
-    ensures { OnOk result (out.new.items ≡ out.old.items ++ marked (view piece.entry)) }
+    ensures { OnOk result (out.new.items
+        ≡ out.old.items ++ piece_text (marked (view piece.entry))) }
 {
     match piece {
         Piece::Quoted(inner) => put_quoted(out, b"s", inner),

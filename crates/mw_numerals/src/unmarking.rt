@@ -1,5 +1,6 @@
 ghost use Rattle.std.specs.Prelude.{◌≡◌, ◌++◌, IfOk, OnOk};
 ghost use Rattle.mw_numerals.specs.Marks.{unmarked, IsUnmarked};
+ghost use Rattle.mw_numerals.specs.Pieces.{piece_text};
 ghost use Rattle.mw_numerals.specs.View.{view};
 
 use crate::piece::{Piece, first_piece};
@@ -22,7 +23,8 @@ pub fn unmark(alloc: Global, bytes: &[u8]) -> Result<Vec<u8>, AllocError>
 }
 
 fn put_unmarked(out: &mut Vec<u8>, piece: Piece<'_>) -> Result<(), AllocError>
-    ensures { OnOk result (out.new.items ≡ out.old.items ++ unmarked (view piece.entry)) }
+    ensures { OnOk result (out.new.items
+        ≡ out.old.items ++ piece_text (unmarked (view piece.entry))) }
 {
     match piece {
         Piece::Quoted([b's', inner @ ..]) => put_quoted(out, b"", inner),

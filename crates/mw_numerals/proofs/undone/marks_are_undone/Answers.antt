@@ -1,0 +1,11 @@
+use Rattle.mw_numerals.proofs.Laws.{one_way, comes_back, stays_apart}
+use Rattle.mw_numerals.proofs.undone.marks_are_undone.Goals as goal
+
+pub returns-clause-one_way : goal.returns-clause-one_way
+returns-clause-one_way c = one_way
+
+pub returns-clause-back : goal.returns-clause-back
+returns-clause-back c = comes_back
+
+pub returns-clause-apart : goal.returns-clause-apart
+returns-clause-apart c = stays_apart

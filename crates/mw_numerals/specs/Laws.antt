@@ -1,0 +1,20 @@
+-- What holds of marked texts.
+use Rattle.std.specs.Prelude.{◌≡◌, ℕ, List}
+use Rattle.mw_numerals.specs.Marks.{IsMarked, IsUnmarked}
+use Rattle.mw_numerals.specs.Pieces.{Piece, IsRewritten}
+
+-- a text has its pieces in one way, so changing them gives one text
+abbrev pub ChangesInOneWay : Type 0
+ChangesInOneWay =
+    (change : Piece → Piece) (text one other : List ℕ)
+    → IsRewritten change text one → IsRewritten change text other → one ≡ other
+
+-- without its marks a marked text is what it was before
+abbrev pub ComesBack : Type 0
+ComesBack =
+    (text marked back : List ℕ) → IsMarked text marked → IsUnmarked marked back → back ≡ text
+
+-- no two texts are marked the same
+abbrev pub StaysApart : Type 0
+StaysApart =
+    (one other marked : List ℕ) → IsMarked one marked → IsMarked other marked → one ≡ other
