@@ -35,7 +35,7 @@ no_cut s r a h i j eq =
 
 -- ---- runs
 
-same_run : (s r a b : List ℕ) → list_all is_numeral_byte s ≡ true → list_all is_numeral_byte r ≡ true → begins_run a ≡ false → begins_run b ≡ false
+pub same_run : (s r a b : List ℕ) → list_all is_numeral_byte s ≡ true → list_all is_numeral_byte r ≡ true → begins_run a ≡ false → begins_run b ≡ false
     → s ++ a ≡ r ++ b → (s ≡ r) × (a ≡ b)
 same_run [] [] a b h k i j eq = (refl, eq)
 same_run [] (y ∷ r) a b h k i j eq = absurd (false≢true (sym i ∙ (ap begins_run eq ∙ (and_parts (is_numeral_byte y) _ k).0)))
@@ -53,10 +53,10 @@ not_run : (x y : ℕ) → is_numeral_byte x ≡ true → is_numeral_byte y ≡ f
 not_run x y h k e = true≢false (sym h ∙ ap is_numeral_byte e ∙ k)
 
 -- the two pieces are one, and so are what follows them
-abbrev SameFirst : Piece → Piece → List ℕ → List ℕ → Type 0
+abbrev pub SameFirst : Piece → Piece → List ℕ → List ℕ → Type 0
 SameFirst p q a b = (p ≡ q) × (a ≡ b)
 
-after_quote : (s a : List ℕ) → piece_text (quoted s) ++ a ≡ 34 ∷ (s ++ 34 ∷ a)
+pub after_quote : (s a : List ℕ) → piece_text (quoted s) ++ a ≡ 34 ∷ (s ++ 34 ∷ a)
 after_quote s a = ap (λ t. 34 ∷ t) (append_assoc s (34 ∷ []) a)
 
 tail_of : (x y : ℕ) (s r : List ℕ) → x ∷ s ≡ y ∷ r → s ≡ r
@@ -65,7 +65,7 @@ tail_of x y s r e = cc
 nothing_else : (s a : List ℕ) → a ≡ [] → s ++ a ≡ s
 nothing_else s a e = ap (λ t. s ++ t) e ∙ append-nil s
 
-same_first : (p q : Piece) (a b : List ℕ) → IsPiece p → EndsBefore a p → IsPiece q → EndsBefore b q → piece_text p ++ a ≡ piece_text q ++ b → SameFirst p q a b
+pub same_first : (p q : Piece) (a b : List ℕ) → IsPiece p → EndsBefore a p → IsPiece q → EndsBefore b q → piece_text p ++ a ≡ piece_text q ++ b → SameFirst p q a b
 same_first (quoted s) (quoted r) a b h i j k e =
     let both = same_string false s r a b h.0 h.1 j.0 j.1 (tail_of 34 34 _ _ (sym (after_quote s a) ∙ e ∙ after_quote r b)) in
     (ap quoted both.0, both.1)
@@ -92,7 +92,7 @@ same_first (cut s) (other y) a b h i j k e = absurd (eqb-false y 34 j.0 cc)
 same_first (other x) (quoted r) a b h i j k e = absurd (eqb-false x 34 h.0 cc)
 same_first (other x) (cut r) a b h i j k e = absurd (eqb-false x 34 h.0 cc)
 
-not_empty : (p : Piece) (a : List ℕ) → IsPiece p → [] ≡ piece_text p ++ a → ⊥
+pub not_empty : (p : Piece) (a : List ℕ) → IsPiece p → [] ≡ piece_text p ++ a → ⊥
 not_empty (quoted s) a h e = cc
 not_empty (cut s) a h e = cc
 not_empty (run []) a h e = false≢true h.0
@@ -115,7 +115,7 @@ one_way change text first second a b =
 -- ---- the pieces of a marked text
 
 -- by whether a run is kept
-by_kept : (P : Piece → Type 0) (s : List ℕ) (b : Bool) → P (quoted (110 ∷ s)) → P (run s) → P (cond b (quoted (110 ∷ s)) (run s))
+pub by_kept : (P : Piece → Type 0) (s : List ℕ) (b : Bool) → P (quoted (110 ∷ s)) → P (run s) → P (cond b (quoted (110 ∷ s)) (run s))
 by_kept P s true h k = h
 by_kept P s false h k = k
 
@@ -144,7 +144,7 @@ ends_marked (cut s) ps h k = nothing_marked ps h k
 ends_marked (run s) ps h k = by_kept (EndsBefore (text_of (map marked ps))) s (is_kept s) tt (begins_marked ps h k)
 ends_marked (other x) ps h k = tt
 
-are_marked : (ps : List Piece) → ArePieces ps → ArePieces (map marked ps)
+pub are_marked : (ps : List Piece) → ArePieces ps → ArePieces (map marked ps)
 are_marked [] h = tt
 are_marked (p ∷ ps) h = (marked_is_piece p h.0, ends_marked p ps h.2 h.1, are_marked ps h.2)
 

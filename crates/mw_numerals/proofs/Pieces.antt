@@ -64,14 +64,15 @@ module _ (change : Piece → Piece) (whole : List ℕ) where
 
 -- ---- the run that a text begins with
 
-all_of_run : (xs : List ℕ) → list_all is_numeral_byte (take (prefix_len is_numeral_byte xs) xs) ≡ true
-all_of_run [] = refl
-all_of_run (x ∷ xs) = by_first (all_of_run xs) (is_numeral_byte x) refl
+-- the first elements that pass a test all do
+pub all_pass : (p : ℕ → Bool) (xs : List ℕ) → list_all p (take (prefix_len p xs) xs) ≡ true
+all_pass p [] = refl
+all_pass p (x ∷ xs) = by_first (all_pass p xs) (p x) refl
   where
-    by_first : list_all is_numeral_byte (take (prefix_len is_numeral_byte xs) xs) ≡ true → (b : Bool) → is_numeral_byte x ≡ b → list_all is_numeral_byte (take (cond b (1 + prefix_len is_numeral_byte xs) 0) (x ∷ xs)) ≡ true
+    by_first : list_all p (take (prefix_len p xs) xs) ≡ true → (b : Bool) → p x ≡ b → list_all p (take (cond b (1 + prefix_len p xs) 0) (x ∷ xs)) ≡ true
     by_first others true e =
-        let one : suc (prefix_len is_numeral_byte xs) ≡ 1 + prefix_len is_numeral_byte xs = omega arith in
-        subst (λ k. list_all is_numeral_byte (take k (x ∷ xs)) ≡ true) one (ap (λ b. b && list_all is_numeral_byte (take (prefix_len is_numeral_byte xs) xs)) e ∙ others)
+        let one : suc (prefix_len p xs) ≡ 1 + prefix_len p xs = omega arith in
+        subst (λ k. list_all p (take k (x ∷ xs)) ≡ true) one (ap (λ b. b && list_all p (take (prefix_len p xs) xs)) e ∙ others)
     by_first others false e = refl
 
 run_begins : (xs : List ℕ) → begins_run xs ≡ true → begins_run (take (prefix_len is_numeral_byte xs) xs) ≡ true
@@ -86,7 +87,7 @@ begins_at [] h e = absurd (omega arith)
 begins_at (x ∷ xs) h e = e
 
 pub run_is : (xs : List ℕ) → begins_run xs ≡ true → IsPiece (run (take (prefix_len is_numeral_byte xs) xs))
-run_is xs h = (run_begins xs h, all_of_run xs)
+run_is xs h = (run_begins xs h, all_pass is_numeral_byte xs)
 
 pub run_ends : (xs : List ℕ) → begins_run (drop (prefix_len is_numeral_byte xs) xs) ≡ false
 run_ends [] = refl
