@@ -35,10 +35,17 @@ abbrev pub rest_of : List Heard → List Heard
 rest_of [] = []
 rest_of (h ∷ hs) = hs
 
--- the links that a gate is to give, and how many it has given
+-- the links that a gate is to give, how many it has given, whether it has answered that it gives no
+-- more, and the addresses at which it was made ready
 pub record Gateway (L : Type 0) : Type 0 where
   pub left : List L
   pub given : ℕ
+  pub ended : Bool
+  pub listened : List (List ℕ)
+
+-- a gate that has given none yet
+abbrev pub new_gateway : {L : Type 0} → List L → Gateway L
+new_gateway left = record { left = left; given = 0; ended = false; listened = [] }
 
 -- the same, of a gate whose calls fail as planned, and the plan
 pub record PlannedGateway (L : Type 0) : Type 0 where

@@ -17,7 +17,9 @@ abbrev pub counted : LinkError → SocketLine → SocketLine
 counted Failed l = record l { faults = l.faults + 1 }
 counted Memory l = l
 
--- how many links a gate has given, and how often it has failed
+-- how many links a gate has given, the addresses at which it was made ready, and how often it has
+-- failed
 pub record SocketGateway : Type 0 where
   pub given : ℕ
+  pub listened : List (List ℕ)
   pub faults : ℕ

@@ -1,5 +1,5 @@
 -- What links and gates tell of each call.
-use Rattle.std.specs.Prelude.{◌≡◌, ◌+◌, ℕ, Bool, false, List, [], ◌∷◌, ◌++◌, Option, None, Some, Result, Ok, Err}
+use Rattle.std.specs.Prelude.{◌≡◌, ◌+◌, ℕ, Bool, true, false, List, [], ◌∷◌, ◌++◌, Option, None, Some, Result, Ok, Err}
 use Rattle.mw_link.specs.declared.link.Heard.{Heard}
 use Rattle.mw_link.specs.declared.link.LinkError.{LinkError}
 
@@ -8,7 +8,7 @@ abbrev pub Hears : {T E : Type 0} → List T → List T → Result T E → Type 
 Hears old new (Ok x) = new ≡ old ++ x ∷ []
 Hears old new (Err e) = new ≡ old
 
--- what was sent grows by the text, or stays
+-- a list of texts grows by one where a call took it, and else stays
 abbrev pub Sends : {T E U : Type 0} → List T → List T → T → Result U E → Type 0
 Sends old new text (Ok u) = new ≡ old ++ text ∷ []
 Sends old new text (Err e) = new ≡ old
@@ -22,6 +22,12 @@ abbrev pub given_after : {L E : Type 0} → ℕ → Result (Option L) E → ℕ
 given_after n (Ok (Some l)) = n + 1
 given_after n (Ok None) = n
 given_after n (Err e) = n
+
+-- whether a gate has answered that it gives no more
+abbrev pub ended_after : {L E : Type 0} → Bool → Result (Option L) E → Bool
+ended_after ended (Ok (Some l)) = ended
+ended_after ended (Ok None) = true
+ended_after ended (Err e) = ended
 
 -- a gate that tells which links are left gives the first of them, and none only where none is left
 abbrev pub Gives : {L E : Type 0} → Option (List L) → Option (List L) → Result (Option L) E → Type 0

@@ -2,7 +2,7 @@ ghost use Rattle.std.specs.Prelude.{◌≡◌, ◌≢◌, ◌+◌, ◌↔◌, []
 ghost use Rattle.mw_edges.specs.Causes.{HasCause, HasFault};
 ghost use Rattle.mw_edges.specs.FaultPlan.{after_call, fails};
 ghost use Rattle.mw_link.specs.Memory.{AreNew, next_of, new_line, rest_of};
-ghost use Rattle.mw_link.specs.Tells.{Gives, Hears, IfGiven, IsNew, Sends, given_after};
+ghost use Rattle.mw_link.specs.Tells.{Gives, Hears, IfGiven, IsNew, Sends, ended_after, given_after};
 
 use crate::gate::Gate;
 use crate::link::{Heard, Link, LinkError};
@@ -155,11 +155,17 @@ impl<T: Link + Send + Drop> Gate for MemoryGate<T> {
 
     ghost left = { λ g. Some g.gateway.left };
 
+    ghost ended = { λ g. g.gateway.ended };
+
+    ghost listened = { λ g. g.gateway.listened };
+
     ghost faults = { λ g. g.plan.count };
 
-    fn listen(&mut self, _at: &Text) -> Result<(), Failed>
+    fn listen(&mut self, at: &Text) -> Result<(), Failed>
         ensures given { self.new.gateway.given ≡ self.old.gateway.given }
         ensures left { Some self.new.gateway.left ≡ Some self.old.gateway.left }
+        ensures ended { self.new.gateway.ended ≡ self.old.gateway.ended }
+        ensures listened { Sends self.old.gateway.listened self.new.gateway.listened at.now result }
         ensures ok { OnOk result (self.new.plan.count ≡ self.old.plan.count) }
         ensures cause { HasFault self.old.plan.count self.new.plan.count result }
         ensures failed { IsErr result ↔ IsTrue (fails self.old.plan) }
@@ -168,12 +174,15 @@ impl<T: Link + Send + Drop> Gate for MemoryGate<T> {
         if self.faults.count_call(false) {
             return Err(Failed);
         }
+        self.inner.note(at);
         Ok(())
     }
 
     fn accept(&mut self) -> Result<Option<T>, LinkError>
         ensures given { self.new.gateway.given ≡ given_after self.old.gateway.given result }
         ensures left { Gives (Some self.old.gateway.left) (Some self.new.gateway.left) result }
+        ensures ended { self.new.gateway.ended ≡ ended_after self.old.gateway.ended result }
+        ensures listened { self.new.gateway.listened ≡ self.old.gateway.listened }
         ensures new { IfGiven result (IsNew T.heard T.sent T.faults T.is_shut) }
         ensures cause { HasCause self.old.plan.count self.new.plan.count LinkError.Failed result }
         ensures failed { IsErr result ↔ IsTrue (fails self.old.plan) }

@@ -1,7 +1,7 @@
 ghost use Rattle.std.specs.Prelude.{◌≡◌, ◌≢◌, ◌+◌, [], ◌∷◌, ◌++◌, true, false, Some, Ok, Err, IfOk, OnOk, OnErr};
 ghost use Rattle.mw_edges.specs.Causes.{CountsErr, HasCause, HasFault};
-ghost use Rattle.mw_link.specs.Memory.{AreNew, Line, new_line, next_of, rest_of};
-ghost use Rattle.mw_link.specs.Tells.{Gives, Hears, IfGiven, IsNew, Sends, given_after, told};
+ghost use Rattle.mw_link.specs.Memory.{AreNew, Line, new_gateway, new_line, next_of, rest_of};
+ghost use Rattle.mw_link.specs.Tells.{Gives, Hears, IfGiven, IsNew, Sends, ended_after, given_after, told};
 
 use crate::gate::Gate;
 use crate::link::{Heard, Link, LinkError};
@@ -160,11 +160,15 @@ impl Link for SteadyLink {
     }
 }
 
-/// A gate that gives the links of a list, all of them new, and then none. It never fails. Contracts
-/// see the links that are left, and how many it has given.
+/// A gate that gives the links of a list, all of them new, and then none. It never fails.
+///
+/// Contracts see the links that are left, how many it has given, whether it has answered that it
+/// gives no more, and the addresses at which it was made ready.
 pub struct SteadyGate<T: Link> {
     left: VecDeque<T>,
     given: Tally,
+    ended: bool,
+    listened: Log<Text>,
 }
 
 impl<T: Link> Model for SteadyGate<T> {
@@ -172,14 +176,24 @@ impl<T: Link> Model for SteadyGate<T> {
 
     ghost Value = { Gateway T };
 
-    ghost view = { λ g. record { left = g.left.items; given = g.given } };
+    ghost view = { λ g. record {
+      left = g.left.items;
+      given = g.given;
+      ended = g.ended;
+      listened = g.listened;
+    } };
 
     ghost invariant = { λ g. AreNew T.heard T.sent T.faults T.is_shut g.left.items };
 }
 
 impl<T: Link + Drop> Drop for SteadyGate<T> {
     fn drop(self) {
-        let SteadyGate { left: _, given: _ } = self;
+        let SteadyGate {
+            left: _,
+            given: _,
+            ended: _,
+            listened: _,
+        } = self;
     }
 }
 
@@ -187,18 +201,29 @@ impl<T: Link> SteadyGate<T> {
     /// A gate that gives these links.
     pub fn new(left: VecDeque<T>) -> SteadyGate<T>
         requires new { AreNew T.heard T.sent T.faults T.is_shut left.items }
-        ensures { result ≡ record { left = left.items; given = 0 } }
+        ensures { result ≡ new_gateway left.items }
     {
         SteadyGate {
             left,
             given: Tally::new(),
+            ended: false,
+            listened: Log::new(),
         }
+    }
+
+    /// Makes it ready at an address.
+    pub(crate) fn note(&mut self, at: &Text)
+        ensures { self.new ≡ record self.old { listened = self.old.listened ++ at.now ∷ [] } }
+    {
+        self.listened.note(at);
     }
 
     /// The next link, where one is left.
     pub(crate) fn give(&mut self) -> Option<T>
         ensures given { self.new.given ≡ given_after self.old.given (told result) }
         ensures left { Gives (Some self.old.left) (Some self.new.left) (told result) }
+        ensures ended { self.new.ended ≡ ended_after self.old.ended (told result) }
+        ensures listened { self.new.listened ≡ self.old.listened }
         ensures new { IfGiven (told result) (IsNew T.heard T.sent T.faults T.is_shut) }
     {
         match self.left.pop_front() {
@@ -206,7 +231,10 @@ impl<T: Link> SteadyGate<T> {
                 self.given.raise();
                 Some(line)
             }
-            None => None,
+            None => {
+                self.ended = true;
+                None
+            }
         }
     }
 }
@@ -218,9 +246,14 @@ impl<T: Link + Send + Drop> Gate for SteadyGate<T> {
 
     ghost left = { λ g. Some g.left };
 
+    ghost ended = { λ g. g.ended };
+
+    ghost listened = { λ g. g.listened };
+
     ghost faults = { λ _. 0 };
 
-    fn listen(&mut self, _at: &Text) -> Result<(), Failed> {
+    fn listen(&mut self, at: &Text) -> Result<(), Failed> {
+        self.note(at);
         Ok(())
     }
 

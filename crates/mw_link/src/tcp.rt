@@ -1,7 +1,8 @@
-ghost use Rattle.std.specs.Prelude.{◌≡◌, None};
+ghost use Rattle.std.specs.Prelude.{◌≡◌, [], None, false};
 
 use crate::gate::Gate;
 use crate::link::LinkError;
+use crate::log::Log;
 use crate::socket::SocketLink;
 use mw_base::Text;
 use mw_edges::{Failed, Tally};
@@ -22,12 +23,13 @@ const WRITE_WAIT: u64 = 30;
 /// small frames leave at once.
 ///
 /// It listens at a host and a port, as `127.0.0.1:38281`. `accept` waits for the next connection;
-/// one that is gone before it is ready is passed over.
+/// one that is gone before it is ready is passed over. It never answers that it gives no more.
 #[derive(Drop)]
 pub struct TcpGate<R> {
     rt: R,
     alloc: Global,
     listener: Option<TcpListener>,
+    listened: Log<Text>,
     given: Tally,
     failed: Tally,
 }
@@ -37,7 +39,11 @@ impl<R> Model for TcpGate<R> {
 
     ghost Value = { SocketGateway };
 
-    ghost view = { λ g. record { given = g.given; faults = g.failed } };
+    ghost view = { λ g. record {
+      given = g.given;
+      listened = g.listened;
+      faults = g.failed;
+    } };
 }
 
 /// The whole second, or 0 where the clock gives none.
@@ -91,12 +97,13 @@ fn next_stream(listener: &TcpListener) -> io::Result<TcpStream> {
 impl<R: Net<Stream = TcpStream, Listener = TcpListener> + Clock> TcpGate<R> {
     /// A gate that listens nowhere yet, and fails until it does.
     pub fn new(rt: R, alloc: Global) -> TcpGate<R>
-        ensures { result ≡ record { given = 0; faults = 0 } }
+        ensures { result ≡ record { given = 0; listened = []; faults = 0 } }
     {
         TcpGate {
             rt,
             alloc,
             listener: None,
+            listened: Log::new(),
             given: Tally::new(),
             failed: Tally::new(),
         }
@@ -129,12 +136,17 @@ impl<R: Net<Stream = TcpStream, Listener = TcpListener> + Clock> Gate for TcpGat
 
     ghost left = { λ _. None };
 
+    ghost ended = { λ _. false };
+
+    ghost listened = { λ g. g.listened };
+
     ghost faults = { λ g. g.faults };
 
     fn listen(&mut self, at: &Text) -> Result<(), Failed> {
         match TcpListener::bind(&self.rt, at.as_str()) {
             Ok(listener) => {
                 self.listener = Some(listener);
+                self.listened.note(at);
                 Ok(())
             }
             Err(_) => {
