@@ -319,7 +319,7 @@ module _ {F : Type 0} (holds : F → Files) (images : F → List ℕ → List �
     }
 
 -- the file that is told is the one that was read, and it stands for one seed
-told_bytes : (file : Option (Option (List ℕ))) (bytes read : List ℕ) → file ≡ Some (Some bytes) → IsFile file read → read ≡ bytes
+pub told_bytes : (file : Option (Option (List ℕ))) (bytes read : List ℕ) → file ≡ Some (Some bytes) → IsFile file read → read ≡ bytes
 told_bytes None bytes read told is = cc
 told_bytes (Some None) bytes read told is = absurd is
 told_bytes (Some (Some held)) bytes read told is = let same : Some (Some held) ≡ Some (Some bytes) = told in is.0 ∙ cc
