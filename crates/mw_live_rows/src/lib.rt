@@ -3,5 +3,3 @@
 
 #[cfg(test)]
 mod served;
-#[cfg(test)]
-mod shy;

@@ -2,7 +2,6 @@
 ghost use Rattle.std.specs.Prelude.{IfOk, []};
 ghost use Rattle.mw_keep.specs.Standing.{HasLived};
 
-use crate::shy::Shy;
 use mw_base::{List, Text};
 use mw_cases::ROOM_A;
 use mw_disk::{Disk, SteadyDisk};
@@ -10,10 +9,11 @@ use mw_journal::create;
 use mw_keep::{KeptRoom, recover};
 use mw_link::{Heard, Link, SteadyGate, SteadyLink};
 use mw_multidata::digest;
+use mw_peers::{Coming, WaitingLink};
 use mw_session::{Ended, RoomEnd, Served, serve_room};
 use std::alloc::Global;
 use std::collections::VecDeque;
-use std::sync::atomic::AtomicBool;
+use std::sync::atomic::AtomicU32;
 use std::sync::{Arc, Wait};
 use std::test::Fail;
 use std::thread::Threads;
@@ -58,14 +58,25 @@ fn closed<T>(served: &List<List<Served<T>>>) -> u64 {
     closed
 }
 
+/// What comes over a link that then waits for one sign.
+fn one_sign(alloc: Global, first: VecDeque<Heard>) -> Coming {
+    Coming {
+        first,
+        wanted: 1,
+        then: VecDeque::new(alloc),
+    }
+}
+
 /// The first link hears nothing until the second one's check is answered. A server that serves one
 /// link after the other never comes to the second.
 #[test]
 fn two_links_wait_for_each_other(rt: HostRuntime) -> Result<(), Fail> {
     let alloc = rt.alloc();
-    let sign = Arc::new(alloc, AtomicBool::new(false))?;
-    let waiting = Shy::new(VecDeque::new(alloc), Arc::try_clone(&sign)?, None);
-    let speaking = Shy::new(coming(alloc, &ANN)?, sign, Some("RoomUpdate"));
+    let signs = Arc::new(alloc, AtomicU32::new(0))?;
+    let silent = one_sign(alloc, VecDeque::new(alloc));
+    let waiting = WaitingLink::new(alloc, silent, Arc::try_clone(&signs)?, None);
+    let ann = one_sign(alloc, coming(alloc, &ANN)?);
+    let speaking = WaitingLink::new(alloc, ann, signs, Some("RoomUpdate"));
     let mut links = VecDeque::new(alloc);
     links.push_back(waiting)?;
     links.push_back(speaking)?;

@@ -1,5 +1,5 @@
 -- One history of all that workers did, and whether all links were accepted.
-use Rattle.std.proofs.Common.{◌≡◌, ◌⊎◌, ℕ, ◌<◌, ◌≤◌, ◌+◌, Bool, true, false, ◌||◌, List, [], ◌∷◌, ◌++◌, refl, ap, sym, subst, ◌∙◌, arith, ⊎_elim}
+use Rattle.std.proofs.Common.{◌≡◌, ◌⊎◌, ℕ, ◌<◌, ◌≤◌, Bool, true, false, ◌||◌, List, [], ◌∷◌, ◌++◌, refl, ap, sym, subst, ◌∙◌, arith, ⊎_elim, inl, inr}
 use Rattle.std.specs.Prelude.{Option, None, Some, is_some}
 use Rattle.std.specs.Option.{option_or}
 use Rattle.std.proofs.lemmas.Bool.{false≢true, leb-true}
@@ -12,7 +12,7 @@ use Rattle.mw_keep.specs.declared.call.Call.TheVariants.{Commit}
 use Rattle.mw_keep.specs.declared.reply.Reply.{Reply}
 use Rattle.mw_keep.specs.declared.reply.StopCause.{StopCause}
 use Rattle.mw_session.specs.declared.served.Served.{Served}
-use Rattle.mw_session.specs.Desks.{is_reached, lesser, IsWithin}
+use Rattle.mw_session.specs.Desks.{is_reached, AreAll, HasNone, IsWithin}
 use Rattle.mw_session.specs.Passes.{RoomPass}
 use Rattle.mw_session.specs.Rooms.{Accounts, Commits, HasMet, IsFull, OneHistory}
 use Rattle.mw_session.specs.Stops.{lacks_by, stop_among, stop_by, stop_in}
@@ -44,18 +44,19 @@ module _ {T : Type 0} (heard_by : T → List Heard) (sent_by : T → List (List 
 
 -- ---- all links
 
-reached_all : (accept : Option ℕ) (accepted left : ℕ) → IsWithin accept accepted → is_reached accept accepted ≡ true → accepted ≡ lesser accept (accepted + left)
-reached_all None accepted left within reached = absurd (false≢true reached)
-reached_all (Some limit) accepted left within reached = let up = leb-true limit accepted reached in omega arith
+reached_all : {T : Type 0} (accept : Option ℕ) (accepted : ℕ) (left : Option (List T)) (ended : Bool) → IsWithin accept accepted → is_reached accept accepted ≡ true → AreAll accept accepted left ended
+reached_all None accepted left ended within reached = absurd (false≢true reached)
+reached_all (Some limit) accepted left ended within reached = ((let up = leb-true limit accepted reached in omega arith), inl reached)
 
-none_left : (accept : Option ℕ) (accepted left : ℕ) → IsWithin accept accepted → left ≡ 0 → accepted ≡ lesser accept (accepted + left)
-none_left None accepted left within none = omega arith
-none_left (Some limit) accepted left within none = omega arith
+none_left : {T : Type 0} (accept : Option ℕ) (accepted : ℕ) (left : Option (List T)) (ended : Bool) → IsWithin accept accepted → HasNone left ended → AreAll accept accepted left ended
+none_left None accepted left ended within none = ((let k = none.0 in omega arith), inr none.1)
+none_left (Some limit) accepted left ended within none = ((let k = none.0 in omega arith), inr none.1)
 
 -- all workers came back, and know that no link is left, unless memory was wanting or the room has stopped
-pub is_full : (accept : Option ℕ) (failed lacking fewer short : Bool) (before halt stopped : Option StopCause) (accepted left told know workers many : ℕ) → IsWithin accept accepted → stopped ≡ option_or halt before → told ≡ know → 1 ≤ workers → (fewer ≡ false → workers ≤ many)
-    → (lacking ≡ false → is_some before ≡ false → know ≡ many) → (0 < told → failed ≡ false → (is_reached accept accepted ≡ true) ⊎ (left ≡ 0)) → IsFull accept failed ((lacking || fewer) || short) stopped accepted left
-is_full accept failed lacking fewer short before halt stopped accepted left told know workers many within halts same some all know_all why fine enough on =
+pub is_full : {T : Type 0} (accept : Option ℕ) (failed lacking fewer short : Bool) (before halt stopped : Option StopCause) (accepted : ℕ) (left : Option (List T)) (ended : Bool) (told know workers many : ℕ) → IsWithin accept accepted → stopped ≡ option_or halt before → told ≡ know → 1 ≤ workers
+    → (fewer ≡ false → workers ≤ many) → (lacking ≡ false → is_some before ≡ false → know ≡ many) → (0 < told → failed ≡ false → (is_reached accept accepted ≡ true) ⊎ HasNone left ended)
+    → IsFull accept failed ((lacking || fewer) || short) stopped accepted left ended
+is_full accept failed lacking fewer short before halt stopped accepted left ended told know workers many within halts same some all know_all why fine enough on =
     let most = or_false (lacking || fewer) short enough in let parts = or_false lacking fewer most.0 in let both = is_some_first halt before (ap is_some (sym halts) ∙ on) in
     let knows = know_all parts.0 both.1 in let came = all parts.1 in
-    ⊎_elim (reached_all accept accepted left within) (none_left accept accepted left within) (why (omega arith) fine)
+    ⊎_elim (reached_all accept accepted left ended within) (none_left accept accepted left ended within) (why (omega arith) fine)

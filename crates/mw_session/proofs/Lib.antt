@@ -6,4 +6,8 @@ pub mod Workers
 pub mod Histories
 pub mod Crosses
 pub mod Opening
+pub mod Owing
+pub mod Owning
+pub mod Owed
 pub mod Numbers
+pub mod Spared

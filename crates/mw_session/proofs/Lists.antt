@@ -1,6 +1,7 @@
 -- Lists of calls and of what was heard, one behind the other.
-use Rattle.std.proofs.Common.{◌≡◌, ℕ, List, [], ◌∷◌, ◌++◌, refl, ap, sym, ◌∙◌, append_assoc, append-nil}
+use Rattle.std.proofs.Common.{◌≡◌, ℕ, List, [], ◌∷◌, ◌++◌, refl, ap, sym, subst, ◌∙◌, append_assoc, append-nil}
 use Rattle.std.proofs.lemmas.List.{map-append}
+use Rattle.std.specs.List.{AllByRecursion}
 use mathlib.Core.List.{IsPrefix}
 use Rattle.mw_link.specs.declared.link.Heard.{Heard}
 use Rattle.mw_protocol.specs.Lives as plain
@@ -48,3 +49,20 @@ on_more (x ∷ xs) ks h k = (h.0, on_more xs ks h.1 k)
 
 pub in_more : (hs ks : List Heard) (h : Heard) → AllGoOn hs → EndsIn ks h → EndsIn (hs ++ ks) h
 in_more hs ks h on ends = (hs ++ ends.0, ap (λ w. hs ++ w) ends.1 ∙ sym (append_assoc hs ends.0 (h ∷ [])), on_more hs ends.0 on ends.2)
+
+-- ---- what holds of each element
+
+pub all_push : {X : Type 0} (P : X → Type 0) (xs : List X) (x : X) → AllByRecursion P xs → P x → AllByRecursion P (xs ++ x ∷ [])
+all_push P [] x h p = (p, tt)
+all_push P (y ∷ xs) x h p = (h.0, all_push P xs x h.1 p)
+
+pub all_append : {X : Type 0} (P : X → Type 0) (xs ys : List X) → AllByRecursion P xs → AllByRecursion P ys → AllByRecursion P (xs ++ ys)
+all_append P [] ys h k = k
+all_append P (x ∷ xs) ys h k = (h.0, all_append P xs ys h.1 k)
+
+all_front : {X : Type 0} (P : X → Type 0) (xs ys : List X) → AllByRecursion P (xs ++ ys) → AllByRecursion P xs
+all_front P [] ys h = tt
+all_front P (x ∷ xs) ys h = (h.0, all_front P xs ys h.1)
+
+pub all_prefix : {X : Type 0} (P : X → Type 0) (xs ys : List X) → IsPrefix xs ys → AllByRecursion P ys → AllByRecursion P xs
+all_prefix P xs ys h all = all_front P xs h.0 (subst (AllByRecursion P) (sym h.1) all)

@@ -27,7 +27,7 @@ opens_more [] c r = omega arith
 opens_more (x ∷ xs) c r = omega (arith, opens_more xs c r)
 
 -- whether a reply opened this session
-abbrev hit : ℕ → Reply → ℕ
+abbrev pub hit : ℕ → Reply → ℕ
 hit n (R.Opened m) = if eqb m n then 1 else 0
 hit n R.Done = 0
 hit n (R.Messages texts) = 0
@@ -36,11 +36,11 @@ hit n R.Overrun = 0
 hit n (R.Stopped m) = 0
 hit n R.Memory = 0
 
-abbrev opens_of : ℕ → List (Call × Reply) → ℕ
+abbrev pub opens_of : ℕ → List (Call × Reply) → ℕ
 opens_of n [] = 0
 opens_of n (x ∷ xs) = hit n x.1 + opens_of n xs
 
-opens_append : (n : ℕ) (xs ys : List (Call × Reply)) → opens_of n (xs ++ ys) ≡ opens_of n xs + opens_of n ys
+pub opens_append : (n : ℕ) (xs ys : List (Call × Reply)) → opens_of n (xs ++ ys) ≡ opens_of n xs + opens_of n ys
 opens_append n [] ys = omega arith
 opens_append n (x ∷ xs) ys = omega (arith, opens_append n xs ys)
 
@@ -92,7 +92,7 @@ legal_low n past (e ∷ es) low legal =
     let here = hit_low n (opens past) e.reply low legal.0 in let more = opens_more past e.call e.reply in
     let rest = legal_low n (past ++ (e.call, e.reply) ∷ []) es (omega arith) legal.1 in omega arith
 
-legal_once : (n : ℕ) (past : List (Call × Reply)) (log : List (Entry Call Reply)) → LegalFrom Fits past log → opens_of n (events log) ≤ 1
+pub legal_once : (n : ℕ) (past : List (Call × Reply)) (log : List (Entry Call Reply)) → LegalFrom Fits past log → opens_of n (events log) ≤ 1
 legal_once n past [] legal = omega arith
 legal_once n past (e ∷ es) legal =
     let more = opens_more past e.call e.reply in
@@ -103,7 +103,7 @@ legal_once n past (e ∷ es) legal =
 
 -- ---- the passes of one history
 
-abbrev total : ℕ → List (ℕ × List (Call × Reply)) → List (Entry Call Reply) → ℕ
+abbrev pub total : ℕ → List (ℕ × List (Call × Reply)) → List (Entry Call Reply) → ℕ
 total n [] log = 0
 total n (x ∷ xs) log = opens_of n (calls_by x.0 log) + total n xs log
 
@@ -128,7 +128,7 @@ total_none : (n : ℕ) (xs : List (ℕ × List (Call × Reply))) → total n xs 
 total_none n [] = refl
 total_none n (x ∷ xs) = omega (arith, total_none n xs)
 
-total_all : (n : ℕ) (xs : List (ℕ × List (Call × Reply))) (log : List (Entry Call Reply)) → Apart xs → total n xs log ≤ opens_of n (events log)
+pub total_all : (n : ℕ) (xs : List (ℕ × List (Call × Reply))) (log : List (Entry Call Reply)) → Apart xs → total n xs log ≤ opens_of n (events log)
 total_all n xs [] apart = let none = total_none n xs in omega arith
 total_all n xs (e ∷ es) apart = let here = total_cons n xs e es apart in let rest = total_all n xs es apart in omega arith
 

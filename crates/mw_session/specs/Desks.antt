@@ -1,5 +1,5 @@
 -- What workers are given from the gate that they share.
-use Rattle.std.specs.Prelude.{ℕ, ◌≤◌, List, length, Option, None, Some, Bool, false, min, nat_le}
+use Rattle.std.specs.Prelude.{◌≡◌, ◌⊎◌, ℕ, ◌+◌, ◌≤◌, List, length, Option, None, Some, Bool, false, true, min, nat_le}
 use Rattle.mw_session.specs.declared.desk.Next.{Next}
 use Rattle.mw_session.specs.declared.desk.Next.TheVariants.{Line, Over, Memory}
 
@@ -37,3 +37,13 @@ is_reached (Some limit) n = nat_le limit n
 abbrev pub left_count : {T : Type 0} → Option (List T) → ℕ
 left_count None = 0
 left_count (Some ls) = length ls
+
+-- a gate has answered that it gives no more, and tells of none that it has left
+abbrev pub HasNone : {T : Type 0} → Option (List T) → Bool → Type 0
+HasNone left ended = (left_count left ≡ 0) × (ended ≡ true)
+
+-- so many links are as many as a limit allows or, where the gate has answered that it gives no more,
+-- all that there were
+abbrev pub AreAll : {T : Type 0} → Option ℕ → ℕ → Option (List T) → Bool → Type 0
+AreAll limit n left ended =
+    (n ≡ lesser limit (n + left_count left)) × ((is_reached limit n ≡ true) ⊎ (ended ≡ true))

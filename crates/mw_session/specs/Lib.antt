@@ -5,5 +5,6 @@ pub mod Passes
 pub mod Stops
 pub mod Desks
 pub mod Numbers
+pub mod Owed
 pub mod Opened
 pub mod Rooms

@@ -13,7 +13,7 @@ use Rattle.mw_keep.specs.declared.kept.KeptRoom.{KeptRoom}
 use Rattle.mw_keep.specs.declared.kept.Origin.{Origin}
 use Rattle.mw_keep.specs.Keeps.{origin_of}
 use Rattle.mw_session.specs.declared.served.Served.{Served}
-use Rattle.mw_session.specs.Desks.{lesser, link_weight}
+use Rattle.mw_session.specs.Desks.{link_weight, AreAll}
 use Rattle.mw_session.specs.Passes.{Makes, RoomPass}
 use Rattle.mw_session.specs.Sessions.{IsSession}
 use Rattle.mw_session.specs.Stops.{lacks_by, stop_among, stop_in}
@@ -29,10 +29,11 @@ base_of room = Some (origin_of room)
 
 -- all links that there were, or as many as were asked for, were accepted: where no call of the gate
 -- failed, memory was there, and no call was answered that the room has stopped
-abbrev pub IsFull : Option ℕ → Bool → Bool → Option StopCause → ℕ → ℕ → Type 0
-IsFull accept gate_failed memory stopped accepted left =
+abbrev pub IsFull : {T : Type 0} → Option ℕ → Bool → Bool → Option StopCause → ℕ → Option (List T)
+    → Bool → Type 0
+IsFull accept gate_failed memory stopped accepted left ended =
     gate_failed ≡ false → memory ≡ false → is_some stopped ≡ false
-    → accepted ≡ lesser accept (accepted + left)
+    → AreAll accept accepted left ended
 
 -- 1 or 0
 abbrev pub one_if : Bool → ℕ

@@ -1,22 +1,28 @@
 //! The gate that workers share: it lies under a lock, with what is to be known of it at the end.
-ghost use Rattle.std.specs.Prelude.{◌≡◌, ◌+◌, ◌*◌, ◌<◌, ◌≤◌, ◌||◌, ◌⊎◌, ℕ, None, true, false};
+ghost use Rattle.std.specs.Prelude.{◌≡◌, ◌+◌, ◌*◌, ◌<◌, ◌≤◌, ◌||◌, ◌⊎◌, ℕ, [], None, true, false};
 ghost use Rattle.mw_link.specs.Tells.{IsNew};
-ghost use Rattle.mw_session.specs.Desks.{IfLine, IsWithin, is_reached, left_count, link_weight, weight_of};
+ghost use Rattle.mw_session.specs.Desks.{HasNone, IfLine, IsWithin, is_reached, link_weight, weight_of};
 
 use mw_link::{Gate, Link, LinkError};
 use std::marker::Brand;
 use std::sync::ledger::{Book, Ledger, Share};
 
-/// How many links may be taken from a gate in all, which contracts alone see.
+/// What holds of a gate while links are taken from it, which contracts alone see.
 pub trait Limit {
+    ghost use Rattle.std.specs.Prelude.{List};
     ghost use Rattle.std.specs.declared.option.Option.{Option};
 
-    /// The number, where there is one.
+    /// How many links may be taken in all, where that is limited.
     ghost most: { Option ℕ };
+
+    /// The addresses at which it was made ready.
+    ghost listened: { List (List ℕ) };
 }
 
 impl Limit for Brand {
     ghost most = { None };
+
+    ghost listened = { [] };
 }
 
 /// What a worker is given.
@@ -47,7 +53,8 @@ pub struct Desk<G: Gate, L: Ledger + Limit> {
     ghost given: { G.given gate ≡ taken },
     ghost within: { IsWithin limit taken },
     ghost faulty: { failed ≡ true → 0 < G.faults gate },
-    ghost empty: { ended ≡ true → left_count (G.left gate) ≡ 0 },
+    ghost empty: { ended ≡ true → HasNone (G.left gate) (G.ended gate) },
+    ghost ready: { G.listened gate ≡ L.listened },
     ghost over: { 0 < told → (is_reached limit taken || (failed || ended)) ≡ true },
 }
 
@@ -59,6 +66,7 @@ impl<G: Gate, L: Ledger + Limit> Desk<G, L> {
     pub(crate) fn new(gate: G, limit: Option<u64>, book: Book<L>) -> Desk<G, L>
         requires limit { limit ≡ L.most }
         requires gate { G.given gate ≡ 0 }
+        requires ready { G.listened gate ≡ L.listened }
         requires book { book.total ≡ 0 }
     {
         Desk {
@@ -138,11 +146,12 @@ impl<G: Gate, L: Ledger + Limit> Desk<G, L> {
         requires all { all.parts ≡ L.parts }
         ensures given { G.given result.0 ≡ result.1 }
         ensures failed { result.2 ≡ true → 0 < G.faults result.0 }
+        ensures ready { G.listened result.0 ≡ L.listened }
         ensures within { IsWithin L.most result.1 }
         ensures amount { (told : ℕ) × (told < link_weight)
             × (all.amount ≡ link_weight * result.1 + told)
             × (0 < told → result.2 ≡ false → (is_reached L.most result.1 ≡ true)
-            ⊎ (left_count (G.left result.0) ≡ 0)) }
+            ⊎ HasNone (G.left result.0) (G.ended result.0)) }
     {
         let Desk {
             gate,

@@ -6,7 +6,7 @@ ghost use Rattle.mw_lock.specs.History.{events};
 ghost use Rattle.mw_lock.specs.Passes.{IsWhole};
 ghost use Rattle.mw_keep.specs.Keeps.{origin_of};
 ghost use Rattle.mw_keep.specs.Standing.{Began, HasLived, MayReply};
-ghost use Rattle.mw_session.specs.Desks.{left_count, IsWithin};
+ghost use Rattle.mw_session.specs.Desks.{IsWithin};
 ghost use Rattle.mw_session.specs.Numbers.{all_numbers, NoneTwice};
 ghost use Rattle.mw_session.specs.Stops.{lacks_by};
 ghost use Rattle.mw_session.specs.Rooms.{base_of, Commits, HasMet, IsDone, IsFull, IsReport, IsServed, count_all};
@@ -257,6 +257,7 @@ fn serve_all<
     requires parts { blank.parts ≡ L.parts }
     requires each { blank.parts ≡ workers + 1 }
     requires limit { accept ≡ L.most }
+    requires ready { G.listened gate ≡ L.listened }
     requires workers { 1 ≤ workers }
     requires fresh { HasLived D.may_leave D.told D.faults room [] }
     requires gate { G.given gate ≡ 0 }
@@ -267,9 +268,10 @@ fn serve_all<
     ensures accepted { result.accepted ≡ count_all result.served }
     ensures given { G.given result.gate ≡ result.accepted }
     ensures failed { result.gate_failed ≡ true → 0 < G.faults result.gate }
+    ensures ready { G.listened result.gate ≡ G.listened gate }
     ensures within { IsWithin accept result.accepted }
     ensures all { IsFull accept result.gate_failed result.memory result.stopped result.accepted
-        (left_count (G.left result.gate)) }
+        (G.left result.gate) (G.ended result.gate) }
 {
     let Some(rooms) = rooms_for::<G::Line, D, L>(alloc, workers) else {
         return unserved(alloc, room, gate);
@@ -335,7 +337,7 @@ fn unserved<D: Disk, G: Gate>(alloc: Global, room: KeptRoom<D>, gate: G) -> Room
 
 /// Serves the room over the links of a gate by so many workers, at least 1, until so many links are
 /// accepted; without a number, until the gate gives no more. The room is one that stands for no call
-/// yet, as `recover` gives it, and the gate one that has given no link.
+/// yet, as `recover` gives it, and the gate one that listens already and has given no link.
 ///
 /// Each worker serves one link at a time, by one session, and shuts it at the session's end. It
 /// stops where no link is left for it, where memory runs out for it, and where one of its calls is
@@ -367,9 +369,10 @@ pub fn serve_room<G: Gate + Send, D: Disk + Send + Drop, R: Threads + Wait + Syn
     ensures accepted { result.accepted ≡ count_all result.served }
     ensures given { G.given result.gate ≡ result.accepted }
     ensures failed { result.gate_failed ≡ true → 0 < G.faults result.gate }
+    ensures ready { G.listened result.gate ≡ G.listened gate }
     ensures within { IsWithin accept result.accepted }
     ensures all { IsFull accept result.gate_failed result.memory result.stopped result.accepted
-        (left_count (G.left result.gate)) }
+        (G.left result.gate) (G.ended result.gate) }
 {
     let blank = Blank::new(workers as u64 + 1);
     serve_all::<G, D, Brand, R>(rt, alloc, blank, gate, room, workers, accept)

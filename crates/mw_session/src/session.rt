@@ -7,12 +7,14 @@ ghost use Rattle.mw_keep.specs.Views.{call_view};
 ghost use Rattle.mw_session.specs.Answered.{end_by, taken, texts_of};
 ghost use Rattle.mw_keep.specs.declared.reply.Reply.{Reply};
 ghost use Rattle.mw_session.specs.Asked.{asks, call_for as call_for_lem, no_json};
+ghost use Rattle.mw_session.specs.Owed.{ServesOwed};
 ghost use Rattle.mw_session.specs.Passes.{Acts, ClosesBy, Heeds, Makes, Runs, SendsAll, Serves, TakesAll, Turned};
 ghost use Rattle.mw_session.specs.Stops.{stop_at, stop_by};
 
 use crate::ended::Ended;
 use mw_base::{List, SessionId, Text};
 use mw_disk::Disk;
+use mw_keep::laws::lives_keep;
 use mw_keep::{Call, KeptRoom, Reply, StopCause};
 use mw_link::{Heard, Link, LinkError};
 use mw_lock::{Pass, RoomLock};
@@ -312,7 +314,8 @@ fn close<R: Wait, D: Disk>(
 /// 524,288 bytes, `LinkFault` only where the link's count of faults rose, and `Overrun`, `Gone` and
 /// `Stopped` exactly where a call before the last one was so answered. All that the session's takes
 /// were answered was sent, in order, but where it ends by `LinkFault` or `Memory`: then some front
-/// of it.
+/// of it. Where no other pass takes the session's messages or ends it, what they were answered are
+/// the first of all messages that the session was owed.
 ///
 /// It waits for its turns on the room, and as long as the link does.
 pub fn serve_session<R: Wait, L: Link, D: Disk>(
@@ -327,7 +330,10 @@ pub fn serve_session<R: Wait, L: Link, D: Disk>(
     ensures served { Serves L.heard L.sent L.faults L.opened time pass link.old
         result.1 result.2 result.0 link.new }
     ensures own { IsTrueTo (MayReply D.may_leave) result.0 }
+    ensures owed { ServesOwed D.may_leave pass result.1 result.0 }
 {
+    // The law of lives, by which what was taken is told from what was owed.
+    lives_keep();
     let (session, ended, _) = serve(rt, alloc, link, room, &mut pass, time);
     pass.tells_truly();
     (pass, session, ended)

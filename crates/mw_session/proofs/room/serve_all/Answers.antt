@@ -3,7 +3,7 @@ use Rattle.std.specs.Option.{option_or}
 use Rattle.std.proofs.lemmas.Bool.{ltb-false}
 use Rattle.mw_lock.specs.History.{events}
 use Rattle.mw_keep.specs.Standing.{MayReply}
-use Rattle.mw_session.specs.Desks.{is_reached, left_count, IsWithin}
+use Rattle.mw_session.specs.Desks.{is_reached, HasNone, IsWithin}
 use Rattle.mw_session.specs.Passes.{RoomPass}
 use Rattle.mw_session.specs.Rooms.{base_of, OneHistory}
 use Rattle.mw_session.proofs.Histories.{history_of, is_full}
@@ -35,7 +35,7 @@ returns-clause-all g c =
     let met = c.meet_all-met.ensures.met in let end = c.end-gate.ensures.amount in
     let many = c.meet_all-met.ensures.many in let all = c.work_all-done.ensures.all in let few = c.split_all-reports.ensures.few in let fits = c.ranges.workers.fits in let counted = met.counted in let know = met.few in let one = end.1 in let two = end.2 in
     let none = ap length c.in-Some.ensures.1 in let empty = ap length c.in-Some.ensures.2 in let ok = c.in-Some.rooms.served.ok.0 in
-    is_full c.args.accept c.end-gate.result.2 c.meet_all-met.result.lacking _ _ c.meet_all-met.result.stopped c.stop_by.result c.or-stopped.result c.end-gate.result.1 _ end.0 met.know c.args.workers (length c.meet_all-met.result.served.items)
+    is_full c.args.accept c.end-gate.result.2 c.meet_all-met.result.lacking _ _ c.meet_all-met.result.stopped c.stop_by.result c.or-stopped.result c.end-gate.result.1 (g.G.Gate.left c.end-gate.result.0) (g.G.Gate.ended c.end-gate.result.0) end.0 met.know c.args.workers (length c.meet_all-met.result.served.items)
     (subst (λ m. IsWithin m c.end-gate.result.1) (sym c.requires.limit) c.end-gate.ensures.within) c.or-stopped.ensures (omega arith) c.requires.workers
     (λ e. let came = ltb-false c.len.result c.args.workers e in let len = c.len.ensures in omega arith) met.all_know
-    (λ some fine. subst (λ m. (is_reached m c.end-gate.result.1 ≡ true) ⊎ (left_count (g.G.Gate.left c.end-gate.result.0) ≡ 0)) (sym c.requires.limit) (end.3 some fine))
+    (λ some fine. subst (λ m. (is_reached m c.end-gate.result.1 ≡ true) ⊎ HasNone (g.G.Gate.left c.end-gate.result.0) (g.G.Gate.ended c.end-gate.result.0)) (sym c.requires.limit) (end.3 some fine))
