@@ -1,7 +1,9 @@
-"""Plays a whole game live: makes a seed of examples/players.json and a room, starts `serve`, lets a process for each player play over WebSocket, kills the server twice in the middle and starts it again
+"""Plays a whole game live: makes a seed of a players file and a room, starts `serve`, lets a process for each player play over WebSocket, kills the server twice in the middle and starts it again
 on the same journal, and holds each player's list of items beside the one that the journal owes.
 
-usage: python3 examples/live/play_live.py [SEED NUMBER]
+usage: python3 examples/live/play_live.py [SEED NUMBER [PLAYERS [PASSWORD]]]
+
+The seed's number is 7, and the players file examples/players.json, where they aren't said. PASSWORD is the one that the players file sets, where it does. World files are read from the top of the checkout.
 
 The program is crates/mw_cli/out/mw_cli, or what the variable MULTIWORLD names. It listens on this machine alone, and all is over within two minutes. The last line says that all is right, or what isn't.
 """
@@ -18,7 +20,7 @@ import time
 HERE = os.path.dirname(os.path.abspath(__file__))
 TOP = os.path.dirname(os.path.dirname(HERE))
 PROGRAM = os.path.abspath(os.environ.get("MULTIWORLD", os.path.join(TOP, "crates/mw_cli/out/mw_cli")))
-PLAYERS = "examples/players.json"
+PLAYERS = os.path.join(TOP, "examples/players.json")
 HOST, KILLS, SECONDS = "127.0.0.1", 2, 90
 
 
@@ -63,11 +65,11 @@ class Server:
             raise Wrong("the server ended with %d: %s" % (self.process.returncode, self.process.stderr.read().strip()))
 
 
-def start_players(seed, server):
+def start_players(seed, server, password):
     players = {}
     for slot in seed["slots"]:
         name = slot["names"][0]
-        words = [HOST, str(server.port), slot["game"], name, str(len(seed["slots"])), str(SECONDS)]
+        words = [HOST, str(server.port), slot["game"], name, str(len(seed["slots"])), str(SECONDS), *([] if password is None else [password])]
         players[name] = subprocess.Popen([sys.executable, "-u", os.path.join(HERE, "player.py"), *words], stdout=subprocess.PIPE, bufsize=0)
     return players
 
@@ -108,12 +110,12 @@ def play(server, players, total):
     return items
 
 
-def owed(seed_name, journal, seed):
+def owed(seed_name, journal, seed, password=None):
     """What the journal owes each player who connects: the whole list, and which locations are missing."""
     script, names = [], []
     for slot in seed["slots"]:
         names.append(slot["names"][0])
-        connect = {"cmd": "Connect", "game": slot["game"], "name": names[-1], "items_handling": 7, "tags": ["NoText"], "version": {"class": "Version", "major": 0, "minor": 5, "build": 0}}
+        connect = {"cmd": "Connect", "game": slot["game"], "name": names[-1], "password": password, "items_handling": 7, "tags": ["NoText"], "version": {"class": "Version", "major": 0, "minor": 5, "build": 0}}
         script += ["open", "text %d %s" % (len(names), json.dumps([connect])), "take %d" % len(names)]
     lists, missing = dict.fromkeys(names, []), {}
     for line in run("drive", seed_name, journal, script="\n".join(script)).splitlines():
@@ -137,18 +139,18 @@ def compare(items, lists, missing):
             raise Wrong("%s was given an item twice: %s" % (name, found))
 
 
-def main(number):
+def main(number="7", tables=PLAYERS, password=None):
     if not os.access(PROGRAM, os.X_OK):
         raise Wrong("there is no program %s: build it by (cd crates/mw_cli && rt run)" % PROGRAM)
     with tempfile.TemporaryDirectory() as folder:
         seed_name, journal = os.path.join(folder, "seed.json"), os.path.join(folder, "room.journal")
-        run("generate", PLAYERS, seed_name, "--seed", number)
+        run("generate", os.path.abspath(tables), seed_name, "--seed", number)
         run("new-room", seed_name, journal)
         with open(seed_name, encoding="utf-8") as file:
             seed = json.load(file)
         server = Server(seed_name, journal)
         server.start()
-        players = start_players(seed, server)
+        players = start_players(seed, server, password)
         try:
             items = play(server, players, len(seed["locations"]))
         finally:
@@ -157,13 +159,13 @@ def main(number):
                 player.wait()
                 player.stdout.close()
             server.kill()
-        compare(items, *owed(seed_name, journal, seed))
+        compare(items, *owed(seed_name, journal, seed, password))
         print("all is right: %d players have the %d items that the journal owes them, after %d kills" % (len(items), sum(map(len, items.values())), KILLS))
 
 
 if __name__ == "__main__":
     try:
-        main(sys.argv[1] if len(sys.argv) > 1 else "7")
+        main(*sys.argv[1:4])
     except Wrong as wrong:
         print("wrong: %s" % wrong)
         sys.exit(1)

@@ -1,6 +1,6 @@
 """Plays one slot of a room to the end: checks its locations, a few at a time, keeps its items by the protocol's index, and connects again whenever the connection breaks.
 
-usage: player.py HOST PORT GAME NAME PLAYERS SECONDS
+usage: player.py HOST PORT GAME NAME PLAYERS SECONDS [PASSWORD]
 
 The player's number of slots in the room is PLAYERS. It prints a line "NAME checked N" whenever more of its locations are checked, and once each player has reached its goal a last line, its list of
 items as JSON behind "NAME items ". It gives up, with status 1, after so many SECONDS.
@@ -20,9 +20,9 @@ GOAL = 30  # the status of a player who has reached the goal
 class Player:
     """What a player's client keeps, however often it has to connect."""
 
-    def __init__(self, host, port, game, name, players):
+    def __init__(self, host, port, game, name, players, password=None):
         self.address = (host, int(port))
-        self.game, self.name, self.players = game, name, int(players)
+        self.game, self.name, self.players, self.password = game, name, int(players), password
         self.socket = None
         self.team = self.slot = None
         self.items = []  # the list that the room owes, as far as it came
@@ -47,7 +47,7 @@ class Player:
     # ---- what the room says, one function a packet
 
     def RoomInfo(self, packet):
-        self.send(cmd="Connect", game=self.game, name=self.name, password=None, items_handling=7, tags=[], version=VERSION)
+        self.send(cmd="Connect", game=self.game, name=self.name, password=self.password, items_handling=7, tags=[], version=VERSION)
 
     def ConnectionRefused(self, packet):
         sys.exit("%s is refused: %s" % (self.name, ", ".join(packet["errors"])))
@@ -141,7 +141,7 @@ class Player:
 
 
 def main(words):
-    player = Player(*words[:5])
+    player = Player(*words[:5], *words[6:])
     deadline = time.monotonic() + float(words[5])
     over = False
     while not over and time.monotonic() < deadline:
@@ -158,6 +158,6 @@ def main(words):
 
 
 if __name__ == "__main__":
-    if len(sys.argv) != 7:
+    if not 7 <= len(sys.argv) <= 8:
         sys.exit(__doc__.strip())
     main(sys.argv[1:])

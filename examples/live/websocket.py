@@ -25,7 +25,7 @@ class Closed(Exception):
 class WebSocket:
     """A connection whose handshake is done."""
 
-    def __init__(self, host, port, wait=5.0):
+    def __init__(self, host, port, wait=5.0, path="/"):
         self.buffer = bytearray()
         self.texts = deque()
         self.parts = None  # what has come of a message in fragments
@@ -36,7 +36,7 @@ class WebSocket:
         self.stream = socket.create_connection((host, port), timeout=wait)
         try:
             self.stream.setsockopt(socket.IPPROTO_TCP, socket.TCP_NODELAY, 1)
-            self.shake("%s:%d" % (host, port), time.monotonic() + wait)
+            self.shake("%s:%d" % (host, port), path, time.monotonic() + wait)
         except BaseException:
             self.stream.close()
             raise
@@ -47,9 +47,9 @@ class WebSocket:
 
     # ---- the handshake
 
-    def shake(self, host, deadline):
+    def shake(self, host, path, deadline):
         key = base64.b64encode(os.urandom(16)).decode()
-        head = ["GET / HTTP/1.1", "Host: " + host, "Upgrade: websocket", "Connection: Upgrade", "Sec-WebSocket-Key: " + key, "Sec-WebSocket-Version: 13", "", ""]
+        head = ["GET %s HTTP/1.1" % path, "Host: " + host, "Upgrade: websocket", "Connection: Upgrade", "Sec-WebSocket-Key: " + key, "Sec-WebSocket-Version: 13", "", ""]
         self.stream.sendall("\r\n".join(head).encode())
         answer = bytearray()
         while b"\r\n\r\n" not in answer:
