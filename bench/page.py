@@ -321,7 +321,7 @@ def try_all(page, seed, bob, cleo):
     page.click("#goal")
     page.click("#goal")
     cleo.hears("Ann reached the goal")
-    shows(page, "goal", "Goal reached")
+    shows(page, "goal", "Goal reached ✓")
     shows(page, "people-rows", "goal reached")
     page.until("that a hint is found", "document.querySelectorAll('#hint-rows .found').length === 2")
     done("the game is played to its end, and Ann's goal is told")
@@ -330,6 +330,9 @@ def try_all(page, seed, bob, cleo):
 def try_looks(page, server, seed):
     """Other widths, and a tracker and a text client."""
     page.picture("room")
+    page.call("Emulation.setEmulatedMedia", features=[{"name": "prefers-color-scheme", "value": "dark"}])
+    page.picture("dark")
+    page.call("Emulation.setEmulatedMedia", features=[])
     page.click("#by-name")
     page.size(390, 780)
     for panel in ("places", "items", "hints", "chat", "people"):
