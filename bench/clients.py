@@ -179,7 +179,7 @@ def try_kill(table):
     for player in table.players:
         if player.missing:
             player.send(cmd="LocationChecks", locations=[player.missing[0]])
-    time.sleep(random.uniform(0, 0.05))
+    time.sleep(random.uniform(0, 0.2))
     table.server.kill()
     table.server.start()
     table.joined(2)

@@ -303,7 +303,12 @@ def try_break(page, server, cleo):
     if after[len(after) - len(before):] != before or len(after) > len(before) + 1:
         raise Wrong("after the break the list is %s, and was %s" % (after, before))
     page.until("who is connected", "document.querySelectorAll('#people-rows .on').length >= 2")
-    done("the server was killed and started again: the same list, and a check from in between was sent")
+    page.call("Page.reload")
+    page.until("that it goes on by itself", "document.getElementById('state')?.className === 'on'")
+    page.until("its items", "(%s).length === %d" % (LIST, len(after)))
+    if page.ask(LIST) != after:
+        raise Wrong("loaded again the list is %s, and was %s" % (page.ask(LIST), after))
+    done("the server was killed and started again: the same list, and a check from in between was sent; loaded again the page goes on")
 
 
 def try_all(page, seed, bob, cleo):
@@ -426,7 +431,8 @@ def main():
         page = Browser(sys.argv[1], folder)
         ends.append(page.end)
         page.size(1280, 800)
-        page.open("file://" + urllib.parse.quote(PAGE))
+        page.open("file://%s#name=Ann&game=Lantern%%20Caves" % urllib.parse.quote(PAGE))
+        page.until("what its address fills in", "document.getElementById('join').elements.name.value === 'Ann' && document.getElementById('join').elements.game.value === '%s'" % GAME)
         try_joining(page, server)
         cleo = Friend(server.port, "Cleo")
         ends.append(cleo.end)

@@ -99,8 +99,17 @@ def main():
     shows("README.md", live, told["README.md"][0])
     shows("docs/HOSTING.md", live, told["docs/HOSTING.md"][0])
     shows("docs/WORLD_FILES.md", texts("docs/WORLD_FILES.md")[0], told["docs/WORLD_FILES.md"][0])
-    if told["docs/SCRIPTS.md"][0] != read("examples/reconnect_output.txt"):
-        differ("docs/SCRIPTS.md: examples/reconnect_output.txt")
+    # What pages say that commands print, without showing it.
+    scripts = told["docs/SCRIPTS.md"]
+    for printed, stored in [(scripts[0], "examples/reconnect_output.txt"), (scripts[2], "examples/evening/told.txt")]:
+        if printed != read(stored):
+            differ("docs/SCRIPTS.md: " + stored)
+    for line, printed in zip(re.findall(r"`(all is right: .*?)`", read("docs/HOSTING.md")), told["docs/HOSTING.md"][1:]):
+        if not printed.endswith("\n%s\n" % line):
+            differ("docs/HOSTING.md shows a line that isn't printed: %s" % line)
+    # The scripts of the evening are those that are written for its seed.
+    evening = os.path.join(WORK, "SCRIPTS.md/evening/seed.json")
+    run(place, "python3 bench/evening.py %s first.txt second.txt; cmp first.txt examples/evening/first.txt; cmp second.txt examples/evening/second.txt" % evening)
     # The seed file that a page shows is accepted.
     with open(os.path.join(place, "shown.json"), "w", encoding="utf-8") as file:
         file.write([block for language, block in blocks("docs/SEED_FILE.md") if language == "json"][0])

@@ -1,6 +1,6 @@
 #!/usr/bin/env bash
 # Runs what the pages show on the built program, in a folder of its own: the scripts of examples/ beside their stored outputs, words, files and addresses that are refused beside the lines and statuses that
-# the pages tell, and, where Python is, the commands of each page, the texts that they show, a live room, and the tools beside what is stored in bench/pages/. It prints each difference, and how many there were.
+# the pages tell, and, where Python is, the commands of each page, the texts that they show, a live room, the tools beside what is stored in bench/pages/, and, where they are installed, stock clients and a browser (bench/clients.sh, bench/page.sh). It prints each difference, and how many there were.
 # Run after `rt run` in crates/mw_cli, which leaves the program.
 set -u
 cd "$(dirname "$0")/.."
@@ -44,6 +44,10 @@ ends 0 '' new-room examples/room_a.json room.journal
 "$program" drive examples/room_a.json room.journal < examples/first_check.txt > out.txt
 "$program" drive examples/room_a.json room.journal < examples/resumed.txt > out.txt
 same out.txt examples/resumed_output.txt examples/resumed.txt
+
+mkdir evening
+MULTIWORLD=$program bash examples/evening/play.sh evening > out.txt
+same out.txt examples/evening/output.txt examples/evening/play.sh
 
 # ---- words
 
@@ -200,5 +204,7 @@ if command -v python3 > /dev/null; then
 else
   echo "no python3: the commands of the pages and the tools are left out"
 fi
+MULTIWORLD=$program "$top/bench/clients.sh" || differ=$((differ + 1))
+MULTIWORLD=$program "$top/bench/page.sh" || differ=$((differ + 1))
 echo "$differ differences"
 [ "$differ" = 0 ]
