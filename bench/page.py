@@ -18,14 +18,13 @@ HERE = os.path.dirname(os.path.abspath(__file__))
 TOP = os.path.dirname(HERE)
 sys.path.insert(0, os.path.join(TOP, "examples/live"))
 
-from play_live import HOST, PLAYERS, Server, Wrong, owed, run
+from play_live import HOST, Server, Wrong, owed, run
 from talk import VERSION
 from websocket import Closed, WebSocket
 
 PAGE = os.path.join(TOP, "examples/page/index.html")
-WORLD = os.path.join(TOP, "examples/lantern_caves.json")
 GAME, WAIT = "Lantern Caves", 15
-# What somebody may say, and what no page may run.
+# What somebody may say, or call a thing, and what no page may run.
 MARKUP = "<img src=x onerror=\"document.title='broken'\"> <b>&amp;"
 
 
@@ -210,6 +209,23 @@ def join(page, port, name, game="", mode="player"):
     page.click("#join button.main")
 
 
+def tables(folder):
+    """A players file and a world file: those of the examples, with markup for the names of an item and a location."""
+    with open(os.path.join(TOP, "examples/lantern_caves.json"), encoding="utf-8") as file:
+        world = file.read().replace('"Cave-in"', json.dumps(MARKUP)).replace('"Lullaby"', json.dumps(MARKUP))
+    with open(os.path.join(TOP, "examples/players.json"), encoding="utf-8") as file:
+        players = file.read().replace("examples/lantern_caves.json", os.path.join(folder, "lantern_caves.json"))
+    for name, text in (("players.json", players), ("lantern_caves.json", world)):
+        with open(os.path.join(folder, name), "w", encoding="utf-8") as file:
+            file.write(text)
+    return os.path.join(folder, "players.json"), os.path.join(folder, "lantern_caves.json")
+
+
+def no_markup(page):
+    if page.ask("document.querySelector('#room img, #room b, #map img, #map b') !== null || document.title !== 'multiworld'"):
+        raise Wrong("markup of others was taken for the page's own")
+
+
 def done(line):
     print(line, flush=True)
 
@@ -248,8 +264,6 @@ def try_chat(page, cleo):
     shows(page, "log", "Cleo: hello Ann " + MARKUP)
     page.click("#words button")
     shows(page, "log", "!hint_location")
-    if page.ask("document.querySelector('#room img, #room b') !== null || document.title !== 'multiworld'"):
-        raise Wrong("markup that was said was taken for the page's own")
     done("chat both ways, with markup that stays text, and a command")
 
 
@@ -328,6 +342,8 @@ def try_all(page, seed, bob, cleo):
     cleo.hears("Ann reached the goal")
     shows(page, "goal", "Goal reached ✓")
     shows(page, "people-rows", "goal reached")
+    shows(page, "item-rows", MARKUP)
+    no_markup(page)
     page.until("that a hint is found", "document.querySelectorAll('#hint-rows .found').length === 2")
     done("the game is played to its end, and Ann's goal is told")
 
@@ -364,29 +380,30 @@ def try_looks(page, server, seed):
     done("a phone's width, a tracker and a text client, neither of which names a game")
 
 
-def try_spheres(page, seed_name, seed):
+def try_spheres(page, players, world, seed_name, seed):
     page.click("#to-map")
     document = page.call("DOM.getDocument")["root"]["nodeId"]
     node = page.call("DOM.querySelector", nodeId=document, selector="#pick")["nodeId"]
-    page.call("DOM.setFileInputFiles", nodeId=node, files=[PLAYERS, seed_name])
+    page.call("DOM.setFileInputFiles", nodeId=node, files=[players, seed_name])
     shows(page, "chosen", "lantern_caves.json")
     page.picture("files")
-    page.call("DOM.setFileInputFiles", nodeId=node, files=[WORLD])
+    page.call("DOM.setFileInputFiles", nodeId=node, files=[world])
     page.until("the spheres", "document.getElementById('map').offsetWidth > 0")
-    drawn = page.ask("[...document.querySelectorAll('.cell')].map(cell => cell.dataset.cell + ':' + [...cell.querySelectorAll('.find')].map(find => find.querySelector('.place').textContent + '=' + find.querySelector('.item').textContent).join('|'))")
+    drawn = page.ask("[...document.querySelectorAll('.cell')].map(cell => cell.dataset.cell + ':' + [...cell.querySelectorAll('.find')].map(find => find.querySelector('.place').textContent + '\\n' + find.querySelector('.item').textContent).join('\\n\\n'))")
     found = {}
     for cell in drawn:
         spot, _, finds = cell.partition(":")
         slot, sphere = map(int, spot.split(" "))
-        for find in filter(None, finds.split("|")):
-            place_name, _, item = find.partition("=")
+        for find in filter(None, finds.split("\n\n")):
+            place_name, _, item = find.partition("\n")
             found.setdefault(sphere, set()).add((seed["slots"][slot - 1]["names"][0], place_name, item))
-    told = spoiler(seed_name)
+    told = spoiler(players, seed_name)
     if found != told:
         raise Wrong("the page draws %s, and spoiler.py tells %s" % (found, told))
     arrows = page.ask("document.querySelectorAll('#board path').length")
     if arrows != sum(map(len, told.values())):
         raise Wrong("there are %d lines" % arrows)
+    no_markup(page)
     page.picture("spheres")
     page.size(390, 780)
     page.picture("phone_spheres")
@@ -394,9 +411,9 @@ def try_spheres(page, seed_name, seed):
     done("the spheres of the seed, as spoiler.py tells them")
 
 
-def spoiler(seed_name):
+def spoiler(players, seed_name):
     """The spheres by examples/tools/spoiler.py: who finds where what."""
-    told = subprocess.run([sys.executable, "examples/tools/spoiler.py", PLAYERS, seed_name], cwd=TOP, stdout=subprocess.PIPE, text=True, check=True).stdout
+    told = subprocess.run([sys.executable, "examples/tools/spoiler.py", players, seed_name], cwd=TOP, stdout=subprocess.PIPE, text=True, check=True).stdout
     spheres, number = {}, 0
     for line in told.split("\n\n")[0].splitlines()[1:]:
         if line.startswith("sphere "):
@@ -420,7 +437,8 @@ def compare(seen, lists, missing, names):
 def main():
     folder = sys.argv[2]
     seed_name, journal = os.path.join(folder, "seed.json"), os.path.join(folder, "room.journal")
-    run("generate", PLAYERS, seed_name, "--seed", "7")
+    players, world = tables(folder)
+    run("generate", players, seed_name, "--seed", "7")
     run("new-room", seed_name, journal)
     with open(seed_name, encoding="utf-8") as file:
         seed = json.load(file)
@@ -445,7 +463,7 @@ def main():
         try_all(page, seed, Plain(server.port, "Bob", ["NoText"]), cleo)
         seen = page.ask(LIST)
         try_looks(page, server, seed)
-        try_spheres(page, seed_name, seed)
+        try_spheres(page, players, world, seed_name, seed)
         if page.wrong:
             raise Wrong("the page's script failed: %s" % page.wrong)
     finally:
