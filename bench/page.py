@@ -248,13 +248,16 @@ def try_finds(page, cleo):
     page.click(place(page, "Bottom of the Well"))
     shows(page, "item-rows", "Lantern")
     shows(page, "progress", "1 of 6")
+    # The page forgets an item: the next one's index then doesn't fit, and it asks for the whole list.
+    page.ask("room.items.pop() && 0")
     cleo.type("/check Mine Cart")
     shows(page, "item-rows", "Old Key\nCleo found it at Mine Cart")
     shows(page, "note", "Cleo sent you Old Key")
+    page.until("the whole list", "(%s).length === 2 && room.items.length === 2" % LIST)
     page.click("#show-checked")
     shows(page, "checked", "Bottom of the Well\nLantern")
     page.click("#show-missing")
-    done("a check by a click, what stood there, and an item that a friend found")
+    done("a check by a click, what stood there, and an item that a friend found, with the whole list where its index didn't fit")
 
 
 def try_chat(page, cleo):

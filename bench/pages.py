@@ -97,14 +97,14 @@ def main():
     shows("README.md", played, run(place, seed + program + " drive seed.json < examples/first_find.txt"))
     told = {page: run_page(page) for page in ("README.md", "docs/GENERATION.md", "docs/HOSTING.md", "docs/SCRIPTS.md", "docs/WORLD_FILES.md")}
     shows("README.md", live, told["README.md"][0])
-    shows("docs/HOSTING.md", live, told["docs/HOSTING.md"][0])
+    shows("docs/HOSTING.md", live, told["docs/HOSTING.md"][1])
     shows("docs/WORLD_FILES.md", texts("docs/WORLD_FILES.md")[0], told["docs/WORLD_FILES.md"][0])
     # What pages say that commands print, without showing it.
     scripts = told["docs/SCRIPTS.md"]
     for printed, stored in [(scripts[0], "examples/reconnect_output.txt"), (scripts[2], "examples/evening/told.txt")]:
         if printed != read(stored):
             differ("docs/SCRIPTS.md: " + stored)
-    for line, printed in zip(re.findall(r"`(all is right: .*?)`", read("docs/HOSTING.md")), told["docs/HOSTING.md"][1:]):
+    for line, printed in zip(re.findall(r"`(all is right: .*?)`", read("docs/HOSTING.md")), told["docs/HOSTING.md"][2:]):
         if not printed.endswith("\n%s\n" % line):
             differ("docs/HOSTING.md shows a line that isn't printed: %s" % line)
     # The scripts of the evening are those that are written for its seed.
