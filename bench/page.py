@@ -18,7 +18,7 @@ HERE = os.path.dirname(os.path.abspath(__file__))
 TOP = os.path.dirname(HERE)
 sys.path.insert(0, os.path.join(TOP, "examples/live"))
 
-from play_live import HOST, Server, Wrong, owed, run
+from play_live import HOST, Server, Wrong, free_port, owed, run
 from talk import VERSION
 from websocket import Closed, WebSocket
 
@@ -233,6 +233,8 @@ def done(line):
 # ---- what is tried
 
 def try_joining(page, server):
+    join(page, free_port(), "Ann", GAME)
+    shows(page, "state", "no answer, trying again")
     join(page, server.port, "Nobody", GAME)
     shows(page, "refused", "The name isn't one of the room's")
     join(page, server.port, "Ann", GAME)
@@ -240,7 +242,7 @@ def try_joining(page, server):
     shows(page, "progress", "0 of 6")
     for name in ("Bat Roost", "Dragon's Hoard", "Under the Bridge"):
         place(page, name)
-    done("a wrong name is refused; Ann joins by the page, and sees her six locations by name")
+    done("a room that isn't there gives no answer, a wrong name is refused; Ann joins by the page, and sees her six locations by name")
 
 
 def try_finds(page, cleo):
@@ -252,7 +254,7 @@ def try_finds(page, cleo):
     page.ask("room.items.pop() && 0")
     cleo.type("/check Mine Cart")
     shows(page, "item-rows", "Old Key\nCleo found it at Mine Cart")
-    shows(page, "note", "Cleo sent you Old Key")
+    shows(page, "toast", "Cleo sent you Old Key")
     page.until("the whole list", "(%s).length === 2 && room.items.length === 2" % LIST)
     page.click("#show-checked")
     shows(page, "checked", "Bottom of the Well\nLantern")
@@ -452,8 +454,8 @@ def main():
         page = Browser(sys.argv[1], folder)
         ends.append(page.end)
         page.size(1280, 800)
-        page.open("file://%s#name=Ann&game=Lantern%%20Caves" % urllib.parse.quote(PAGE))
-        page.until("what its address fills in", "document.getElementById('join').elements.name.value === 'Ann' && document.getElementById('join').elements.game.value === '%s'" % GAME)
+        page.open("file://%s#address=%s:%d&name=Ann&game=Lantern%%20Caves" % (urllib.parse.quote(PAGE), HOST, server.port))
+        page.until("what its address fills in", "['address', 'name', 'game'].map(name => document.getElementById('join').elements[name].value).join() === '%s:%d,Ann,%s'" % (HOST, server.port, GAME))
         try_joining(page, server)
         cleo = Friend(server.port, "Cleo")
         ends.append(cleo.end)
