@@ -1,18 +1,20 @@
 -- What was served over links on a disk, for the file of which it is the disk.
-use Rattle.std.proofs.Common.{◌≡◌, ◌⊎◌, ◌∙◌, ◌++◌, ℕ, List, [], Option, Some, None, Result, Ok, Err, Bool, true, ap, subst, inl, inr}
+use Rattle.std.proofs.Common.{◌≡◌, ◌⊎◌, ◌∙◌, ◌++◌, ℕ, List, [], Option, Some, None, Result, Ok, Err, Bool, true, false, true≢false, refl, sym, ap, subst, inl, inr}
 use Rattle.std.specs.Option.{is_some}
 use Rattle.std.specs.Io.KnownBytes.{Appends, Keeps}
-use Rattle.std.specs.Prelude.{IfErr, IfOk, IsTrue, OnOk}
+use Rattle.std.specs.Prelude.{IfErr, IfOk, IsTrue, OnOk, is_ok}
 use Rattle.mw_edges.specs.Causes.{PutsFront}
 use Rattle.mw_edges.specs.Folders.{SameImages, StaysOrIsMade, opened_bytes}
 use Rattle.mw_model.specs.Seed.{Seed}
 use Rattle.mw_multidata.specs.Digest.{digest_of}
 use Rattle.mw_multidata.specs.SeedOf.{SeedOf}
 use Rattle.mw_protocol.specs.Lives.{Step, life_after_all, new_life}
-use Rattle.mw_causes.specs.DriveCauses.{drive_stop}
+use Rattle.mw_causes.specs.DriveCauses.{drive_line, drive_status, drive_stop}
+use Rattle.mw_causes.specs.Ends.{Ended, Told, stop_status}
 use Rattle.mw_causes.specs.SeedFiles.{IsFile}
 use Rattle.mw_causes.specs.Tables.{Files}
 use Rattle.mw_causes.specs.declared.drive_cause.DriveCause.{DriveCause}
+use Rattle.mw_causes.specs.declared.drive_cause.DriveCause.TheVariants as cause
 use Rattle.mw_causes.specs.declared.stop.Stop.{Stop}
 use Rattle.mw_causes.specs.declared.stop.Stop.TheVariants as stop
 use Rattle.mw_link.specs.declared.link.Heard.{Heard}
@@ -28,9 +30,9 @@ use Rattle.mw_drive.specs.declared.error.DriveError.TheVariants.{Fault, Memory, 
 use Rattle.mw_drive.specs.declared.error.JournalRefusal.{JournalRefusal}
 use Rattle.mw_offline.specs.Driving.{JournalRead, SeedWas}
 use Rattle.mw_offline.specs.FilesAround.{FilesAround, files_around}
-use Rattle.mw_offline.proofs.Driving.{AreUnmoved, fewer_left, found_for, refuses_for, some_for, stays_for}
+use Rattle.mw_offline.proofs.Driving.{AreUnmoved, fewer_left, found_for, refuses_for, some_for, stays_for, told_bytes}
 use Rattle.mw_words.specs.declared.command_line.ServeWords.{ServeWords}
-use Rattle.mw_serve.specs.Hosted.{HostsShort, HostsToEnd, IsHosted, IsUnserved}
+use Rattle.mw_serve.specs.Hosted.{Finds, HostsShort, HostsToEnd, IsHosted, IsUnserved}
 use Rattle.mw_serve.specs.Sent.{KeepsSent}
 use Rattle.mw_serve.specs.Serving.{FileHostsShort, FileHostsToEnd, Finishes, SeedStopped, ServeDone, ServeStopped, sessions_line}
 use Rattle.mw_serve.proofs.Hosts.{none_sent}
@@ -121,11 +123,6 @@ module _ {T D : Type 0} (heard_by : T → List Heard) (sent_by : T → List (Lis
 
 -- ---- a seed file that was read before
 
-told_bytes : (file : Option (Option (List ℕ))) (bytes read : List ℕ) → file ≡ Some (Some bytes) → IsFile file read → read ≡ bytes
-told_bytes None bytes read told is = cc
-told_bytes (Some None) bytes read told is = absurd is
-told_bytes (Some (Some held)) bytes read told is = let same : Some (Some held) ≡ Some (Some bytes) = told in is.0 ∙ cc
-
 module _ {T D : Type 0} (heard_by : T → List Heard) (sent_by : T → List (List ℕ)) (line_faults : T → ℕ) (opened_at : T → ℕ) (is_shut : T → Bool) (may_leave : D → List ℕ → Type 0)
     {F : Type 0} (holds : F → Files) (images : F → List ℕ → List ℕ → Type 0) (opened : F → List ℕ → Bool) (may_fail : F → Bool) (faults : F → ℕ)
     (first second last : F) (same : (n : List ℕ) → holds second n ≡ holds first n) (crash : (n : List ℕ) → SameImages (images first n) (images second n))
@@ -169,7 +166,33 @@ read_serves sent_by files named read seed served is_file is keeps bytes other st
     let seeds : seed ≡ other = one_seed bytes seed other (subst (λ b. SeedOf b (Ok seed)) same is) other_is in
     subst (λ b. SeedKeeps sent_by files named served b other) same (subst (λ s. SeedKeeps sent_by files named served read s) seeds keeps) steps
 
+-- ---- a journal that was found
+
+pub finds_over : (told shown : Option (List ℕ)) → told ≡ shown → (digest : List ℕ) (seed : Seed) (images might : List ℕ → Type 0) → ((c : List ℕ) → images c → might c) → Finds (IsFound told images digest seed) → Finds (IsFound shown might digest seed)
+finds_over told shown same digest seed images might fewer k = (k.0, k.1, found_for told shown same digest seed images might fewer k.0 k.1 k.2)
+
 -- ---- how it ends
+
+pub refused_not : {b : Bool} → b ≡ false → b ≡ true → ⊥
+refused_not is done = true≢false (sym done ∙ is)
+
+-- all is done only where all links were served
+pub finishes_all : (outcome : Result ℕ DriveError) (old new : Option (List ℕ)) (answer : Result (Unit {0}) (Stop DriveCause)) → Finishes outcome old new answer → is_ok answer ≡ true → is_ok outcome ≡ true
+finishes_all (Ok n) old new answer f is = refl
+finishes_all (Err e) old new (Ok u) f is = let none : Ok u ≡ Err (drive_stop e) = f.0 in cc
+finishes_all (Err e) old new (Err s) f is = cc
+
+stop_some : (s : Stop DriveCause) → stop_status drive_status s ≡ 0 → ⊥
+stop_some stop.Fault h = cc
+stop_some stop.Memory h = cc
+stop_some (stop.Refused (cause.SeedFile c)) h = cc
+stop_some (stop.Refused (cause.Journal refusal)) h = cc
+stop_some (stop.Refused (cause.Script line)) h = cc
+stop_some (stop.Refused cause.Full) h = cc
+
+pub zero_is_ok : {T : Type 0} (outcome : Result T (Stop DriveCause)) (status : ℕ) (told : Told) → IfErr outcome (λ s. Ended drive_status drive_line s status told) → status ≡ 0 → is_ok outcome ≡ true
+zero_is_ok (Ok x) status told ended zero = refl
+zero_is_ok (Err s) status told ended zero = absurd (stop_some ended.named (sym ended.is_status ∙ zero))
 
 finishes_ok : (outcome : Result ℕ DriveError) (old new : Option (List ℕ)) (answer : Result (Unit {0}) (Stop DriveCause)) (total : ℕ) (P : Type 0)
     → Finishes outcome old new answer → IfOk outcome (λ n. (n ≡ total) × P) → OnOk answer (P × Appends old new (sessions_line total))

@@ -1,5 +1,5 @@
 -- How the room of a disk is served.
-use Rattle.std.proofs.Common.{◌≡◌, ◌∙◌, ◌⊎◌, ◌<◌, ◌≤◌, ◌+◌, ◌||◌, arith, ℕ, List, [], ◌∷◌, ◌++◌, Option, Some, None, Result, Ok, Err, Bool, true, false, map, refl, sym, ap, subst, append_assoc, inl, inr, true≢false}
+use Rattle.std.proofs.Common.{◌≡◌, ◌∙◌, ◌⊎◌, ◌<◌, ◌≤◌, ◌||◌, arith, ℕ, List, [], ◌∷◌, ◌++◌, Option, Some, None, Result, Ok, Err, Bool, true, false, map, refl, sym, ap, subst, append_assoc, inl, inr, true≢false}
 use Rattle.std.proofs.lemmas.List.{append-nil}
 use Rattle.std.specs.List.{list_any}
 use Rattle.std.specs.Option.{is_some, option_or}
@@ -33,7 +33,7 @@ use Rattle.mw_keep.specs.declared.reply.Reply.TheVariants as R
 use Rattle.mw_keep.specs.declared.reply.StopCause.{StopCause}
 use Rattle.mw_keep.specs.declared.reply.StopCause.TheVariants.{DiskFault, JournalFull, TooManyCalls}
 use Rattle.mw_keep.proofs.Leaving.{anew_so, committed_records, first_records, left_of}
-use Rattle.mw_session.specs.Desks.{lesser}
+use Rattle.mw_session.specs.Desks.{AreAll}
 use Rattle.mw_session.specs.Rooms.{OneHistory, count_all}
 use Rattle.mw_session.specs.Stops.{lacks_by, stop_among, stop_by, stop_in}
 use Rattle.mw_session.specs.declared.served.Served.{Served}
@@ -42,12 +42,14 @@ use Rattle.mw_drive.specs.Ends.{IsForeign, IsFound, IsOfJournal, StaysSettled}
 use Rattle.mw_drive.specs.declared.error.DriveError.{DriveError}
 use Rattle.mw_drive.specs.declared.error.JournalRefusal.{JournalRefusal}
 use Rattle.mw_drive.specs.declared.error.DriveError.TheVariants.{Fault, Memory, Journal}
-use Rattle.mw_serve.specs.Hosted.{HostsShort, HostsToEnd, IsHosted, IsUnserved, end_of}
+use Rattle.mw_link.specs.Tells.{Sends}
+use Rattle.mw_serve.specs.Hosted.{HostsShort, HostsToEnd, IsHosted, IsUnserved, ListensAfter, end_of}
 use Rattle.mw_serve.specs.Runs.{IsRun, NeverBegan, WentOn}
 use Rattle.mw_serve.specs.Sent.{AllKeep, KeepsSent}
 use Rattle.mw_serve.proofs.Calls.{Among, among_by}
 use Rattle.mw_serve.proofs.Ends.{all_committed, safe_end}
-use Rattle.mw_serve.proofs.Keeping.{accounts_kept, due_of, lived_is, seen}
+use Rattle.mw_session.proofs.Spared.{history_first}
+use Rattle.mw_serve.proofs.Keeping.{accounts_kept, all_kept, due_of, lived_is, seen}
 use Rattle.mw_serve.proofs.Lives.{after_append, faulted, steps_of, tells_fault, told_fault}
 
 -- ---- ends
@@ -201,8 +203,8 @@ some_told (Some f) h = (f, refl)
 module _ {T D : Type 0} (heard_by : T → List Heard) (sent_by : T → List (List ℕ)) (faults : T → ℕ) (opened : T → ℕ) (is_shut : T → Bool)
     (may_leave : D → List ℕ → Type 0) (told : D → Option (List ℕ)) (disk_faults : D → ℕ) (digest : List ℕ) (seed : Seed) (disk : D) (room : KeptRoom D)
     (r : Resumes told may_leave digest seed disk room)
-    (accept : Option ℕ) (last : D) (served : List (List (Served T))) (gate_faults left : ℕ) (outcome : Result ℕ DriveError)
-    (w : WentOn heard_by sent_by faults opened is_shut may_leave told disk_faults accept room last served gate_faults left outcome)
+    (accept : Option ℕ) (last : D) (served : List (List (Served T))) (gate_faults : ℕ) (left : Option (List T)) (ended : Bool) (outcome : Result ℕ DriveError)
+    (w : WentOn heard_by sent_by faults opened is_shut may_leave told disk_faults accept room last served gate_faults left ended outcome)
   where
     life0 : Life
     life0 = new_life seed r.journal r.place
@@ -270,11 +272,11 @@ module _ {T D : Type 0} (heard_by : T → List Heard) (sent_by : T → List (Lis
     pub end_outside : (e : DriveError) → Err e ≡ outcome → IsOfJournal e → ⊥
     end_outside e is of = err_outside w.stopped w.failed w.memory (count_all served) e (is ∙ w.is_end) of
 
-    pub end_full : (n : ℕ) → Ok n ≡ outcome → n ≡ lesser accept (n + left)
+    pub end_full : (n : ℕ) → Ok n ≡ outcome → AreAll accept n left ended
     end_full n is =
         let good = ok_end w.stopped w.failed w.memory (count_all served) n (is ∙ w.is_end) in
         let full = w.full good.0.1.0 good.0.1.1 (ap is_some good.0.0) in
-        subst (λ m. m ≡ lesser accept (m + left)) (sym good.1) full
+        subst (λ m. AreAll accept m left ended) (sym good.1) full
 
     -- a fault shows in a count
     pub end_fault : first_disk room ≡ kept_disk room → disk_faults disk ≤ disk_faults (kept_disk room) → outcome ≡ Err Fault → (disk_faults disk < disk_faults last) ⊎ (0 < gate_faults)
@@ -316,7 +318,9 @@ module _ {T D : Type 0} (heard_by : T → List Heard) (sent_by : T → List (Lis
             let front = steps ++ crash ∷ [] in
             let more = steps_of (map seen w.log) lives_on.lucks in
             let is : new_life seed r.journal r.place ≡ life_after_all seed front = anew.1 ∙ sym (after_append (new_life seed [] 40) steps (crash ∷ [])) in
-            let sent = accounts_kept seed lives was_owed view_tails shown front (new_life seed r.journal r.place) is w.log lives_on.lucks lives_on.replied heard_by sent_by faults opened is_shut served w.history.pass.ended w.history.accounts w.history.pass.seen w.history.all w.history.whole.1.1.1 in
+            let took = accounts_kept seed lives was_owed view_tails shown front (new_life seed r.journal r.place) is w.log lives_on.lucks lives_on.replied heard_by sent_by faults opened is_shut served w.history.pass.ended w.history.accounts w.history.pass.seen w.history.all w.history.whole.1.1.1 in
+            let first = history_first lives heard_by sent_by faults opened is_shut may_leave digest seed r.journal r.place (origin_of room) r.began w.log lives_on.lucks served w.memory w.stopped lives_on.replied w.history in
+            let sent = all_kept seed front (new_life seed r.journal r.place) is w.log lives_on.lucks sent_by served took first in
             let same : front ++ more ≡ steps ++ crash ∷ more = append_assoc steps (crash ∷ []) more in
             let end : lived (new_life seed r.journal r.place) w.log lives_on.lucks ≡ life_after_all seed (front ++ more) =
             lived_is (new_life seed r.journal r.place) w.log lives_on.lucks ∙ (ap (λ l. after_all l more) is ∙ sym (after_append (new_life seed [] 40) front more)) in
@@ -395,16 +399,53 @@ left_stays before after digest life stays was = record {
 module _ {T D : Type 0} (heard_by : T → List Heard) (sent_by : T → List (List ℕ)) (faults : T → ℕ) (opened : T → ℕ) (is_shut : T → Bool)
     (may_leave : D → List ℕ → Type 0) (told : D → Option (List ℕ)) (disk_faults : D → ℕ) (digest : List ℕ) (seed : Seed) (disk : D) (room : KeptRoom D)
     (r : Resumes told may_leave digest seed disk room)
-    (accept : Option ℕ) (last : D) (served : List (List (Served T))) (gate_faults left : ℕ) (outcome : Result ℕ DriveError)
-    (run : IsRun heard_by sent_by faults opened is_shut may_leave told disk_faults accept room last served gate_faults left outcome)
-    (stays : StaysSettled (may_leave disk) (may_leave (kept_disk room)) digest)
+    (accept : Option ℕ) (last : D) (served : List (List (Served T))) (gate_faults : ℕ) (left : Option (List T)) (ended : Bool) (outcome : Result ℕ DriveError)
+    (run : IsRun heard_by sent_by faults opened is_shut may_leave told disk_faults accept room last served gate_faults left ended outcome)
   where
     pub run_done : LivesKeep → IfOk outcome (λ n. (n ≡ count_all served) × HostsToEnd heard_by sent_by faults opened is_shut may_leave (IsFound (told disk) (may_leave disk) digest seed) (may_leave last) digest seed served)
     run_done lives = if_ok_is outcome (λ n. (n ≡ count_all served) × HostsToEnd heard_by sent_by faults opened is_shut may_leave (IsFound (told disk) (may_leave disk) digest seed) (may_leave last) digest seed served) (λ n is. elim run [
       | inl never ↦ absurd (no_count outcome (0 < gate_faults) n never.1.1 is)
-      | inr w ↦ to_end heard_by sent_by faults opened is_shut may_leave told disk_faults digest seed disk room r accept last served gate_faults left outcome w lives n is
+      | inr w ↦ to_end heard_by sent_by faults opened is_shut may_leave told disk_faults digest seed disk room r accept last served gate_faults left ended outcome w lives n is
     ])
 
+    pub run_accepted : (P : DriveError → Type 0) → ((e : DriveError) → (IsOfJournal e → ⊥) → P e) → IfErr outcome P
+    run_accepted P f = if_err_is outcome P (λ e is. f e (elim run [
+      | inl never ↦ outside_two e (no_journal outcome (0 < gate_faults) e never.1.1 is)
+      | inr w ↦ end_outside heard_by sent_by faults opened is_shut may_leave told disk_faults digest seed disk room r accept last served gate_faults left ended outcome w e is
+    ]))
+
+    pub run_full : IfOk outcome (λ n. AreAll accept n left ended)
+    run_full = if_ok_is outcome (λ n. AreAll accept n left ended) (λ n is. elim run [
+      | inl never ↦ absurd (no_count outcome (0 < gate_faults) n never.1.1 is)
+      | inr w ↦ end_full heard_by sent_by faults opened is_shut may_leave told disk_faults digest seed disk room r accept last served gate_faults left ended outcome w n is
+    ])
+
+    pub run_fault : first_disk room ≡ kept_disk room → disk_faults disk ≤ disk_faults (kept_disk room) → outcome ≡ Err Fault → (disk_faults disk < disk_faults last) ⊎ (0 < gate_faults)
+    run_fault found count is = elim run [
+      | inl never ↦ inr (fault_only outcome (0 < gate_faults) never.1.1 is)
+      | inr w ↦ end_fault heard_by sent_by faults opened is_shut may_leave told disk_faults digest seed disk room r accept last served gate_faults left ended outcome w found count is
+    ]
+
+    pub run_tells : first_disk room ≡ kept_disk room → is_some (told (kept_disk room)) ≡ is_some (told disk) → is_some (told last) ≡ is_some (told disk)
+    run_tells found tells = elim run [
+      | inl never ↦ ap (λ d. is_some (told d)) never.0 ∙ tells
+      | inr w ↦ end_tells heard_by sent_by faults opened is_shut may_leave told disk_faults digest seed disk room r accept last served gate_faults left ended outcome w found tells
+    ]
+
+    pub run_count : first_disk room ≡ kept_disk room → disk_faults disk ≤ disk_faults (kept_disk room) → disk_faults disk ≤ disk_faults last
+    run_count found count = elim run [
+      | inl never ↦ subst (λ d. disk_faults disk ≤ disk_faults d) (sym never.0) count
+      | inr w ↦ end_count heard_by sent_by faults opened is_shut may_leave told disk_faults digest seed disk room r accept last served gate_faults left ended outcome w found count
+    ]
+
+-- the same, where what a crash might leave of the disk was settled while the room was recovered
+module _ {T D : Type 0} (heard_by : T → List Heard) (sent_by : T → List (List ℕ)) (faults : T → ℕ) (opened : T → ℕ) (is_shut : T → Bool)
+    (may_leave : D → List ℕ → Type 0) (told : D → Option (List ℕ)) (disk_faults : D → ℕ) (digest : List ℕ) (seed : Seed) (disk : D) (room : KeptRoom D)
+    (r : Resumes told may_leave digest seed disk room)
+    (accept : Option ℕ) (last : D) (served : List (List (Served T))) (gate_faults : ℕ) (left : Option (List T)) (ended : Bool) (outcome : Result ℕ DriveError)
+    (run : IsRun heard_by sent_by faults opened is_shut may_leave told disk_faults accept room last served gate_faults left ended outcome)
+    (stays : StaysSettled (may_leave disk) (may_leave (kept_disk room)) digest)
+  where
     pub run_short : (refuses : JournalRefusal → Type 0) (only_read : Type 0) → IfErr outcome (λ e. IsUnserved refuses (StaysSettled (may_leave disk) (may_leave last) digest) only_read served e
         ⊎ HostsShort heard_by sent_by faults opened is_shut may_leave (IsFound (told disk) (may_leave disk) digest seed) (may_leave last) digest seed served e)
     run_short refuses only_read = if_err_is outcome (λ e. IsUnserved refuses (StaysSettled (may_leave disk) (may_leave last) digest) only_read served e
@@ -415,46 +456,31 @@ module _ {T D : Type 0} (heard_by : T → List Heard) (sent_by : T → List (Lis
             read = λ foreign. absurd (foreign_two e (no_journal outcome (0 < gate_faults) e never.1.1 is) foreign);
             cause = cause_two e refuses (no_journal outcome (0 < gate_faults) e never.1.1 is);
           }
-          | inr w ↦ inr (to_short heard_by sent_by faults opened is_shut may_leave told disk_faults digest seed disk room r accept last served gate_faults left outcome w e is)
+          | inr w ↦ inr (to_short heard_by sent_by faults opened is_shut may_leave told disk_faults digest seed disk room r accept last served gate_faults left ended outcome w e is)
         ])
-
-    pub run_accepted : (P : DriveError → Type 0) → ((e : DriveError) → (IsOfJournal e → ⊥) → P e) → IfErr outcome P
-    run_accepted P f = if_err_is outcome P (λ e is. f e (elim run [
-      | inl never ↦ outside_two e (no_journal outcome (0 < gate_faults) e never.1.1 is)
-      | inr w ↦ end_outside heard_by sent_by faults opened is_shut may_leave told disk_faults digest seed disk room r accept last served gate_faults left outcome w e is
-    ]))
-
-    pub run_full : IfOk outcome (λ n. n ≡ lesser accept (n + left))
-    run_full = if_ok_is outcome (λ n. n ≡ lesser accept (n + left)) (λ n is. elim run [
-      | inl never ↦ absurd (no_count outcome (0 < gate_faults) n never.1.1 is)
-      | inr w ↦ end_full heard_by sent_by faults opened is_shut may_leave told disk_faults digest seed disk room r accept last served gate_faults left outcome w n is
-    ])
-
-    pub run_fault : first_disk room ≡ kept_disk room → disk_faults disk ≤ disk_faults (kept_disk room) → outcome ≡ Err Fault → (disk_faults disk < disk_faults last) ⊎ (0 < gate_faults)
-    run_fault found count is = elim run [
-      | inl never ↦ inr (fault_only outcome (0 < gate_faults) never.1.1 is)
-      | inr w ↦ end_fault heard_by sent_by faults opened is_shut may_leave told disk_faults digest seed disk room r accept last served gate_faults left outcome w found count is
-    ]
-
-    pub run_tells : first_disk room ≡ kept_disk room → is_some (told (kept_disk room)) ≡ is_some (told disk) → is_some (told last) ≡ is_some (told disk)
-    run_tells found tells = elim run [
-      | inl never ↦ ap (λ d. is_some (told d)) never.0 ∙ tells
-      | inr w ↦ end_tells heard_by sent_by faults opened is_shut may_leave told disk_faults digest seed disk room r accept last served gate_faults left outcome w found tells
-    ]
-
-    pub run_count : first_disk room ≡ kept_disk room → disk_faults disk ≤ disk_faults (kept_disk room) → disk_faults disk ≤ disk_faults last
-    run_count found count = elim run [
-      | inl never ↦ subst (λ d. disk_faults disk ≤ disk_faults d) (sym never.0) count
-      | inr w ↦ end_count heard_by sent_by faults opened is_shut may_leave told disk_faults digest seed disk room r accept last served gate_faults left outcome w found count
-    ]
 
     pub run_kept : LivesKeep → TakenWasOwed → TailsOfTheLastView → ShownIsChecked → (steps : List Step) → is_some (told disk) ≡ true → IsLeft (may_leave disk) digest (life_after_all seed steps)
         → KeepsSent sent_by (may_leave last) digest seed steps served
     run_kept lives was_owed view_tails shown steps some was = elim run [
       | inl never ↦ none_sent sent_by (may_leave last) digest seed steps served never.1.0
           (subst (λ d. IsLeft (may_leave d) digest (life_after_all seed steps)) (sym never.0) (left_stays (may_leave disk) (may_leave (kept_disk room)) digest (life_after_all seed steps) stays was))
-      | inr w ↦ end_kept heard_by sent_by faults opened is_shut may_leave told disk_faults digest seed disk room r accept last served gate_faults left outcome w lives was_owed view_tails shown steps some was
+      | inr w ↦ end_kept heard_by sent_by faults opened is_shut may_leave told disk_faults digest seed disk room r accept last served gate_faults left ended outcome w lives was_owed view_tails shown steps some was
     ]
 
 pub one_origin : {A : Type 0} (x y : A) → Some x ≡ Some y → x ≡ y
 one_origin x y h = cc
+
+-- ---- a gate that is made ready
+
+pub refused_ready : {T U E : Type 0} (old new : List T) (at : T) (r : Result U E) → is_err r ≡ true → Sends old new at r → new ≡ old
+refused_ready old new at (Ok x) is h = cc
+refused_ready old new at (Err e) is h = h
+
+pub made_ready : {T U E : Type 0} (old new : List T) (at : T) (r : Result U E) → is_err r ≡ false → Sends old new at r → new ≡ old ++ at ∷ []
+made_ready old new at (Ok x) is h = h
+made_ready old new at (Err e) is h = cc
+
+-- more was so before, and it says less that all is done
+pub listens_more : (this that done all_done : Type 0) (old new : List (List ℕ)) (at : List ℕ) → (this → that) → (all_done → done) → ListensAfter this done old new at → ListensAfter that all_done old new at
+listens_more this that done all_done old new at f g (inl k) = inl (k.0, λ d. k.1 (g d))
+listens_more this that done all_done old new at f g (inr k) = inr (k.0, f k.1)

@@ -5,3 +5,4 @@ mod Keeping
 mod Hosts
 mod Files
 pub mod Starting
+pub mod WholeLives

@@ -1,5 +1,5 @@
 -- A room that was served, and how that ended.
-use Rattle.std.specs.Prelude.{◌≡◌, ◌⊎◌, ℕ, List, [], Bool, true, false, Option, Some, None, Result, Ok, Err}
+use Rattle.std.specs.Prelude.{◌≡◌, ◌⊎◌, ◌++◌, ◌∷◌, ℕ, List, [], Bool, true, false, Option, Some, None, Result, Ok, Err}
 use Rattle.mw_model.specs.Seed.{Seed}
 use Rattle.mw_protocol.specs.Lives.{Luck, new_life}
 use Rattle.mw_protocol.specs.Records.{Record}
@@ -31,6 +31,16 @@ end_without false false accepted = Ok accepted
 abbrev pub end_of : Option StopCause → Bool → Bool → ℕ → Result ℕ DriveError
 end_of (Some cause) failed memory accepted = Err (error_for (cause_view cause))
 end_of None failed memory accepted = end_without failed memory accepted
+
+-- the gate wasn't made ready, and all isn't done; or it was made ready once, at this address, and this
+-- was so before
+abbrev pub ListensAfter : Type 0 → Type 0 → List (List ℕ) → List (List ℕ) → List ℕ → Type 0
+ListensAfter this all_done old new at =
+    ((new ≡ old) × (all_done → ⊥)) ⊎ ((new ≡ old ++ at ∷ []) × this)
+
+-- the journal was found to hold the records of a room
+abbrev pub Finds : (List Record → ℕ → Type 0) → Type 0
+Finds found = (journal : List Record) × (place : ℕ) × found journal place
 
 -- no room was served: what a crash may leave is as settled as it was; what is no journal of the
 -- seed's was only read

@@ -3,3 +3,4 @@ pub mod Sent
 pub mod Hosted
 pub mod Runs
 pub mod Serving
+pub mod WholeLives

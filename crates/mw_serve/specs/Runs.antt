@@ -24,7 +24,8 @@ module _ {T D : Type 0} (heard_by : T → List Heard) (sent_by : T → List (Lis
     (told : D → Option (List ℕ)) (disk_faults : D → ℕ) where
   -- links were served, in a room that went on from this one
   pub record WentOn (accept : Option ℕ) (room : KeptRoom D) (disk : D)
-      (served : List (List (Served T))) (gate_faults left : ℕ) (outcome : Result ℕ DriveError)
+      (served : List (List (Served T))) (gate_faults : ℕ) (left : Option (List T)) (ended : Bool)
+      (outcome : Result ℕ DriveError)
       : Type 0 where
     pub last : KeptRoom D
     pub disk_is : disk ≡ kept_disk last
@@ -38,10 +39,10 @@ module _ {T D : Type 0} (heard_by : T → List Heard) (sent_by : T → List (Lis
         (Some (origin_of room)) log served memory stopped
     pub is_end : outcome ≡ end_of stopped failed memory (count_all served)
     pub gate : failed ≡ true → 0 < gate_faults
-    pub full : IsFull accept failed memory stopped (count_all served) left
+    pub full : IsFull accept failed memory stopped (count_all served) left ended
 
-  abbrev pub IsRun : Option ℕ → KeptRoom D → D → List (List (Served T)) → ℕ → ℕ
-      → Result ℕ DriveError → Type 0
-  IsRun accept room disk served gate_faults left outcome =
+  abbrev pub IsRun : Option ℕ → KeptRoom D → D → List (List (Served T)) → ℕ → Option (List T)
+      → Bool → Result ℕ DriveError → Type 0
+  IsRun accept room disk served gate_faults left ended outcome =
       ((disk ≡ kept_disk room) × NeverBegan served gate_faults outcome)
-      ⊎ WentOn accept room disk served gate_faults left outcome
+      ⊎ WentOn accept room disk served gate_faults left ended outcome

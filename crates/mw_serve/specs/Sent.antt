@@ -1,16 +1,30 @@
 -- What was sent over links, and that it is kept.
-use Rattle.std.specs.Prelude.{◌≡◌, ℕ, ◌++◌, List, [], Option, Some, None}
+use Rattle.std.specs.Prelude.{◌≡◌, ℕ, ◌++◌, List, [], Option, Some, None, map}
 use Rattle.std.specs.List.{AllByRecursion}
+use mathlib.Core.List.{IsPrefix}
 use Rattle.mw_model.specs.Seed.{Seed}
 use Rattle.mw_protocol.specs.Lives.{Step, life_after_all}
+use Rattle.mw_protocol.specs.Rooms.{Session, session_in, text_of}
 use Rattle.mw_keep.specs.Left.{IsLeft}
 use Rattle.mw_session.specs.declared.served.Served.{Served}
 use Rattle.mw_serve.specs.Taken.{IsOfTaken}
 
+-- a session is open at a point of a run of lives, and these texts are those of the first of all
+-- messages that it was owed up to there
+pub record AreFirstOwed (seed : Seed) (steps : List Step) (session : ℕ) (texts : List (List ℕ))
+    : Type 0 where
+  pub front : List Step
+  pub back : List Step
+  pub point : steps ≡ front ++ back
+  pub s : Session
+  pub found : session_in (life_after_all seed front).room.sessions session ≡ Some s
+  pub first : IsPrefix texts (map text_of s.owed)
+
 -- these texts were sent over a link; where no session was opened over it, none was
 abbrev pub AreOfTaken : Seed → List Step → Option ℕ → List (List ℕ) → Type 0
 AreOfTaken seed steps None texts = texts ≡ []
-AreOfTaken seed steps (Some session) texts = AllByRecursion (IsOfTaken seed steps session) texts
+AreOfTaken seed steps (Some session) texts =
+    AllByRecursion (IsOfTaken seed steps session) texts × AreFirstOwed seed steps session texts
 
 module _ {T : Type 0} (sent_by : T → List (List ℕ)) where
   -- so it is of all that was sent over a link, over the links of a worker, and over those of all
@@ -24,7 +38,8 @@ module _ {T : Type 0} (sent_by : T → List (List ℕ)) where
   AllKeep seed steps served = AllByRecursion (LinesKeep seed steps) served
 
   -- what a crash may leave is settled for the life that a run of lives comes to, which goes on from
-  -- these steps; and what was sent are the texts of messages that were taken in it
+  -- these steps; and what was sent over each link are the texts of messages that its session took in
+  -- it, the first of all that it was owed
   pub record KeepsSent (images : List ℕ → Type 0) (digest : List ℕ) (seed : Seed)
       (steps : List Step) (served : List (List (Served T)))
       : Type 0 where

@@ -24,7 +24,7 @@ use Rattle.mw_causes.specs.declared.stop.Stop.TheVariants.{Fault, Memory}
 use Rattle.mw_offline.specs.Driving.{JournalLeaves, JournalRead, JournalRefused, JournalStays, SeedWas}
 use Rattle.mw_offline.specs.FilesAround.{FilesAround, IsUntouched}
 use Rattle.mw_words.specs.declared.command_line.ServeWords.{ServeWords}
-use Rattle.mw_serve.specs.Hosted.{HostsShort, HostsToEnd, IsUnserved}
+use Rattle.mw_serve.specs.Hosted.{Finds, HostsShort, HostsToEnd, IsUnserved}
 use Rattle.mw_serve.specs.Sent.{KeepsSent}
 
 -- what is put at the end
@@ -40,6 +40,12 @@ Finishes (Ok n) old new (Ok done) = Appends old new (sessions_line n)
 Finishes (Ok n) old new (Err stop) =
     ((stop ≡ Fault) ⊎ (stop ≡ Memory)) × PutsFront old new (sessions_line n)
 
+-- a journal's file was found to hold the records of a room
+abbrev pub FileFinds : FilesAround → List ℕ → List ℕ → Seed → Type 0
+FileFinds files name bytes seed =
+    Finds
+    (IsFound (opened_bytes (files.before name)) (files.might_leave name) (digest_of bytes) seed)
+
 -- the seed file gave no seed: nothing else was touched
 pub record SeedStopped {A : Type 0} (files : FilesAround) (name : List ℕ) (served : List A)
     (old new : Option (List ℕ)) (stop : Stop DriveCause) : Type 0 where
@@ -49,6 +55,13 @@ pub record SeedStopped {A : Type 0} (files : FilesAround) (name : List ℕ) (ser
   pub none : served ≡ []
   pub quiet : Keeps old new
   pub files_stay : (n : List ℕ) → IsUntouched files n
+
+-- the seed file gave a seed, and its journal was found to hold the records of a room
+pub record JournalFound (files : FilesAround) (named : ServeWords) : Type 0 where
+  pub bytes : List ℕ
+  pub seed : Seed
+  pub seed_was : SeedWas files named.multidata bytes seed
+  pub finds : FileFinds files named.journal bytes seed
 
 -- what the lines of a gate tell, and what a crash may leave of a folder's disk
 module _ {T D : Type 0} (heard_by : T → List Heard) (sent_by : T → List (List ℕ)) (faults : T → ℕ)

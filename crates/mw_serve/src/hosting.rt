@@ -1,6 +1,6 @@
 //! The room of a disk, served over the links of a gate.
 ghost use Rattle.std.specs.Prelude.{◌≡◌, ◌⊎◌, ◌<◌, ◌≤◌, ◌+◌, [], ℕ, List, None, Ok, Err, IfOk};
-ghost use Rattle.std.specs.Prelude.{IfErr, IsTrue, Some, is_some};
+ghost use Rattle.std.specs.Prelude.{IfErr, IsTrue, Some, is_ok, is_some};
 ghost use Rattle.mw_model.specs.Seed.{Seed};
 ghost use Rattle.mw_multidata.specs.Digest.{digest_of};
 ghost use Rattle.mw_multidata.specs.SeedOf.{SeedOf};
@@ -9,11 +9,11 @@ ghost use Rattle.mw_protocol.specs.Records.{Record};
 ghost use Rattle.mw_keep.specs.Keeps.{kept_disk, origin_of};
 ghost use Rattle.mw_keep.specs.Left.{IsLeft};
 ghost use Rattle.mw_keep.specs.Standing.{Began, HasLived, first_disk};
-ghost use Rattle.mw_session.specs.Desks.{left_count, lesser, IsWithin};
+ghost use Rattle.mw_session.specs.Desks.{AreAll, IsWithin};
 ghost use Rattle.mw_session.specs.Numbers.{all_numbers, NoneTwice};
 ghost use Rattle.mw_session.specs.Rooms.{count_all};
 ghost use Rattle.mw_drive.specs.Ends.{IsAsRead, IsFound, IsOfJournal, Refuses, StaysSettled};
-ghost use Rattle.mw_serve.specs.Hosted.{HostsShort, HostsToEnd, IsUnserved, end_of};
+ghost use Rattle.mw_serve.specs.Hosted.{Finds, HostsShort, HostsToEnd, IsUnserved, ListensAfter, end_of};
 ghost use Rattle.mw_serve.specs.Runs.{IsRun};
 ghost use Rattle.mw_serve.specs.Sent.{KeepsSent};
 
@@ -84,12 +84,14 @@ fn host<D: Disk + Send + Drop, G: Gate + Send, R: Threads + Wait + Sync>(
     requires given { G.given gate ≡ 0 }
     ensures run { IsRun G.Line.heard G.Line.sent G.Line.faults G.Line.opened G.Line.is_shut
         D.may_leave D.told D.faults terms.accept room result.disk result.served
-        (G.faults result.gate) (left_count (G.left result.gate)) result.outcome }
+        (G.faults result.gate) (G.left result.gate) (G.ended result.gate) result.outcome }
     ensures numbers { (digest : List ℕ) (seed : Seed) (journal : List Record) (place : ℕ)
         → Began D.may_leave digest seed journal place (origin_of room)
         → NoneTwice (all_numbers result.served) }
     ensures given { G.given result.gate ≡ count_all result.served }
     ensures within { IsWithin terms.accept (count_all result.served) }
+    ensures listened { ListensAfter (Unit {0}) (IsTrue (is_ok result.outcome)) (G.listened gate)
+        (G.listened result.gate) bind.now }
 {
     if gate.listen(bind).is_err() {
         return Ending {
@@ -163,7 +165,10 @@ pub(crate) fn host_on<D: Disk + Send + Drop, G: Gate + Send, R: Threads + Wait +
     ensures given { G.given result.gate ≡ count_all result.served }
     ensures within { IsWithin terms.accept (count_all result.served) }
     ensures full { IfOk result.outcome
-        (λ n. n ≡ lesser terms.accept (n + left_count (G.left result.gate))) }
+        (λ n. AreAll terms.accept n (G.left result.gate) (G.ended result.gate)) }
+    ensures listened { ListensAfter
+        (Finds (IsFound (D.told disk) (D.may_leave disk) (digest_of file.now) multidata))
+        (IsTrue (is_ok result.outcome)) (G.listened gate) (G.listened result.gate) bind.now }
     ensures fault { result.outcome ≡ Err DriveError.Fault → (D.faults disk < D.faults result.disk)
         ⊎ (0 < G.faults result.gate) }
     ensures tells { is_some (D.told result.disk) ≡ is_some (D.told disk) }

@@ -2,6 +2,8 @@
 #![tactic(auto)]
 
 mod hosting;
+mod laws;
 mod serve_command;
 
+pub use laws::all_runs_keep;
 pub use serve_command::cmd_serve;

@@ -1,23 +1,24 @@
 //! The command `serve`.
 ghost use Rattle.std.specs.Prelude.{◌≡◌, ◌⊎◌, ◌<◌, ◌≤◌, ◌+◌, ℕ, List, [], Some, Ok, Err, IfOk, IfErr, OnOk};
 ghost use Rattle.std.specs.Io.KnownBytes.{Appends, Keeps};
-ghost use Rattle.std.specs.Prelude.{IsTrue, is_some, string_bytes};
+ghost use Rattle.std.specs.Prelude.{IsTrue, is_ok, is_some, string_bytes};
 ghost use Rattle.mw_edges.specs.Causes.{PutsFront, Rose};
 ghost use Rattle.mw_edges.specs.Folders.{opened_bytes};
 ghost use Rattle.mw_multidata.specs.Digest.{digest_of};
 ghost use Rattle.mw_multidata.specs.SeedOf.{SeedOf};
 ghost use Rattle.mw_protocol.specs.Lives.{Step, life_after_all};
 ghost use Rattle.mw_keep.specs.Left.{IsLeft};
-ghost use Rattle.mw_session.specs.Desks.{left_count, lesser, IsWithin};
+ghost use Rattle.mw_session.specs.Desks.{AreAll, IsWithin};
 ghost use Rattle.mw_session.specs.Numbers.{all_numbers, NoneTwice};
 ghost use Rattle.mw_session.specs.Rooms.{count_all};
 ghost use Rattle.mw_drive.specs.Ends.{IsOfJournal};
 ghost use Rattle.mw_causes.specs.Ends.{told_by};
 ghost use Rattle.mw_offline.specs.Driving.{JournalLeaves};
 ghost use Rattle.mw_offline.specs.FilesAround.{files_around};
+ghost use Rattle.mw_serve.specs.Hosted.{ListensAfter};
 ghost use Rattle.mw_serve.specs.Sent.{KeepsSent};
-ghost use Rattle.mw_serve.specs.Serving.{FileHostsShort, FileHostsToEnd, Finishes, ServeEnds};
-ghost use Rattle.mw_serve.specs.Serving.{ServeKeeps};
+ghost use Rattle.mw_serve.specs.Serving.{FileFinds, FileHostsShort, FileHostsToEnd, Finishes};
+ghost use Rattle.mw_serve.specs.Serving.{JournalFound, ServeEnds, ServeKeeps};
 ghost use Rattle.mw_serve.specs.Serving.{SeedStopped, ServeDone, ServeStopped, sessions_line};
 
 use crate::hosting::{Ending, Terms, host_on};
@@ -79,7 +80,11 @@ where
     ensures given { G.given result.gate ≡ count_all result.served }
     ensures within { IsWithin words.now.accept (count_all result.served) }
     ensures full { IfOk result.outcome
-        (λ n. n ≡ lesser words.now.accept (n + left_count (G.left result.gate))) }
+        (λ n. AreAll words.now.accept n (G.left result.gate) (G.ended result.gate)) }
+    ensures listened { ListensAfter (FileFinds
+        (files_around F.holds F.images F.is_open F.may_fail F.faults folder.old folder.new)
+        words.now.journal seed.bytes seed.multidata)
+        (IsTrue (is_ok result.outcome)) (G.listened gate) (G.listened result.gate) words.now.bind }
     ensures fault { result.outcome ≡ Err DriveError.Fault
         → Rose (F.faults folder.old) (F.faults folder.new) ⊎ (0 < G.faults result.gate) }
     ensures later { F.faults folder.old ≤ F.faults folder.new }
@@ -164,8 +169,8 @@ where
     requires workers { 1 ≤ words.now.workers }
     requires faults { G.faults gate ≡ 0 }
     requires given { G.given gate ≡ 0 }
-    ensures done { OnOk result.0 (ServeDone G.Line.heard G.Line.sent G.Line.faults G.Line.opened G.Line.is_shut
-        F.Drive.may_leave
+    ensures done { OnOk result.0 (ServeDone G.Line.heard G.Line.sent G.Line.faults G.Line.opened
+        G.Line.is_shut F.Drive.may_leave
         (files_around F.holds F.images F.is_open F.may_fail F.faults folder.old folder.new)
         words.now result.2 (O.held out.old) (O.held out.new)) }
     ensures stopped { IfErr result.0 (λ stop. SeedStopped
@@ -185,8 +190,11 @@ where
     ensures numbers { NoneTwice (all_numbers result.2) }
     ensures given { G.given result.1 ≡ count_all result.2 }
     ensures within { IsWithin words.now.accept (count_all result.2) }
-    ensures full { OnOk result.0 (count_all result.2
-        ≡ lesser words.now.accept (count_all result.2 + left_count (G.left result.1))) }
+    ensures full { OnOk result.0 (AreAll words.now.accept (count_all result.2) (G.left result.1)
+        (G.ended result.1)) }
+    ensures listened { ListensAfter (JournalFound
+        (files_around F.holds F.images F.is_open F.may_fail F.faults folder.old folder.new)
+        words.now) (IsTrue (is_ok result.0)) (G.listened gate) (G.listened result.1) words.now.bind }
     ensures fault { result.0 ≡ Err Stop.Fault
         → Rose (F.faults folder.old) (F.faults folder.new)
         ⊎ ((0 < G.faults result.1) ⊎ Rose (O.faults out.old) (O.faults out.new)) }
@@ -209,8 +217,9 @@ where
 /// once as many links were accepted as the words say, or where the gate gives no more, and prints
 /// how many there were. The gate is handed back, and for each worker the links that it served.
 ///
-/// The seed file is judged first, then the journal; both before the gate listens. A journal is
-/// judged after its first gate that isn't open was written 0.
+/// The seed file is judged first, then the journal; both before the gate listens, which it doesn't
+/// where one of them is refused. A journal is judged after its first gate that isn't open was
+/// written 0.
 ///
 /// The status is 0 where all is done; 5 where the folder, the journal's disk, the gate or the out
 /// sink failed; 6 where memory ran out; 7 where the seed file or the journal is refused; 8 where the
@@ -242,8 +251,11 @@ where
     ensures numbers { NoneTwice (all_numbers result.2) }
     ensures given { G.given result.1 ≡ count_all result.2 }
     ensures within { IsWithin words.now.accept (count_all result.2) }
-    ensures full { result.0 ≡ 0 → count_all result.2
-        ≡ lesser words.now.accept (count_all result.2 + left_count (G.left result.1)) }
+    ensures full { result.0 ≡ 0 → AreAll words.now.accept (count_all result.2) (G.left result.1)
+        (G.ended result.1) }
+    ensures listened { ListensAfter (JournalFound
+        (files_around F.holds F.images F.is_open F.may_fail F.faults folder.old folder.new)
+        words.now) (result.0 ≡ 0) (G.listened gate) (G.listened result.1) words.now.bind }
     ensures fault { result.0 ≡ 5
         → Rose (F.faults folder.old) (F.faults folder.new)
         ⊎ ((0 < G.faults result.1) ⊎ Rose (O.faults out.old) (O.faults out.new)) }

@@ -1,4 +1,4 @@
-use Rattle.std.proofs.Common.{ℕ, List, sym, subst, inl}
+use Rattle.std.proofs.Common.{ℕ, List, refl, sym, subst, inl}
 use Rattle.mw_disk.specs.Crash.{LeavesOnly}
 use Rattle.mw_journal.specs.Settled.{AllSettled, IsSettled}
 use Rattle.mw_protocol.specs.Lives.{life_after_all}
@@ -6,22 +6,17 @@ use Rattle.mw_multidata.specs.Digest.{digest_of}
 use Rattle.mw_keep.specs.Keeps.{kept_disk}
 use Rattle.mw_keep.specs.Left.{IsLeft}
 use Rattle.mw_keep.specs.Recovers.{Resumes, RefusesResume}
-use Rattle.mw_session.specs.Desks.{left_count}
-use Rattle.mw_drive.specs.Ends.{IsAsRead, IsOfJournal, Refuses, StaysSettled}
+use Rattle.mw_drive.specs.Ends.{IsAsRead, IsFound, IsOfJournal, Refuses, StaysSettled}
 use Rattle.mw_drive.proofs.Driving.{cause_of, foreign_error, unopened_accepted}
-use Rattle.mw_serve.proofs.Hosts.{left_stays, none_sent, run_accepted, run_count, run_done, run_fault, run_full, run_kept, run_short, run_tells}
+use Rattle.mw_serve.specs.Hosted.{Finds}
+use Rattle.mw_serve.proofs.Hosts.{left_stays, listens_more, none_sent, run_accepted, run_count, run_done, run_fault, run_full, run_kept, run_short, run_tells}
 use Rattle.mw_serve.proofs.hosting.host_on.Goals as goal
 
 pub returns-in-Ok-clause-done : goal.returns-in-Ok-clause-done
 returns-in-Ok-clause-done g c =
     let D = g.D.Disk in let L = g.G.Line.Link in let digest = digest_of c.args.file.now in let seed = c.args.multidata in
     let r = subst (λ d. Resumes D.told D.may_leave d seed c.args.disk c.in-Ok.room) c.digest.ensures c.in-Ok.ensures.resumes in
-    let stays : StaysSettled (D.may_leave c.args.disk) (D.may_leave (kept_disk c.in-Ok.room)) digest = λ text body settled f image.
-    let leaves = subst (λ (d : List ℕ). LeavesOnly D.moment D.left_since c.args.disk (kept_disk c.in-Ok.room) (λ x. IsSettled x d text body)) c.digest.ensures
-    (c.in-Ok.ensures.any_moment text body (subst (λ (d : List ℕ). AllSettled (D.may_leave c.args.disk) d text body) (sym c.digest.ensures) settled)) in
-    let met = g.met.D.Disk g.world.𝓛 g.world.𝓜 g.world.𝓡 (λ s x. x, λ x. x, λ x. x, λ x. x) in
-    leaves.each f (met.counts_now (kept_disk c.in-Ok.room) (D.moment c.args.disk) f leaves.later image) in
-    run_done L.heard L.sent L.faults L.opened L.is_shut D.may_leave D.told D.faults digest seed c.args.disk c.in-Ok.room r c.args.terms.accept c.host.result.disk c.host.result.served (g.G.Gate.faults c.host.result.gate) (left_count (g.G.Gate.left c.host.result.gate)) c.host.result.outcome c.host.ensures.run stays
+    run_done L.heard L.sent L.faults L.opened L.is_shut D.may_leave D.told D.faults digest seed c.args.disk c.in-Ok.room r c.args.terms.accept c.host.result.disk c.host.result.served (g.G.Gate.faults c.host.result.gate) (g.G.Gate.left c.host.result.gate) (g.G.Gate.ended c.host.result.gate) c.host.result.outcome c.host.ensures.run
     c.lives_keep.ensures
 
 pub returns-in-Ok-clause-short : goal.returns-in-Ok-clause-short
@@ -33,7 +28,7 @@ returns-in-Ok-clause-short g c =
     (c.in-Ok.ensures.any_moment text body (subst (λ (d : List ℕ). AllSettled (D.may_leave c.args.disk) d text body) (sym c.digest.ensures) settled)) in
     let met = g.met.D.Disk g.world.𝓛 g.world.𝓜 g.world.𝓡 (λ s x. x, λ x. x, λ x. x, λ x. x) in
     leaves.each f (met.counts_now (kept_disk c.in-Ok.room) (D.moment c.args.disk) f leaves.later image) in
-    run_short L.heard L.sent L.faults L.opened L.is_shut D.may_leave D.told D.faults digest seed c.args.disk c.in-Ok.room r c.args.terms.accept c.host.result.disk c.host.result.served (g.G.Gate.faults c.host.result.gate) (left_count (g.G.Gate.left c.host.result.gate)) c.host.result.outcome c.host.ensures.run stays
+    run_short L.heard L.sent L.faults L.opened L.is_shut D.may_leave D.told D.faults digest seed c.args.disk c.in-Ok.room r c.args.terms.accept c.host.result.disk c.host.result.served (g.G.Gate.faults c.host.result.gate) (g.G.Gate.left c.host.result.gate) (g.G.Gate.ended c.host.result.gate) c.host.result.outcome c.host.ensures.run stays
     (Refuses (D.told c.args.disk) digest seed) (IsAsRead (D.told c.args.disk) (D.told c.host.result.disk) (D.may_leave c.args.disk) (D.may_leave c.host.result.disk))
 
 pub returns-in-Ok-clause-kept : goal.returns-in-Ok-clause-kept
@@ -45,19 +40,14 @@ returns-in-Ok-clause-kept g c steps some was =
     (c.in-Ok.ensures.any_moment text body (subst (λ (d : List ℕ). AllSettled (D.may_leave c.args.disk) d text body) (sym c.digest.ensures) settled)) in
     let met = g.met.D.Disk g.world.𝓛 g.world.𝓜 g.world.𝓡 (λ s x. x, λ x. x, λ x. x, λ x. x) in
     leaves.each f (met.counts_now (kept_disk c.in-Ok.room) (D.moment c.args.disk) f leaves.later image) in
-    run_kept L.heard L.sent L.faults L.opened L.is_shut D.may_leave D.told D.faults digest seed c.args.disk c.in-Ok.room r c.args.terms.accept c.host.result.disk c.host.result.served (g.G.Gate.faults c.host.result.gate) (left_count (g.G.Gate.left c.host.result.gate)) c.host.result.outcome c.host.ensures.run stays
+    run_kept L.heard L.sent L.faults L.opened L.is_shut D.may_leave D.told D.faults digest seed c.args.disk c.in-Ok.room r c.args.terms.accept c.host.result.disk c.host.result.served (g.G.Gate.faults c.host.result.gate) (g.G.Gate.left c.host.result.gate) (g.G.Gate.ended c.host.result.gate) c.host.result.outcome c.host.ensures.run stays
     c.lives_keep.ensures c.taken_was_owed.ensures c.tails_of_the_last_view.ensures c.shown_is_checked.ensures steps some was
 
 pub returns-in-Ok-clause-accepted : goal.returns-in-Ok-clause-accepted
 returns-in-Ok-clause-accepted g c =
     let D = g.D.Disk in let L = g.G.Line.Link in let digest = digest_of c.args.file.now in let seed = c.args.multidata in
     let r = subst (λ d. Resumes D.told D.may_leave d seed c.args.disk c.in-Ok.room) c.digest.ensures c.in-Ok.ensures.resumes in
-    let stays : StaysSettled (D.may_leave c.args.disk) (D.may_leave (kept_disk c.in-Ok.room)) digest = λ text body settled f image.
-    let leaves = subst (λ (d : List ℕ). LeavesOnly D.moment D.left_since c.args.disk (kept_disk c.in-Ok.room) (λ x. IsSettled x d text body)) c.digest.ensures
-    (c.in-Ok.ensures.any_moment text body (subst (λ (d : List ℕ). AllSettled (D.may_leave c.args.disk) d text body) (sym c.digest.ensures) settled)) in
-    let met = g.met.D.Disk g.world.𝓛 g.world.𝓜 g.world.𝓡 (λ s x. x, λ x. x, λ x. x, λ x. x) in
-    leaves.each f (met.counts_now (kept_disk c.in-Ok.room) (D.moment c.args.disk) f leaves.later image) in
-    run_accepted L.heard L.sent L.faults L.opened L.is_shut D.may_leave D.told D.faults digest seed c.args.disk c.in-Ok.room r c.args.terms.accept c.host.result.disk c.host.result.served (g.G.Gate.faults c.host.result.gate) (left_count (g.G.Gate.left c.host.result.gate)) c.host.result.outcome c.host.ensures.run stays
+    run_accepted L.heard L.sent L.faults L.opened L.is_shut D.may_leave D.told D.faults digest seed c.args.disk c.in-Ok.room r c.args.terms.accept c.host.result.disk c.host.result.served (g.G.Gate.faults c.host.result.gate) (g.G.Gate.left c.host.result.gate) (g.G.Gate.ended c.host.result.gate) c.host.result.outcome c.host.ensures.run
     _ (λ e outside steps some was. outside)
 
 pub returns-in-Ok-clause-numbers : goal.returns-in-Ok-clause-numbers
@@ -68,47 +58,27 @@ pub returns-in-Ok-clause-full : goal.returns-in-Ok-clause-full
 returns-in-Ok-clause-full g c =
     let D = g.D.Disk in let L = g.G.Line.Link in let digest = digest_of c.args.file.now in let seed = c.args.multidata in
     let r = subst (λ d. Resumes D.told D.may_leave d seed c.args.disk c.in-Ok.room) c.digest.ensures c.in-Ok.ensures.resumes in
-    let stays : StaysSettled (D.may_leave c.args.disk) (D.may_leave (kept_disk c.in-Ok.room)) digest = λ text body settled f image.
-    let leaves = subst (λ (d : List ℕ). LeavesOnly D.moment D.left_since c.args.disk (kept_disk c.in-Ok.room) (λ x. IsSettled x d text body)) c.digest.ensures
-    (c.in-Ok.ensures.any_moment text body (subst (λ (d : List ℕ). AllSettled (D.may_leave c.args.disk) d text body) (sym c.digest.ensures) settled)) in
-    let met = g.met.D.Disk g.world.𝓛 g.world.𝓜 g.world.𝓡 (λ s x. x, λ x. x, λ x. x, λ x. x) in
-    leaves.each f (met.counts_now (kept_disk c.in-Ok.room) (D.moment c.args.disk) f leaves.later image) in
-    run_full L.heard L.sent L.faults L.opened L.is_shut D.may_leave D.told D.faults digest seed c.args.disk c.in-Ok.room r c.args.terms.accept c.host.result.disk c.host.result.served (g.G.Gate.faults c.host.result.gate) (left_count (g.G.Gate.left c.host.result.gate)) c.host.result.outcome c.host.ensures.run stays
+    run_full L.heard L.sent L.faults L.opened L.is_shut D.may_leave D.told D.faults digest seed c.args.disk c.in-Ok.room r c.args.terms.accept c.host.result.disk c.host.result.served (g.G.Gate.faults c.host.result.gate) (g.G.Gate.left c.host.result.gate) (g.G.Gate.ended c.host.result.gate) c.host.result.outcome c.host.ensures.run
 
 pub returns-in-Ok-clause-fault : goal.returns-in-Ok-clause-fault
 returns-in-Ok-clause-fault g c is =
     let D = g.D.Disk in let L = g.G.Line.Link in let digest = digest_of c.args.file.now in let seed = c.args.multidata in
     let r = subst (λ d. Resumes D.told D.may_leave d seed c.args.disk c.in-Ok.room) c.digest.ensures c.in-Ok.ensures.resumes in
-    let stays : StaysSettled (D.may_leave c.args.disk) (D.may_leave (kept_disk c.in-Ok.room)) digest = λ text body settled f image.
-    let leaves = subst (λ (d : List ℕ). LeavesOnly D.moment D.left_since c.args.disk (kept_disk c.in-Ok.room) (λ x. IsSettled x d text body)) c.digest.ensures
-    (c.in-Ok.ensures.any_moment text body (subst (λ (d : List ℕ). AllSettled (D.may_leave c.args.disk) d text body) (sym c.digest.ensures) settled)) in
-    let met = g.met.D.Disk g.world.𝓛 g.world.𝓜 g.world.𝓡 (λ s x. x, λ x. x, λ x. x, λ x. x) in
-    leaves.each f (met.counts_now (kept_disk c.in-Ok.room) (D.moment c.args.disk) f leaves.later image) in
-    run_fault L.heard L.sent L.faults L.opened L.is_shut D.may_leave D.told D.faults digest seed c.args.disk c.in-Ok.room r c.args.terms.accept c.host.result.disk c.host.result.served (g.G.Gate.faults c.host.result.gate) (left_count (g.G.Gate.left c.host.result.gate)) c.host.result.outcome c.host.ensures.run stays
+    run_fault L.heard L.sent L.faults L.opened L.is_shut D.may_leave D.told D.faults digest seed c.args.disk c.in-Ok.room r c.args.terms.accept c.host.result.disk c.host.result.served (g.G.Gate.faults c.host.result.gate) (g.G.Gate.left c.host.result.gate) (g.G.Gate.ended c.host.result.gate) c.host.result.outcome c.host.ensures.run
     c.in-Ok.ensures.disk c.in-Ok.ensures.count is
 
 pub returns-in-Ok-clause-tells : goal.returns-in-Ok-clause-tells
 returns-in-Ok-clause-tells g c =
     let D = g.D.Disk in let L = g.G.Line.Link in let digest = digest_of c.args.file.now in let seed = c.args.multidata in
     let r = subst (λ d. Resumes D.told D.may_leave d seed c.args.disk c.in-Ok.room) c.digest.ensures c.in-Ok.ensures.resumes in
-    let stays : StaysSettled (D.may_leave c.args.disk) (D.may_leave (kept_disk c.in-Ok.room)) digest = λ text body settled f image.
-    let leaves = subst (λ (d : List ℕ). LeavesOnly D.moment D.left_since c.args.disk (kept_disk c.in-Ok.room) (λ x. IsSettled x d text body)) c.digest.ensures
-    (c.in-Ok.ensures.any_moment text body (subst (λ (d : List ℕ). AllSettled (D.may_leave c.args.disk) d text body) (sym c.digest.ensures) settled)) in
-    let met = g.met.D.Disk g.world.𝓛 g.world.𝓜 g.world.𝓡 (λ s x. x, λ x. x, λ x. x, λ x. x) in
-    leaves.each f (met.counts_now (kept_disk c.in-Ok.room) (D.moment c.args.disk) f leaves.later image) in
-    run_tells L.heard L.sent L.faults L.opened L.is_shut D.may_leave D.told D.faults digest seed c.args.disk c.in-Ok.room r c.args.terms.accept c.host.result.disk c.host.result.served (g.G.Gate.faults c.host.result.gate) (left_count (g.G.Gate.left c.host.result.gate)) c.host.result.outcome c.host.ensures.run stays
+    run_tells L.heard L.sent L.faults L.opened L.is_shut D.may_leave D.told D.faults digest seed c.args.disk c.in-Ok.room r c.args.terms.accept c.host.result.disk c.host.result.served (g.G.Gate.faults c.host.result.gate) (g.G.Gate.left c.host.result.gate) (g.G.Gate.ended c.host.result.gate) c.host.result.outcome c.host.ensures.run
     c.in-Ok.ensures.disk c.in-Ok.ensures.tells
 
 pub returns-in-Ok-clause-count : goal.returns-in-Ok-clause-count
 returns-in-Ok-clause-count g c =
     let D = g.D.Disk in let L = g.G.Line.Link in let digest = digest_of c.args.file.now in let seed = c.args.multidata in
     let r = subst (λ d. Resumes D.told D.may_leave d seed c.args.disk c.in-Ok.room) c.digest.ensures c.in-Ok.ensures.resumes in
-    let stays : StaysSettled (D.may_leave c.args.disk) (D.may_leave (kept_disk c.in-Ok.room)) digest = λ text body settled f image.
-    let leaves = subst (λ (d : List ℕ). LeavesOnly D.moment D.left_since c.args.disk (kept_disk c.in-Ok.room) (λ x. IsSettled x d text body)) c.digest.ensures
-    (c.in-Ok.ensures.any_moment text body (subst (λ (d : List ℕ). AllSettled (D.may_leave c.args.disk) d text body) (sym c.digest.ensures) settled)) in
-    let met = g.met.D.Disk g.world.𝓛 g.world.𝓜 g.world.𝓡 (λ s x. x, λ x. x, λ x. x, λ x. x) in
-    leaves.each f (met.counts_now (kept_disk c.in-Ok.room) (D.moment c.args.disk) f leaves.later image) in
-    run_count L.heard L.sent L.faults L.opened L.is_shut D.may_leave D.told D.faults digest seed c.args.disk c.in-Ok.room r c.args.terms.accept c.host.result.disk c.host.result.served (g.G.Gate.faults c.host.result.gate) (left_count (g.G.Gate.left c.host.result.gate)) c.host.result.outcome c.host.ensures.run stays
+    run_count L.heard L.sent L.faults L.opened L.is_shut D.may_leave D.told D.faults digest seed c.args.disk c.in-Ok.room r c.args.terms.accept c.host.result.disk c.host.result.served (g.G.Gate.faults c.host.result.gate) (g.G.Gate.left c.host.result.gate) (g.G.Gate.ended c.host.result.gate) c.host.result.outcome c.host.ensures.run
     c.in-Ok.ensures.disk c.in-Ok.ensures.count
 
 pub returns-in-Err-clause-short : goal.returns-in-Err-clause-short
@@ -142,3 +112,12 @@ returns-in-Err-clause-accepted g c steps some left of =
     (c.in-Err.ensures.accepted steps
     (some, c.lives_keep.ensures.seed c.args.multidata steps, subst (λ (d : List ℕ). IsLeft (g.D.Disk.may_leave c.args.disk) d (life_after_all c.args.multidata steps)) (sym c.digest.ensures) left))
     (subst IsOfJournal c.drive_error.ensures of)
+
+pub returns-in-Ok-clause-listened : goal.returns-in-Ok-clause-listened
+returns-in-Ok-clause-listened g c =
+    let D = g.D.Disk in let digest = digest_of c.args.file.now in let seed = c.args.multidata in
+    let r = subst (λ d. Resumes D.told D.may_leave d seed c.args.disk c.in-Ok.room) c.digest.ensures c.in-Ok.ensures.resumes in
+    listens_more (Unit {0}) (Finds (IsFound (D.told c.args.disk) (D.may_leave c.args.disk) digest seed)) _ _ _ _ _ (λ _. (r.journal, r.place, record { sound = r.sound; stands = r.stands; one = r.one })) (λ d. d) c.host.ensures.listened
+
+pub returns-in-Err-clause-listened : goal.returns-in-Err-clause-listened
+returns-in-Err-clause-listened g c = inl (refl, λ no. cc)

@@ -1,4 +1,6 @@
 use Rattle.mw_offline.proofs.Driving.{told_so}
+use Rattle.mw_serve.proofs.Files.{zero_is_ok}
+use Rattle.mw_serve.proofs.Hosts.{listens_more}
 use Rattle.mw_serve.proofs.serve_command.cmd_serve.Goals as goal
 
 pub returns-clause-ends : goal.returns-clause-ends
@@ -10,3 +12,6 @@ returns-clause-ends g c =
       leaves = run.leaves;
       kept = run.kept;
     }
+
+pub returns-clause-listened : goal.returns-clause-listened
+returns-clause-listened g c = listens_more _ _ _ _ _ _ _ (λ found. found) (λ zero. zero_is_ok c.serve-outcome.result.0 c.end.result _ c.end.ensures.ended zero) c.serve-outcome.ensures.listened

@@ -1,7 +1,10 @@
-use Rattle.std.proofs.Common.{Some}
+use Rattle.std.proofs.Common.{Some, ap, inl, refl}
+use Rattle.mw_edges.specs.Folders.{opened_bytes}
+use Rattle.mw_multidata.specs.Digest.{digest_of}
 use Rattle.mw_offline.specs.FilesAround.{files_around}
 use Rattle.mw_offline.proofs.Driving.{AreUnmoved, leaves_since}
-use Rattle.mw_serve.proofs.Files.{if_err_over, if_ok_over, none_kept, read_serves, sent_since, serve_done, serve_stopped, short_since, to_end_since}
+use Rattle.mw_serve.proofs.Hosts.{listens_more}
+use Rattle.mw_serve.proofs.Files.{finds_over, finishes_all, if_err_over, if_ok_over, none_kept, read_serves, sent_since, serve_done, serve_stopped, short_since, to_end_since}
 use Rattle.mw_serve.proofs.serve_command.serve.Goals as goal
 
 pub returns-in-Ok-clause-done : goal.returns-in-Ok-clause-done
@@ -80,3 +83,25 @@ returns-in-Err-clause-kept g c =
     let read = c.in-Err.ensures in
     let unmoved : AreUnmoved files = record { each = λ n. record { told = read.same n; crash = read.crash n }; opened = read.opened } in
     none_kept g.G.Line.Link.sent files unmoved c.args.words.now c.new.result c.new.ensures
+
+pub returns-in-Ok-clause-listened : goal.returns-in-Ok-clause-listened
+returns-in-Ok-clause-listened g c =
+    let F = g.F.Folder in
+    let first = c.args.folder.now in
+    let second = c.read_seed_bytes.new.folder in
+    let named = c.args.words.now in
+    let bytes = c.in-Ok.seed.bytes in
+    let seed = c.in-Ok.seed.multidata in
+    let read = c.in-Ok.ensures in
+    let ran = c.serve_on_file-outcome in
+    listens_more _ _ _ _ _ _ _
+    (λ found. record {
+      bytes = bytes;
+      seed = seed;
+      seed_was = record { is_file = read.ok.0; is = read.ok.1 };
+      finds = finds_over (opened_bytes (F.holds second named.journal)) (opened_bytes (F.holds first named.journal)) (ap opened_bytes (read.same named.journal)) (digest_of bytes) seed (F.images second named.journal) (F.images first named.journal) (λ x. (read.crash named.journal x).0) found;
+    })
+    (λ done. finishes_all ran.result.outcome _ _ c.finish.result c.finish.ensures.finishes done) ran.ensures.listened
+
+pub returns-in-Err-clause-listened : goal.returns-in-Err-clause-listened
+returns-in-Err-clause-listened g c = inl (refl, λ no. cc)

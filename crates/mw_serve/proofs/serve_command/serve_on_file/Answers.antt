@@ -1,6 +1,6 @@
-use Rattle.std.proofs.Common.{◌≡◌, ◌∙◌, Some, ℕ, List, ap, refl, sym, subst, inl, inr}
+use Rattle.std.proofs.Common.{◌≡◌, ◌∙◌, Some, true, ℕ, List, ap, refl, sym, subst, inl, inr}
 use Rattle.std.specs.Option.{is_some}
-use Rattle.std.specs.Prelude.{IfErr, IfOk, []}
+use Rattle.std.specs.Prelude.{IfErr, IfOk, [], is_ok}
 use Rattle.mw_edges.specs.Files.{open_file}
 use Rattle.mw_edges.specs.Folders.{opened_bytes}
 use Rattle.mw_multidata.specs.Digest.{digest_of}
@@ -8,8 +8,10 @@ use Rattle.mw_drive.specs.Ends.{IsAsRead}
 use Rattle.mw_offline.specs.Driving.{JournalRead}
 use Rattle.mw_offline.specs.FilesAround.{files_around}
 use Rattle.mw_offline.proofs.Driving.{leaves_by, opened_same, same_both, tells_closed, tells_made}
-use Rattle.mw_serve.proofs.Files.{if_err_over, if_ok_over, sent_over, short_over, SeedKeeps, to_end_over, unopened_hosts, unopened_sent}
-use Rattle.mw_serve.specs.Serving.{FileHostsShort, FileHostsToEnd}
+use Rattle.mw_serve.specs.Hosted.{ListensAfter}
+use Rattle.mw_serve.proofs.Hosts.{listens_more}
+use Rattle.mw_serve.proofs.Files.{finds_over, refused_not, if_err_over, if_ok_over, sent_over, short_over, SeedKeeps, to_end_over, unopened_hosts, unopened_sent}
+use Rattle.mw_serve.specs.Serving.{FileFinds, FileHostsShort, FileHostsToEnd}
 use Rattle.mw_session.specs.Rooms.{count_all}
 use Rattle.mw_serve.proofs.serve_command.serve_on_file.Goals as goal
 
@@ -118,3 +120,22 @@ returns-clause-leaves g c =
     (λ n other. same_both (F.images first n) (F.images middle n) (F.images last n) (c.open_disk.ensures.crash n) (c.close_disk.ensures.crash n other))
     (c.close_disk.ensures.closed ∙ sym c.in-Ok.ensures.one) (λ n other. c.close_disk.ensures.others_open n other ∙ c.open_disk.ensures.others_open n other)
     (tells_closed (g.F.Drive.Disk.told c.host_on-disk.result.disk) (F.holds last name) c.close_disk.ensures.told ∙ c.host_on-disk.ensures.tells ∙ ap is_some c.in-Ok.ensures.told)
+
+pub returns-in-Err-Failed-clause-listened : goal.returns-in-Err-Failed-clause-listened
+returns-in-Err-Failed-clause-listened g c = inl (ap (λ r. g.G.Gate.listened r.gate) c.unserved.ensures, λ done. refused_not (ap (λ r. is_ok r.outcome) c.unserved.ensures) done)
+
+pub returns-in-Err-Memory-clause-listened : goal.returns-in-Err-Memory-clause-listened
+returns-in-Err-Memory-clause-listened g c = inl (ap (λ r. g.G.Gate.listened r.gate) c.unserved-in-Err-Memory.ensures, λ done. refused_not (ap (λ r. is_ok r.outcome) c.unserved-in-Err-Memory.ensures) done)
+
+pub returns-clause-listened : goal.returns-clause-listened
+returns-clause-listened g c =
+    let F = g.F.Folder in
+    let first = c.args.folder.now in
+    let last = c.close_disk.new.self in
+    let name = c.args.words.now.journal in
+    let disk = c.in-Ok.disk in
+    let e = c.host_on-disk.result in
+    let seed = c.args.seed.multidata in
+    subst (λ b. ListensAfter (FileFinds (files_around F.holds F.images F.is_open F.may_fail F.faults first last) name b seed) (is_ok e.outcome ≡ true) (g.G.Gate.listened c.args.gate) (g.G.Gate.listened e.gate) c.args.words.now.bind) c.as_slice.ensures
+    (listens_more _ _ _ _ _ _ _
+    (λ found. finds_over (g.F.Drive.Disk.told disk) (opened_bytes (F.holds first name)) c.in-Ok.ensures.told (digest_of c.as_slice.result.now) seed (g.F.Drive.Disk.may_leave disk) (F.images first name) c.in-Ok.ensures.left found) (λ done. done) c.host_on-disk.ensures.listened)
