@@ -87,12 +87,12 @@ pub(crate) fn words_of(alloc: Global, line: &str) -> Result<Vec<Text>, Fail> {
     Ok(words)
 }
 
-fn source_of(alloc: Global, text: &str, calls: &str) -> Result<MemorySource, Fail> {
+pub(crate) fn source_of(alloc: Global, text: &str, calls: &str) -> Result<MemorySource, Fail> {
     let bytes = bytes_of(alloc, text.as_bytes())?;
     Ok(MemorySource::new(bytes, faults(alloc, calls, 1)?))
 }
 
-fn sink_of(alloc: Global, calls: &str, place: usize) -> Result<MemorySink, Fail> {
+pub(crate) fn sink_of(alloc: Global, calls: &str, place: usize) -> Result<MemorySink, Fail> {
     Ok(MemorySink::new(alloc, faults(alloc, calls, place)?))
 }
 

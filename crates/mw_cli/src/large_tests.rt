@@ -7,18 +7,18 @@ use std::test::Fail;
 use std::thread::Threads;
 
 /// How worlds are written that differ by their games and by how long two lists are.
-struct Form<'a> {
+pub(crate) struct Form<'a> {
     /// The text of a world, where `$0` stands for its game, `$1` and `$2` for the lists, and `$3`
     /// for what stands before the digits of names.
-    text: &'a str,
+    pub(crate) text: &'a str,
     /// The lists' elements, where `#` stands for a number, and the first number.
-    lists: [(&'a str, u64); 2],
+    pub(crate) lists: [(&'a str, u64); 2],
     /// What stands before the digits of names.
-    pad: &'a str,
+    pub(crate) pad: &'a str,
 }
 
 /// A world: its file's name, its game, and the numbers that follow the last ones of its lists.
-type World<'a> = (&'a str, &'a str, u64, u64);
+pub(crate) type World<'a> = (&'a str, &'a str, u64, u64);
 
 /// The elements of a list.
 fn numbered(alloc: Global, list: &(&str, u64), end: u64) -> Result<String, Fail> {
@@ -45,6 +45,21 @@ fn add_world(
     add_file(alloc, files, world.0, text.as_bytes())
 }
 
+/// A folder with a players file, `p`, and these worlds.
+pub(crate) fn folder_with(
+    alloc: Global,
+    players: &str,
+    form: &Form<'_>,
+    worlds: &[World<'_>],
+) -> Result<MemoryFolder, Fail> {
+    let mut files = List::new(alloc);
+    add_file(alloc, &mut files, "p", players.as_bytes())?;
+    for world in worlds {
+        add_world(alloc, &mut files, form, world)?;
+    }
+    Ok(MemoryFolder::new(files, faults(alloc, "", 0)?))
+}
+
 /// Fails where runs on a players file and these worlds tell otherwise.
 fn worlds_tell<R: Threads + Wait + Sync>(
     rt: &R,
@@ -54,12 +69,7 @@ fn worlds_tell<R: Threads + Wait + Sync>(
     worlds: &[World<'_>],
     runs: &[Run<'_>],
 ) -> Result<(), Fail> {
-    let mut files = List::new(alloc);
-    add_file(alloc, &mut files, "p", players.as_bytes())?;
-    for world in worlds {
-        add_world(alloc, &mut files, form, world)?;
-    }
-    let mut folder = MemoryFolder::new(files, faults(alloc, "", 0)?);
+    let mut folder = folder_with(alloc, players, form, worlds)?;
     runs_tell(rt, alloc, &mut folder, "", runs, "")
 }
 
@@ -148,55 +158,4 @@ const TOO_MUCH: [Run<'static>; 1] = [("reach p", "", "3 refused: TooMuchText 167
 fn names_over_all_are_limited(rt: HostRuntime) -> Result<(), Fail> {
     worlds_tell(&rt, rt.alloc(), EIGHT, &LONG, &MOST_TEXT, &READ)?;
     worlds_tell(&rt, rt.alloc(), EIGHT, &LONG, &MORE_TEXT, &TOO_MUCH)
-}
-
-/// Players with one entry in each option.
-const PARTY: &str =
-    r#"{"format":"mw-players-1","teams":2,"room":{"password":"pw","hint_cost":10},"players":[{"names":["Ann","Dan"],"world":"a","options":{"local_items":["Key"],"non_local_items":["Gem"],"exclude_locations":["L1"],"priority_locations":["L2"],"start_inventory":{"Coin":1}}},{"names":["Bob","Eve"],"world":"b","options":{"local_items":["Key"],"non_local_items":["Gem"],"exclude_locations":["L1"],"priority_locations":["L2"],"start_inventory":{"Coin":1}}},{"names":["Cat","Fay"],"world":"c","options":{"local_items":["Key"],"non_local_items":["Gem"],"exclude_locations":["L1"],"priority_locations":["L2"],"start_inventory":{"Coin":1}}}]}"#;
-
-/// A world of the party: ten locations are free, and the others want the Key, which the goal wants
-/// too.
-const PARTY_WORLD: Form<'static> = Form {
-    text: r#"{"format":"mw-world-1","game":"$0","regions":["Menu"],"entrances":[],"items":[{"name":"Key","id":1,"class":"progression"},{"name":"Gem","id":2,"class":"useful"},{"name":"Coin","id":3,"class":"filler"}],"locations":[{"name":"L1","id":1,"region":"Menu","rule":true}$1$2],"pool":[{"item":"Key","count":1},{"item":"Gem","count":5}],"filler":"Coin","goal":{"has":"Key"}}"#,
-    lists: [
-        (r#",{"name":"L#","id":#,"region":"Menu","rule":true}"#, 2),
-        (
-            r#",{"name":"L#","id":#,"region":"Menu","rule":{"has":"Key"}}"#,
-            11,
-        ),
-    ],
-    pad: "",
-};
-
-/// Worlds of 60, 80 and 40 locations.
-const PARTY_WORLDS: [World<'static>; 3] = [
-    ("a", "a", 11, 61),
-    ("b", "b", 11, 81),
-    ("c", "c", 11, 41),
-];
-
-const PARTY_RUNS: [Run<'static>; 2] = [
-    (
-        "generate p o --seed 7",
-        "",
-        "0 seed 7 try 0 spheres 1\n1 Ann: L2 -> Ann: Key\n1 Bob: L2 -> Bob: Key\n1 Cat: L2 -> Cat: Key\n",
-    ),
-    (
-        "check p o",
-        "",
-        "0 ok spheres 1\n1 Ann: L2 -> Ann: Key\n1 Bob: L2 -> Bob: Key\n1 Cat: L2 -> Cat: Key\n",
-    ),
-];
-
-/// Each Key lies at the priority location of its player's own world.
-#[test]
-fn party(rt: HostRuntime) -> Result<(), Fail> {
-    worlds_tell(
-        &rt,
-        rt.alloc(),
-        PARTY,
-        &PARTY_WORLD,
-        &PARTY_WORLDS,
-        &PARTY_RUNS,
-    )
 }

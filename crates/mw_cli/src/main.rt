@@ -71,6 +71,8 @@ mod new_room_tests;
 #[cfg(test)]
 mod overrun_tests;
 #[cfg(test)]
+mod party_tests;
+#[cfg(test)]
 mod permission_tests;
 #[cfg(test)]
 mod reach_tests;

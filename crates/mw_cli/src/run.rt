@@ -15,10 +15,11 @@ ghost use Rattle.mw_offline.specs.NewRooms.{NewRoomEnds};
 ghost use Rattle.mw_words.specs.declared.command_line.ServeWords.{ServeWords};
 ghost use Rattle.mw_words.specs.Words.{IsGenerate, IsCheck, IsReach, IsNewRoom, IsDrive, IsServe};
 ghost use Rattle.mw_words.specs.Lines.{IsNoCommand, HasRanges, HasTries};
-ghost use Rattle.mw_session.specs.Desks.{left_count, lesser, IsWithin};
+ghost use Rattle.mw_session.specs.Desks.{AreAll, IsWithin};
 ghost use Rattle.mw_session.specs.Numbers.{all_numbers, NoneTwice};
 ghost use Rattle.mw_session.specs.Rooms.{count_all};
-ghost use Rattle.mw_serve.specs.Serving.{ServeEnds};
+ghost use Rattle.mw_serve.specs.Hosted.{ListensAfter};
+ghost use Rattle.mw_serve.specs.Serving.{JournalFound, ServeEnds};
 ghost use Rattle.mw_cli.specs.Ends.{around, LineEnds};
 
 use mw_base::{List, Text};
@@ -79,8 +80,12 @@ where
     ensures numbers { NoneTwice (all_numbers result.2) }
     ensures given { G.given result.1 ≡ count_all result.2 }
     ensures full { (room : ServeWords) → line.now ≡ CommandLine.Serve room
-        → IsWithin room.accept (count_all result.2) × (result.0 ≡ 0 → count_all result.2
-        ≡ lesser room.accept (count_all result.2 + left_count (G.left result.1))) }
+        → IsWithin room.accept (count_all result.2) × (result.0 ≡ 0
+        → AreAll room.accept (count_all result.2) (G.left result.1) (G.ended result.1)) }
+    ensures listened { (room : ServeWords) → line.now ≡ CommandLine.Serve room
+        → ListensAfter (JournalFound
+        (files_around F.holds F.images F.is_open F.may_fail F.faults folder.old folder.new) room)
+        (result.0 ≡ 0) (G.listened gate) (G.listened result.1) room.bind }
 {
     match line {
         CommandLine::Generate(words) => {
@@ -186,8 +191,12 @@ where
         result.2 (told_by O.held O.faults out.old out.new)
         (told_by E.held E.refusals err.old err.new) }
     ensures served { (room : ServeWords) → IsServe words.now room
-        → IsWithin room.accept (count_all result.2) × (result.0 ≡ 0 → count_all result.2
-        ≡ lesser room.accept (count_all result.2 + left_count (G.left result.1))) }
+        → IsWithin room.accept (count_all result.2) × (result.0 ≡ 0
+        → AreAll room.accept (count_all result.2) (G.left result.1) (G.ended result.1)) }
+    ensures listened { (room : ServeWords) → IsServe words.now room
+        → ListensAfter (JournalFound
+        (files_around F.holds F.images F.is_open F.may_fail F.faults folder.old folder.new) room)
+        (result.0 ≡ 0) (G.listened gate) (G.listened result.1) room.bind }
     ensures numbers { NoneTwice (all_numbers result.2) }
     ensures given { G.given result.1 ≡ count_all result.2 }
     ensures gate { ((room : ServeWords) → IsServe words.now room → ⊥)

@@ -1,4 +1,4 @@
-use Rattle.std.proofs.Common.{Err, ap, refl, subst, inl, inr}
+use Rattle.std.proofs.Common.{Err, ap, arith, refl, subst, inl, inr}
 use Rattle.std.proofs.KnownBytes.{Keeps-refl}
 use Rattle.mw_causes.specs.declared.stop.Stop.TheVariants.{Memory}
 use Rattle.mw_words.specs.Lines.{AsksFor}
@@ -91,3 +91,12 @@ returns-in-Ok-clause-same g c = λ no_seed no_room no_drive no_serve.
 pub returns-in-Ok-clause-input : goal.returns-in-Ok-clause-input
 returns-in-Ok-clause-input g c = λ no_drive.
     c.run_line.ensures.input (λ files is. no_drive files (subst (AsksFor c.args.words.now) is c.in-Ok.ensures.ok))
+
+pub returns-in-Ok-clause-listened : goal.returns-in-Ok-clause-listened
+returns-in-Ok-clause-listened g c = λ room is. c.run_line.ensures.listened room (asks_one c.args.words.now c.in-Ok.line (Serve room) c.in-Ok.ensures.ok is)
+
+pub returns-in-Err-BadWords-clause-listened : goal.returns-in-Err-BadWords-clause-listened
+returns-in-Err-BadWords-clause-listened g c = λ room is. absurd (c.in-Err-BadWords.ensures.bad (ap Err c.in-Err-BadWords.field-0-is) (Serve room) is)
+
+pub returns-in-Err-Memory-clause-listened : goal.returns-in-Err-Memory-clause-listened
+returns-in-Err-Memory-clause-listened g c = λ room _. inl (refl, λ zero. let six = c.end_without_memory.ensures.status in omega (arith, six, zero))
