@@ -78,7 +78,7 @@ not_kept s h = ap (λ b. b && not (is_whole s)) (false_from_ne_true (is_number s
 
 -- ---- their bytes are ASCII
 
-ascii_byte : (x : ℕ) → is_numeral_byte x ≡ true → x < 128
+pub ascii_byte : (x : ℕ) → is_numeral_byte x ≡ true → x < 128
 ascii_byte x h = grind (arith, common_steps, h)
 
 pub ascii_run : (s : List ℕ) → list_all is_numeral_byte s ≡ true → IsAscii s

@@ -2,4 +2,5 @@ pub mod Laws
 pub mod Marks
 pub mod Numerals
 pub mod Pieces
+pub mod Values
 pub mod View
