@@ -4,7 +4,7 @@ use Rattle.std.proofs.lemmas.Bool.{true≢false, false≢true, eqb-true, and_par
 use Rattle.std.proofs.lemmas.List.{take-append-drop}
 use Rattle.std.proofs.lemmas.Slice.Eq.{bytes_eq-Decides}
 use Rattle.std.specs.List.{list_all, starts_with}
-use Rattle.json.specs.Json as json
+use Rattle.json.specs.Ascii.{true_text, false_text, null_text}
 use Rattle.json.specs.Lex.{Lexeme, token, comma, colon, Class, quote, backslash, operator, space, class, operator_lexeme, string_token, Mode, lex, lex_byte, between, in_word, in_string}
 use Rattle.json.specs.Print.{IsNumber}
 use Rattle.json.specs.Text.{content, plain, prepend}
@@ -13,12 +13,12 @@ use Rattle.json.specs.Word.{is_operator, is_space, ends_word, after_number, lite
 use Rattle.json.proofs.Printed.Numbers.{in_word-ended, lex-number}
 use Rattle.mw_numerals.specs.Numerals.{is_numeral_byte, is_kept}
 use Rattle.mw_numerals.specs.Pieces.{Piece, quoted, cut, run, other, piece_text, text_of, has_no_end, escaped_after, begins_run, IsPiece, EndsBefore, ArePieces}
-use Rattle.mw_numerals.specs.Marks.{marked}
+use Rattle.mw_numerals.specs.Marks.{marked, IsMarked}
 use Rattle.mw_numerals.proofs.Laws.{same_first, not_empty, after_quote, by_kept, are_marked}
 use Rattle.mw_numerals.proofs.Numerals.{ascii_byte}
 use Rattle.mw_numerals.proofs.Runs.{differs, run_inside}
 use Rattle.mw_numerals.proofs.Strings.{same_content, no_content, lex_string}
-use Rattle.mw_numerals.proofs.Taken.{is_good, good_choice, no_end, number_word, IsNumberWord}
+use Rattle.mw_numerals.proofs.Taken.{is_good, good_choice, no_end, ends_run, number_word, literal_word, IsNumberWord, IsOneLiteral}
 
 -- ---- marked tokens
 
@@ -225,3 +225,108 @@ then_named a b t ps f g = record {
   shorter = omega (arith, f.shorter, g.shorter);
   marked_is = f.marked_is ∙ ap (λ l. a ++ l) g.marked_is ∙ sym (append_assoc a b (text_of (map marked g.rest)));
 }
+
+true_named : (t : List ℕ) (ps : List Piece) → ends_word t ≡ true → ArePieces ps → text_of ps ≡ true_text ++ t → Named true_text t ps
+true_named t ps ended h e =
+    let a = one_other 116 (114 ∷ 117 ∷ 101 ∷ t) ps refl refl h e in
+    let b = one_other 114 (117 ∷ 101 ∷ t) a.rest refl refl a.are a.text in
+    let c = one_other 117 (101 ∷ t) b.rest refl refl b.are b.text in
+    let d = one_e t c.rest (ends_run t ended) c.are c.text in
+    then_named (116 ∷ []) (114 ∷ 117 ∷ 101 ∷ []) t ps a (then_named (114 ∷ []) (117 ∷ 101 ∷ []) t a.rest b (then_named (117 ∷ []) (101 ∷ []) t b.rest c d))
+
+false_named : (t : List ℕ) (ps : List Piece) → ends_word t ≡ true → ArePieces ps → text_of ps ≡ false_text ++ t → Named false_text t ps
+false_named t ps ended h e =
+    let a = one_other 102 (97 ∷ 108 ∷ 115 ∷ 101 ∷ t) ps refl refl h e in
+    let b = one_other 97 (108 ∷ 115 ∷ 101 ∷ t) a.rest refl refl a.are a.text in
+    let c = one_other 108 (115 ∷ 101 ∷ t) b.rest refl refl b.are b.text in
+    let d = one_other 115 (101 ∷ t) c.rest refl refl c.are c.text in
+    let f = one_e t d.rest (ends_run t ended) d.are d.text in
+    then_named (102 ∷ []) (97 ∷ 108 ∷ 115 ∷ 101 ∷ []) t ps a
+    (then_named (97 ∷ []) (108 ∷ 115 ∷ 101 ∷ []) t a.rest b (then_named (108 ∷ []) (115 ∷ 101 ∷ []) t b.rest c (then_named (115 ∷ []) (101 ∷ []) t c.rest d f)))
+
+null_named : (t : List ℕ) (ps : List Piece) → ArePieces ps → text_of ps ≡ null_text ++ t → Named null_text t ps
+null_named t ps h e =
+    let a = one_other 110 (117 ∷ 108 ∷ 108 ∷ t) ps refl refl h e in
+    let b = one_other 117 (108 ∷ 108 ∷ t) a.rest refl refl a.are a.text in
+    let c = one_other 108 (108 ∷ t) b.rest refl refl b.are b.text in
+    let d = one_other 108 t c.rest refl refl c.are c.text in
+    then_named (110 ∷ []) (117 ∷ 108 ∷ 108 ∷ []) t ps a (then_named (117 ∷ []) (108 ∷ 108 ∷ []) t a.rest b (then_named (108 ∷ []) (108 ∷ []) t b.rest c d))
+
+lex_true : (t : List ℕ) → ends_word t ≡ true → lex between (true_text ++ t) ≡ token (Token.boolean true) ∷ lex between t
+unfolding lex word
+lex_true t ended = ap₂ (λ b l. token (cond b (Token.boolean true) Token.bad) ∷ l) ended (in_word-ended t ended)
+
+lex_false : (t : List ℕ) → ends_word t ≡ true → lex between (false_text ++ t) ≡ token (Token.boolean false) ∷ lex between t
+unfolding lex word
+lex_false t ended = ap₂ (λ b l. token (cond b (Token.boolean false) Token.bad) ∷ l) ended (in_word-ended t ended)
+
+lex_null : (t : List ℕ) → ends_word t ≡ true → lex between (null_text ++ t) ≡ token Token.null ∷ lex between t
+unfolding lex word
+lex_null t ended = ap₂ (λ b l. token (cond b Token.null Token.bad) ∷ l) ended (in_word-ended t ended)
+
+-- where a word ends before a text, it does once that is marked
+keeps_end : (ps : List Piece) → ArePieces ps → ends_word (text_of ps) ≡ true → ends_word (text_of (map marked ps)) ≡ true
+keeps_end [] h e = e
+keeps_end (quoted s ∷ ps) h e = absurd (false≢true e)
+keeps_end (cut s ∷ ps) h e = absurd (false≢true e)
+keeps_end (run [] ∷ ps) h e = absurd (false≢true h.0.0)
+keeps_end (run (x ∷ s) ∷ ps) h e = absurd (true≢false (sym e ∙ no_end x h.0.0))
+keeps_end (other x ∷ ps) h e = e
+
+-- ---- the whole
+
+-- a text of pieces
+abbrev AllMarks : List Piece → Type 0
+AllMarks ps = AreGood (lex between (text_of ps)) → Marks (text_of ps) (text_of (map marked ps))
+
+named_marked : (name : List ℕ) (k : Token) → mark_token k ≡ k → ((t : List ℕ) → ends_word t ≡ true → lex between (name ++ t) ≡ token k ∷ lex between t)
+    → (ps : List Piece) (t : List ℕ) → text_of ps ≡ name ++ t → ends_word t ≡ true → (f : Named name t ps) → AllMarks f.rest → AllMarks ps
+named_marked name k same lexes ps t e ended f ih good =
+    let here : ends_word (text_of f.rest) ≡ true = ap ends_word f.text ∙ ended in
+    more (token k) (text_of ps) (text_of (map marked ps)) (text_of f.rest) (text_of (map marked f.rest))
+    (ap (lex between) e ∙ (lexes t ended ∙ ap (λ u. token k ∷ lex between u) (sym f.text)))
+    (ap (lex between) f.marked_is ∙ (lexes (text_of (map marked f.rest)) (keeps_end f.rest f.are here) ∙ ap (λ l. token l ∷ lex between (text_of (map marked f.rest))) (sym same))) ih good
+
+-- pieces that begin with another byte, where shorter lists of pieces are done
+module _ (x : ℕ) (ps : List Piece) (h : ArePieces (other x ∷ ps)) (shorter : (qs : List Piece) → length qs < length (other x ∷ ps) → ArePieces qs → AllMarks qs) where
+  abbrev here : List ℕ
+  here = x ∷ text_of ps
+
+  after : List ℕ
+  after = text_of (map marked ps)
+
+  by_literal : IsOneLiteral here → AllMarks (other x ∷ ps)
+  by_literal (inl f) =
+      let n = true_named f.rest (other x ∷ ps) f.ended h f.is in
+      named_marked true_text (Token.boolean true) refl lex_true (other x ∷ ps) f.rest f.is f.ended n (shorter n.rest n.shorter n.are)
+  by_literal (inr (inl f)) =
+      let n = false_named f.rest (other x ∷ ps) f.ended h f.is in
+      named_marked false_text (Token.boolean false) refl lex_false (other x ∷ ps) f.rest f.is f.ended n (shorter n.rest n.shorter n.are)
+  by_literal (inr (inr f)) =
+      let n = null_named f.rest (other x ∷ ps) h f.is in
+      named_marked null_text Token.null refl lex_null (other x ∷ ps) f.rest f.is f.ended n (shorter n.rest n.shorter n.are)
+
+  by_class : Other x → AllMarks (other x ∷ ps)
+  by_class (is_backslash e) good = absurd (backslash_is_bad x (text_of ps) e good)
+  by_class (is_operator_byte e) good =
+      let l = operator_lexeme x in
+      let stays = operator_stays (x == 123) (x == 125) (x == 91) (x == 93) (x == 44) in
+      more l here (x ∷ text_of (map marked ps)) (text_of ps) (text_of (map marked ps)) (lex_operator x (text_of ps) e)
+      (lex_operator x (text_of (map marked ps)) e ∙ ap (λ k. k ∷ lex between (text_of (map marked ps))) (sym stays)) (shorter ps (omega arith) h.2) good
+  by_class (is_blank e) good =
+      lex_blank x (text_of (map marked ps)) e ∙ (shorter ps (omega arith) h.2 (sym (ap (list_all is_good_lexeme) (lex_blank x (text_of ps) e)) ∙ good) ∙ ap (map mark_lexeme) (sym (lex_blank x (text_of ps) e)))
+  by_class (is_word e inside) good = by_literal (literal_word x (text_of ps) h.0.1 inside (first_word x (text_of ps) e good)) good
+
+all_marks : (n : ℕ) (ps : List Piece) → length ps < n → ArePieces ps → AllMarks ps
+unfolding lex
+all_marks zero ps short h good = absurd (omega arith)
+all_marks (suc n) [] short h good = refl
+all_marks (suc n) (quoted s ∷ ps) short h good = quoted_marked s (text_of ps) (text_of (map marked ps)) h.0 (all_marks n ps (omega arith) h.2) good
+all_marks (suc n) (cut s ∷ ps) short h good = absurd (cut_is_bad s (text_of ps) h.0 h.1 good)
+all_marks (suc n) (run s ∷ ps) short h good = run_marked s (text_of ps) (text_of (map marked ps)) h.0 h.1 (keeps_end ps h.2) (all_marks n ps (omega arith) h.2) good
+all_marks (suc n) (other x ∷ ps) short h good = by_class x ps h (λ qs less. all_marks n qs (omega (arith, less))) (others x h.0.0) good
+
+pub lexemes_marked : (text result : List ℕ) → IsMarked text result → AreGood (lex between text) → lex between result ≡ map mark_lexeme (lex between text)
+lexemes_marked text result m good =
+    ap (lex between) (sym m.after_is) ∙ (all_marks (suc (length m.pieces)) m.pieces (omega arith) m.are (ap (λ t. list_all is_good_lexeme (lex between t)) m.before_is ∙ good)
+    ∙ ap (λ t. map mark_lexeme (lex between t)) m.before_is)
