@@ -14,7 +14,7 @@ use Rattle.json.proofs.Printed.Numbers.{in_word-ended, lex-number}
 use Rattle.mw_numerals.specs.Numerals.{is_numeral_byte, is_kept}
 use Rattle.mw_numerals.specs.Pieces.{Piece, quoted, cut, run, other, piece_text, text_of, has_no_end, escaped_after, begins_run, IsPiece, EndsBefore, ArePieces}
 use Rattle.mw_numerals.specs.Marks.{marked, IsMarked}
-use Rattle.mw_numerals.proofs.Laws.{same_first, not_empty, after_quote, by_kept, are_marked}
+use Rattle.mw_numerals.proofs.Undone.{same_first, not_empty, after_quote, by_kept, are_marked}
 use Rattle.mw_numerals.proofs.Numerals.{ascii_byte}
 use Rattle.mw_numerals.proofs.Runs.{differs, run_inside}
 use Rattle.mw_numerals.proofs.Strings.{same_content, no_content, lex_string}

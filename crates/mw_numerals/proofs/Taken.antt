@@ -12,7 +12,7 @@ use Rattle.json.specs.Word.{is_operator, is_space, head, ends_word, after_digits
 use Rattle.json.proofs.Printed.Numbers.{number_alone}
 use Rattle.mw_numerals.specs.Numerals.{is_numeral_byte}
 use Rattle.mw_numerals.specs.Pieces.{begins_run}
-use Rattle.mw_numerals.proofs.Laws.{same_run}
+use Rattle.mw_numerals.proofs.Undone.{same_run}
 use Rattle.mw_numerals.proofs.Numerals.{ascii_byte}
 use Rattle.mw_numerals.proofs.Pieces.{all_pass}
 use Rattle.mw_numerals.proofs.Runs.{differs}

@@ -1,13 +1,13 @@
 //! JSON texts in which each numeral that is no plain whole number stands as a string.
 #![tactic(auto)]
 
-mod undone;
+mod laws;
 mod marking;
 mod numeral;
 mod piece;
 mod put;
 mod unmarking;
 
-pub use undone::marks_are_undone;
+pub use laws::{marks_are_read, marks_are_undone};
 pub use marking::mark;
 pub use unmarking::unmark;

@@ -24,8 +24,8 @@ same_string e (x ∷ s) (y ∷ r) a b h i j k eq =
     let is : x ≡ y = cc in
     let rest : s ++ 34 ∷ a ≡ r ++ 34 ∷ b = cc in
     let others = same_string (escapes e x) s r a b (and_parts (not (closes e x)) _ h).1 i
-        (subst (λ z. has_no_end (escapes e z) r ≡ true) (sym is) (and_parts (not (closes e y)) _ j).1)
-        (subst (λ z. escaped_after (escapes e z) r ≡ false) (sym is) k) rest in
+    (subst (λ z. has_no_end (escapes e z) r ≡ true) (sym is) (and_parts (not (closes e y)) _ j).1)
+    (subst (λ z. escaped_after (escapes e z) r ≡ false) (sym is) k) rest in
     (ap₂ (λ z zs. z ∷ zs) is others.0, others.1)
 
 no_cut : (s r a : List ℕ) → has_no_end false s ≡ true → escaped_after false s ≡ false → has_no_end false r ≡ true → s ++ 34 ∷ a ≡ r → ⊥

@@ -1,5 +1,5 @@
-use Rattle.mw_numerals.proofs.Laws.{one_way, comes_back, stays_apart}
-use Rattle.mw_numerals.proofs.undone.marks_are_undone.Goals as goal
+use Rattle.mw_numerals.proofs.Undone.{one_way, comes_back, stays_apart}
+use Rattle.mw_numerals.proofs.laws.marks_are_undone.Goals as goal
 
 pub returns-clause-one_way : goal.returns-clause-one_way
 returns-clause-one_way c = one_way
