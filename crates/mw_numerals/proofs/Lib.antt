@@ -6,3 +6,4 @@ pub mod Runs
 pub mod Strings
 pub mod Taken
 pub mod Undone
+pub mod Utf8

@@ -134,7 +134,7 @@ begins_marked (run [] ∷ ps) h k = absurd (false≢true h.0.0)
 begins_marked (run (x ∷ s) ∷ ps) h k = absurd (false≢true (sym k ∙ h.0.0))
 begins_marked (other x ∷ ps) h k = k
 
-nothing_marked : (ps : List Piece) → ArePieces ps → text_of ps ≡ [] → text_of (map marked ps) ≡ []
+pub nothing_marked : (ps : List Piece) → ArePieces ps → text_of ps ≡ [] → text_of (map marked ps) ≡ []
 nothing_marked [] h e = refl
 nothing_marked (p ∷ ps) h e = absurd (not_empty p (text_of ps) h.0 (sym e))
 

@@ -1,5 +1,5 @@
 -- What holds of marked texts.
-use Rattle.std.specs.Prelude.{◌≡◌, ℕ, List}
+use Rattle.std.specs.Prelude.{◌≡◌, ℕ, List, IsUtf8}
 use Rattle.mw_numerals.specs.Marks.{IsMarked, IsUnmarked}
 use Rattle.mw_numerals.specs.Pieces.{Piece, IsRewritten}
 
@@ -18,3 +18,7 @@ ComesBack =
 abbrev pub StaysApart : Type 0
 StaysApart =
     (one other marked : List ℕ) → IsMarked one marked → IsMarked other marked → one ≡ other
+
+-- a text that is UTF-8 is so once it is marked
+abbrev pub StaysText : Type 0
+StaysText = (text marked : List ℕ) → IsMarked text marked → IsUtf8 text → IsUtf8 marked

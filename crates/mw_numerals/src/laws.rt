@@ -1,4 +1,4 @@
-ghost use Rattle.mw_numerals.specs.Laws.{ChangesInOneWay, ComesBack, StaysApart};
+ghost use Rattle.mw_numerals.specs.Laws.{ChangesInOneWay, ComesBack, StaysApart, StaysText};
 ghost use Rattle.mw_numerals.specs.Values.{IsReadMarked};
 
 /// What holds of any text and its marks.
@@ -6,6 +6,7 @@ pub fn marks_are_undone()
     ensures one_way { ChangesInOneWay }
     ensures back { ComesBack }
     ensures apart { StaysApart }
+    ensures text { StaysText }
 {}
 
 /// The marked text of a JSON text is one of the marked value.
