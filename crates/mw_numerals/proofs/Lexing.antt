@@ -1,24 +1,22 @@
 -- The lexemes of a marked text are those of the text, marked, where none of these is bad.
-use Rattle.std.proofs.Common.{◌≡◌, ℕ, zero, suc, ◌+◌, ◌<◌, ◌≤◌, Bool, true, false, cond, ◌&&◌, ◌||◌, ◌==◌, not, nat_eq, nat_lt, List, [], ◌∷◌, ◌++◌, length, map, take, drop, Option, Some, None, inl, inr, ◌⊎◌, refl, sym, ap, ap₂, ◌∙◌, subst, arith, append_assoc}
-use Rattle.std.proofs.lemmas.Bool.{true≢false, false≢true, eqb-true, and_parts, or_parts, agree_below_at}
-use Rattle.std.proofs.lemmas.List.{take-append-drop}
-use Rattle.std.proofs.lemmas.Slice.Eq.{bytes_eq-Decides}
-use Rattle.std.specs.List.{list_all, starts_with}
+use Rattle.std.proofs.Common.{◌≡◌, ℕ, zero, suc, ◌<◌, Bool, true, false, cond, ◌&&◌, ◌||◌, ◌==◌, nat_lt, List, [], ◌∷◌, ◌++◌, length, map, Option, Some, None, inl, inr, refl, sym, ap, ap₂, ◌∙◌, subst, arith, append_assoc}
+use Rattle.std.proofs.lemmas.Bool.{true≢false, false≢true, and_parts, or_parts, agree_below_at}
+use Rattle.std.specs.List.{list_all}
 use Rattle.json.specs.Ascii.{true_text, false_text, null_text}
-use Rattle.json.specs.Lex.{Lexeme, token, comma, colon, Class, quote, backslash, operator, space, class, operator_lexeme, string_token, Mode, lex, lex_byte, between, in_word, in_string}
+use Rattle.json.specs.Lex.{Lexeme, token, comma, colon, Class, quote, backslash, operator, space, class, operator_lexeme, string_token, lex, lex_byte, between, in_word}
 use Rattle.json.specs.Print.{IsNumber}
 use Rattle.json.specs.Text.{content, plain, prepend}
 use Rattle.json.specs.Token.{Token}
-use Rattle.json.specs.Word.{is_operator, is_space, ends_word, after_number, literal, number_before, word}
+use Rattle.json.specs.Word.{is_operator, is_space, ends_word, after_number, word}
 use Rattle.json.proofs.Printed.Numbers.{in_word-ended, lex-number}
 use Rattle.mw_numerals.specs.Numerals.{is_numeral_byte, is_kept}
 use Rattle.mw_numerals.specs.Pieces.{Piece, quoted, cut, run, other, piece_text, text_of, has_no_end, escaped_after, begins_run, IsPiece, EndsBefore, ArePieces}
 use Rattle.mw_numerals.specs.Marks.{marked, IsMarked}
-use Rattle.mw_numerals.proofs.Undone.{same_first, not_empty, after_quote, by_kept, are_marked}
+use Rattle.mw_numerals.proofs.Undone.{same_first, not_empty, after_quote}
 use Rattle.mw_numerals.proofs.Numerals.{ascii_byte}
 use Rattle.mw_numerals.proofs.Runs.{differs, run_inside}
 use Rattle.mw_numerals.proofs.Strings.{same_content, no_content, lex_string}
-use Rattle.mw_numerals.proofs.Taken.{is_good, good_choice, no_end, ends_run, number_word, literal_word, IsNumberWord, IsOneLiteral}
+use Rattle.mw_numerals.proofs.Taken.{is_good, no_end, ends_run, number_word, literal_word, IsOneLiteral}
 
 -- ---- marked tokens
 

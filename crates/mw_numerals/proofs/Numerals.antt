@@ -1,6 +1,6 @@
 -- Whole numbers and how they are written.
-use Rattle.std.proofs.Common.{◌≡◌, ℕ, ℤ, pos, negsuc, suc, ◌<◌, ◌≤◌, ◌^◌, ◌==◌, ◌&&◌, Bool, true, false, not, List, [], ◌∷◌, Option, Some, None, length, drop, get_or, refl, sym, ap, ◌∙◌, subst, arith, inl, inr, ◌⊎◌, decimal, neg_ℤ}
-use Rattle.std.proofs.lemmas.Bool.{and_parts, ltb-true, ne_eqb, eqb-true, false≢true, false_from_ne_true, cases_lt}
+use Rattle.std.proofs.Common.{◌≡◌, ℕ, ℤ, pos, negsuc, suc, ◌<◌, ◌≤◌, ◌^◌, ◌==◌, ◌&&◌, true, false, not, List, [], Option, Some, None, length, get_or, refl, sym, ap, ◌∙◌, subst, arith, inl, inr, ◌⊎◌, decimal, neg_ℤ}
+use Rattle.std.proofs.lemmas.Bool.{and_parts, ltb-true, ne_eqb, eqb-true, true≢false, false≢true, not-true, and_from, false_from_ne_true, cases_lt}
 use Rattle.std.proofs.lemmas.Fmt.{decimal_is_IsNumeral, decimal_nonempty}
 use Rattle.std.proofs.lemmas.Str.Parse.{digit_at}
 use Rattle.std.proofs.lemmas.Slice.Eq.{bytes_eq-Decides}
@@ -10,11 +10,12 @@ use Rattle.std.proofs.lemmas.Grind.{common_steps}
 use Rattle.std.proofs.lemmas.List.{nil_from_length, get_or_past}
 use Rattle.std.proofs.lemmas.List.Sums.{AllPass-from_list_all}
 use Rattle.std.specs.List.{list_all}
-use Rattle.std.specs.Str.{IsAscii}
+use Rattle.std.specs.Str.{IsAscii, bytes_eq}
 use mir.Syntax.{w128}
 use mir.Val.{SFits}
 use Rattle.json.specs.Word.{after_number}
 use Rattle.json.specs.Print.{IsNumber}
+use Rattle.mw_numerals.specs.Laws.{TellsNumerals}
 use Rattle.mw_numerals.specs.Numerals.{is_numeral_byte, is_all, is_number, is_in_range, is_whole, is_kept}
 
 no_sign : (n : ℕ) → n < 2 ^ 64 → (starts_with_minus (decimal n) ≡ false) × ((get_or (decimal n) 0 0 == 43) ≡ false)
@@ -50,6 +51,13 @@ whole_number s h =
     let parts = and_parts (is_in_range (signed_digits_value 10 s)) _ h in
     (parts.0, (bytes_eq-Decides (signed_decimal (signed_digits_value 10 s)) s).0 parts.1)
 
+-- what a number in range is written as is a whole numeral
+pub written_is_whole : (z : ℤ) → is_in_range z ≡ true → is_whole (signed_decimal z) ≡ true
+written_is_whole z h =
+    let value : signed_digits_value 10 (signed_decimal z) ≡ z = (is_read z h).value in
+    let same : bytes_eq (signed_decimal z) (signed_decimal z) ≡ true = (bytes_eq-Decides (signed_decimal z) (signed_decimal z)).1 refl in
+    ap (λ k. is_in_range k && bytes_eq (signed_decimal k) (signed_decimal z)) value ∙ and_from (is_in_range z) _ h same
+
 -- what can't be read is what no number in range is written as
 pub not_whole : (s : List ℕ) → ¬ (IsNumeral 10 (without_leading_sign s) × SFits w128 (signed_digits_value 10 s)) → false ≡ is_whole s
 not_whole s h = sym (false_from_ne_true (is_whole s) (λ e.
@@ -75,6 +83,19 @@ number_is s h = by_rest (after_number s) h
 
 pub not_kept : (s : List ℕ) → (IsNumber s → ⊥) → is_kept s ≡ false
 not_kept s h = ap (λ b. b && not (is_whole s)) (false_from_ne_true (is_number s) (λ e. h (number_is s e)))
+
+pub tells_numerals : TellsNumerals
+tells_numerals s = (told, kept)
+  where
+    told : is_kept s ≡ true → IsNumber s × ((z : ℤ) → is_in_range z ≡ true → signed_decimal z ≡ s → ⊥)
+    told h =
+        let parts = and_parts (is_number s) (not (is_whole s)) h in
+        (number_is s parts.0, λ z r e. true≢false (sym (written_is_whole z r) ∙ ap is_whole e ∙ not-true (is_whole s) parts.1))
+
+    kept : IsNumber s × ((z : ℤ) → is_in_range z ≡ true → signed_decimal z ≡ s → ⊥) → is_kept s ≡ true
+    kept h =
+        let never : is_whole s ≡ false = false_from_ne_true (is_whole s) (λ e. let w = whole_number s e in h.1 (signed_digits_value 10 s) w.0 w.1) in
+        and_from (is_number s) (not (is_whole s)) (number_from s h.0) (ap not never)
 
 -- ---- their bytes are ASCII
 

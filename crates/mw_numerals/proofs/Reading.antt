@@ -1,6 +1,6 @@
 -- The marked text of a JSON text is a text of the marked value.
-use Rattle.std.proofs.Common.{◌≡◌, ℕ, suc, ◌≤◌, max, Bool, true, false, cond, ◌&&◌, List, [], ◌∷◌, ◌++◌, map, Option, Some, refl, sym, ap, ap₂, ◌∙◌, subst, arith, append-nil}
-use Rattle.std.proofs.lemmas.Bool.{true≢false, false≢true, and_parts, and_from}
+use Rattle.std.proofs.Common.{◌≡◌, ℕ, suc, max, Bool, true, false, cond, List, [], ◌∷◌, ◌++◌, map, refl, sym, ap, ap₂, ◌∙◌, subst, arith, append-nil}
+use Rattle.std.proofs.lemmas.Bool.{false≢true, and_parts, and_from}
 use Rattle.std.specs.List.{list_all}
 use Rattle.json.specs.Json as json
 use Rattle.json.specs.Lex.{Lexeme, token, comma, colon, between, lex, tokens, Place, fresh, after_value, after_comma, after_key, begins_colon, may_begin, may_close, if_allowed, place_token, punctuate}
@@ -9,7 +9,6 @@ use Rattle.json.specs.Tree.{json_tokens, items_tokens, members_tokens, depth, it
 use Rattle.json.proofs.Nesting.{value-depth}
 use Rattle.json.proofs.Printed.Trees.{value-json_tokens}
 use Rattle.json.proofs.Unique.Spelling.{value-json_tokens_back}
-use Rattle.mw_numerals.specs.Marks.{IsMarked}
 use Rattle.mw_numerals.specs.Numerals.{is_kept}
 use Rattle.mw_numerals.specs.Values.{marked_value, marked_items, marked_members, IsReadMarked}
 use Rattle.mw_numerals.proofs.Lexing.{mark_token, mark_lexeme, is_good_lexeme, AreGood, lexemes_marked}

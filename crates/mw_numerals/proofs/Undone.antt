@@ -1,9 +1,9 @@
 -- A text has its pieces in one way, and what is marked comes back.
-use Rattle.std.proofs.Common.{◌≡◌, ℕ, List, [], ◌∷◌, ◌++◌, Bool, true, false, ◌&&◌, ◌==◌, not, map, refl, sym, ap, ap₂, ◌∙◌, subst, cond, append_assoc, append-nil}
-use Rattle.std.proofs.lemmas.Bool.{and_parts, eqb-true, eqb-false, eq-eqb, true≢false, false≢true, both_ways}
+use Rattle.std.proofs.Common.{◌≡◌, ℕ, List, [], ◌∷◌, ◌++◌, Bool, true, false, not, map, refl, sym, ap, ap₂, ◌∙◌, subst, cond, append_assoc, append-nil}
+use Rattle.std.proofs.lemmas.Bool.{and_parts, eqb-false, true≢false, false≢true}
 use Rattle.std.specs.List.{list_all}
 use Rattle.mw_numerals.specs.Numerals.{is_numeral_byte, is_kept}
-use Rattle.mw_numerals.specs.Pieces.{Piece, quoted, cut, run, other, piece_text, text_of, closes, escapes, has_no_end, escaped_after, begins_run, IsPiece, EndsBefore, ArePieces, IsRewritten}
+use Rattle.mw_numerals.specs.Pieces.{Piece, quoted, cut, run, other, piece_text, text_of, closes, escapes, has_no_end, escaped_after, begins_run, IsPiece, EndsBefore, ArePieces}
 use Rattle.mw_numerals.specs.Marks.{marked, unmarked, IsMarked, IsUnmarked}
 use Rattle.mw_numerals.specs.Laws.{ChangesInOneWay, ComesBack, StaysApart}
 use Rattle.mw_numerals.proofs.Pieces.{has_no_end-append}

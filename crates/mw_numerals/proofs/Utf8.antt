@@ -1,15 +1,15 @@
 -- A text stays UTF-8 when it is marked.
-use Rattle.std.proofs.Common.{◌≡◌, ℕ, suc, ◌+◌, ◌-◌, ◌<◌, Bool, true, false, cond, List, [], ◌∷◌, ◌++◌, length, map, take, drop, get_or, refl, sym, ap, ◌∙◌, subst, arith, append_assoc, append-nil, add-one, length-append}
+use Rattle.std.proofs.Common.{◌≡◌, ℕ, ◌+◌, ◌-◌, ◌<◌, true, List, [], ◌∷◌, ◌++◌, length, map, take, drop, get_or, refl, sym, ap, ◌∙◌, subst, arith, append_assoc, length-append}
 use Rattle.std.proofs.lemmas.Bool.{and_parts, false≢true}
 use Rattle.std.proofs.lemmas.List.{take_at, drop_at, get_or-append_right}
 use Rattle.std.proofs.lemmas.Str.{IsUtf8-append, IsUtf8-take, IsUtf8-drop, IsUtf8-from_ascii, IsCharBoundary-before_ascii, IsCharBoundary-after_ascii}
 use Rattle.std.proofs.lemmas.Str.Ascii.{IsAscii-nil, IsAscii-cons}
 use Rattle.std.specs.List.{list_all}
-use Rattle.std.specs.Str.{IsUtf8, IsAscii}
+use Rattle.std.specs.Str.{IsUtf8}
 use Rattle.mw_numerals.specs.Laws.{StaysText}
-use Rattle.mw_numerals.specs.Marks.{marked, IsMarked}
+use Rattle.mw_numerals.specs.Marks.{marked}
 use Rattle.mw_numerals.specs.Numerals.{is_numeral_byte, is_kept}
-use Rattle.mw_numerals.specs.Pieces.{Piece, quoted, cut, run, other, piece_text, text_of, IsPiece, ArePieces}
+use Rattle.mw_numerals.specs.Pieces.{Piece, quoted, cut, run, other, piece_text, text_of, ArePieces}
 use Rattle.mw_numerals.proofs.Numerals.{ascii_byte, ascii_run}
 use Rattle.mw_numerals.proofs.Undone.{after_quote, by_kept, nothing_marked}
 

@@ -1,5 +1,5 @@
 -- What a marked text is read as.
-use Rattle.std.specs.Prelude.{◌≡◌, ℕ, List, [], ◌∷◌, Option, Some, if◌then◌else◌}
+use Rattle.std.specs.Prelude.{◌≡◌, ℕ, List, [], ◌∷◌, Some, if◌then◌else◌}
 use Rattle.json.specs.Json.{Json, null, boolean, number, string, array, object, Items, no_items, item, Members, no_members, member, value}
 use Rattle.json.specs.Lex.{tokens}
 use Rattle.mw_numerals.specs.Marks.{string_mark, numeral_mark, IsMarked}

@@ -1,4 +1,4 @@
-ghost use Rattle.mw_numerals.specs.Laws.{ChangesInOneWay, ComesBack, StaysApart, StaysText};
+ghost use Rattle.mw_numerals.specs.Laws.{ChangesInOneWay, ComesBack, StaysApart, StaysText, TellsNumerals};
 ghost use Rattle.mw_numerals.specs.Values.{IsReadMarked};
 
 /// What holds of any text and its marks.
@@ -12,4 +12,9 @@ pub fn marks_are_undone()
 /// The marked text of a JSON text is one of the marked value.
 pub fn marks_are_read()
     ensures { IsReadMarked }
+{}
+
+/// What a numeral is that is kept as its characters.
+pub fn numerals_are_told()
+    ensures { TellsNumerals }
 {}

@@ -8,6 +8,7 @@ mod piece;
 mod put;
 mod unmarking;
 
-pub use laws::{marks_are_read, marks_are_undone};
+pub use laws::{marks_are_read, marks_are_undone, numerals_are_told};
 pub use marking::mark;
+pub use numeral::is_kept;
 pub use unmarking::unmark;

@@ -40,13 +40,21 @@ fn is_whole(text: &str) -> bool
     }
 }
 
-/// Whether a run of numerals' characters is a numeral that no such number is written as.
-pub(crate) fn is_kept(run: &[u8]) -> bool
+/// Whether a text is a numeral of JSON that no whole number from -2^63 to 2^64 - 1 is written as:
+/// it is `-0`, has a fraction or an exponent, or lies outside that range.
+pub fn is_kept(text: &str) -> bool
+    ensures { result ≡ is_kept_lem text.now }
+{
+    is_number(text) && !is_whole(text)
+}
+
+/// The same of a run of numerals' characters.
+pub(crate) fn is_kept_run(run: &[u8]) -> bool
     requires { list_all is_numeral_byte_lem run.now ≡ true }
     ensures { result ≡ is_kept_lem run.now }
 {
     match std::str::from_utf8(run) {
-        Ok(text) => is_number(text) && !is_whole(text),
+        Ok(text) => is_kept(text),
         Err(_) => false,
     }
 }

@@ -7,8 +7,9 @@ use crate::piece::{Piece, first_piece};
 use crate::put::{put_cut, put_quoted};
 use std::alloc::{AllocError, Global};
 
-/// A marked text as it was before: each string without its `s`, and each string that begins with `n` as what follows
-/// that letter, without quotes. Other strings stay. The only error is that memory ran out.
+/// A marked text as it was before: each string without its `s`, and each string that begins with
+/// `n` as what follows that letter, without quotes. Other strings stay. The only error is that
+/// memory ran out.
 pub fn unmark(alloc: Global, bytes: &[u8]) -> Result<Vec<u8>, AllocError>
     ensures { IfOk result (λ u. IsUnmarked bytes.now u.items) }
 {

@@ -25,6 +25,8 @@ mod lock_workers;
 #[cfg(test)]
 mod native;
 #[cfg(test)]
+mod numerals;
+#[cfg(test)]
 mod plain_fill;
 #[cfg(test)]
 mod random_worlds;

@@ -1,4 +1,4 @@
-use Rattle.std.proofs.Common.{◌≡◌, ◌∙◌, List, ℕ, take, drop, length, get_or, true, false, sym, ap, subst}
+use Rattle.std.proofs.Common.{◌≡◌, ◌∙◌, take, drop, get_or, true, sym, ap, subst}
 use Rattle.std.proofs.lemmas.List.{take_rest}
 use Rattle.mw_numerals.specs.Numerals.{is_numeral_byte}
 use Rattle.mw_numerals.specs.Pieces.{IsPiece, run, begins_run}

@@ -1,5 +1,4 @@
 use Rattle.std.proofs.Common.{arith}
-use Rattle.std.proofs.lemmas.Bool.{eqb-true}
 use Rattle.mw_numerals.specs.Marks.{unmarked}
 use Rattle.mw_numerals.specs.View.{view}
 use Rattle.mw_numerals.proofs.Pieces.{goes_on, is_out}
