@@ -176,7 +176,7 @@ number_depth true s = refl
 number_depth false s = refl
 
 mutual
-  depth_marked : (j : json.Json) → depth (marked_value j) ≡ depth j
+  pub depth_marked : (j : json.Json) → depth (marked_value j) ≡ depth j
   depth_marked json.null = refl
   depth_marked (json.boolean b) = refl
   depth_marked (json.number s) = number_depth (is_kept s) s
