@@ -5,7 +5,7 @@
 # The program is crates/mw_cli/out/mw_cli, or what the variable MULTIWORLD names. Run after `rt run` in crates/mw_cli, which leaves the program.
 set -eu
 top=$(dirname "$(dirname "$(realpath "$0")")")
-program=$(realpath "${MULTIWORLD:-$top/crates/mw_cli/out/mw_cli}")
+program=$(realpath -m "${MULTIWORLD:-$top/crates/mw_cli/out/mw_cli}")
 [ -x "$program" ] || { echo "build it first: (cd crates/mw_cli && rt run)" >&2; exit 1; }
 export MULTIWORLD=$program PYTHONDONTWRITEBYTECODE=1 NODE_PATH=/usr/share/nodejs
 found=()

@@ -6,7 +6,7 @@
 # Run after `rt run` in crates/mw_cli, which leaves the program.
 set -eu
 cd "$(dirname "$0")/.."
-program=$(realpath "${MULTIWORLD:-crates/mw_cli/out/mw_cli}")
+program=$(realpath -m "${MULTIWORLD:-crates/mw_cli/out/mw_cli}")
 [ -x "$program" ] || { echo "build it first: (cd crates/mw_cli && rt run)" >&2; exit 1; }
 disk=$(mktemp -d -p "${DISK:-/var/tmp}")
 memory=$(mktemp -d -p /dev/shm)
