@@ -1,0 +1,11 @@
+pub mod Accepted
+pub mod AnsweredEach
+pub mod Growing
+pub mod Joints
+pub mod OnePlayer
+pub mod Readable
+pub mod RuleNumbers
+pub mod Seeded
+pub mod TablesJoined
+pub mod Twenty
+pub mod Unrefused

@@ -1,0 +1,9 @@
+use Rattle.std.proofs.Common.{◌≡◌, map}
+use Rattle.mw_model.specs.Json.{ItemsAreWritable}
+use Rattle.mw_json.specs.View.{view, items_view}
+use Rattle.mw_clock.specs.Tables.{floors_json}
+use Rattle.mw_clock.proofs.trees.floors_tree.Given as goal
+
+-- those from the floors so far, which can be written
+abbrev pub invariant-loop-i : goal.invariant-loop-i
+invariant-loop-i l = (map view l.trees ≡ floors_json l.i) × ItemsAreWritable (items_view l.trees)

@@ -1,0 +1,9 @@
+pub mod Clockwork
+pub mod Answers
+pub mod Tables
+pub mod Words
+pub mod Lines
+pub mod Seeds
+pub mod Tabled
+pub mod Runs
+pub mod Laws
