@@ -1,11 +1,10 @@
 -- Tables that grow by a row.
-use Rattle.std.proofs.Common.{◌≡◌, ◌<◌, ◌+◌, ◌*◌, ℕ, suc, List, [], ◌∷◌, ◌++◌, length, take, get_or, ap, add-one, append_assoc}
+use Rattle.std.proofs.Common.{◌≡◌, ◌<◌, ◌+◌, ◌*◌, ℕ, List, [], ◌∷◌, ◌++◌, length, take, ap, add-one, append_assoc}
 use Rattle.std.proofs.Math.Seq.{take-suc}
 use Rattle.std.specs.List.{AllZip}
 use Rattle.mw_rules.specs.Rule.{Rule, never}
 use Rattle.mw_rules.specs.Ruling.{rule_at}
 use Rattle.mw_rules.specs.declared.named.Named.{Named}
-use Rattle.mw_multi.specs.World.{Location}
 use Rattle.mw_native.specs.Told.{IsNamed}
 use Rattle.mw_clock.specs.Tables.{floor_json, floors_json, stair_json, stairs_json, box_json, boxes_json}
 use Rattle.mw_clock.specs.Clockwork.{floor, floors_below, stair, stairs_below, box, boxes_below}

@@ -1,15 +1,14 @@
 -- The joint of the world `Clockwork` and its player.
-use Rattle.std.proofs.Common.{◌≡◌, ◌≤◌, ◌*◌, ◌+◌, ℕ, List, [], ◌∷◌, length, Result, Ok, Bool, true, false, refl, sym, ap, subst, ◌∙◌, append-nil, cond}
+use Rattle.std.proofs.Common.{◌≡◌, ℕ, List, [], ◌∷◌, Result, Ok, Bool, true, false, refl, sym, subst, append-nil, cond}
 use Rattle.std.specs.Prelude.{bytes_eq, Some, None, sum_by}
 use Rattle.std.specs.Fmt.{digits}
 use Rattle.std.proofs.lemmas.Cmp.{nat_list_eq_equiv}
-use Rattle.mw_rules.specs.Rule.{Rule}
 use Rattle.mw_multi.specs.World.{World}
-use Rattle.mw_multi.specs.Files.{world_files, world_named, world_at}
+use Rattle.mw_multi.specs.Files.{world_named, world_at}
 use Rattle.mw_multi.specs.Labels.{item_labels, location_labels, flags_of}
 use Rattle.mw_multi.specs.Joint.{Slot, Joint, place_total}
-use Rattle.mw_multi.specs.JointOf.{◌>>=◌, Check, games_differ, flags_option, start_item, slot_of, few_places, few_text, world_text, joint_of}
-use Rattle.mw_multi.specs.Steps.{slot_rules, rule_list}
+use Rattle.mw_multi.specs.JointOf.{◌>>=◌, games_differ, flags_option, start_item, slot_of, few_places, few_text, world_text, joint_of}
+use Rattle.mw_multi.specs.Steps.{rule_list}
 use Rattle.mw_multi.specs.declared.refusal.JointRefusal.{JointRefusal}
 use Rattle.mw_clock.specs.Clockwork.{IsSize, clockwork, clock_rules, player, players}
 use Rattle.mw_clock.proofs.Twenty.{UpTo, each}

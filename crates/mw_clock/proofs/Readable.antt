@@ -1,5 +1,5 @@
 -- The tables as they are written are read again.
-use Rattle.std.proofs.Common.{◌≡◌, ◌≤◌, ◌+◌, ◌*◌, ℕ, zero, suc, List, [], ◌∷◌, ◌++◌, Result, Ok, Err, Some, codes, decimal, refl, ap, ◌∙◌, subst, inr, arith}
+use Rattle.std.proofs.Common.{◌≡◌, ◌≤◌, ◌+◌, ◌*◌, ℕ, zero, suc, List, [], ◌∷◌, ◌++◌, Result, Ok, Err, codes, decimal, refl, ap, ◌∙◌, subst, inr, arith}
 use Rattle.std.specs.Prelude.{IfOk, IsUtf8}
 use Rattle.mw_model.specs.Json.{Json, depth, IsWritable, IsOrdered, ItemsAreOrdered}
 use Rattle.mw_model.specs.Spelling.{spelling}

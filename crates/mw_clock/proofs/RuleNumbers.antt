@@ -1,5 +1,5 @@
 -- The rules of `Clockwork` by number.
-use Rattle.std.proofs.Common.{◌≡◌, ◌<◌, ◌≤◌, ◌+◌, ◌-◌, ◌*◌, ℕ, zero, suc, List, [], ◌∷◌, length, refl, sym, ap, ◌∙◌, subst, arith}
+use Rattle.std.proofs.Common.{◌≡◌, ◌<◌, ◌≤◌, ◌+◌, ◌-◌, ◌*◌, ℕ, zero, suc, List, [], ◌∷◌, length, refl, sym, ap, ◌∙◌, arith}
 use Rattle.mw_rules.specs.Rule.{Rule, always, has, can_reach}
 use Rattle.mw_rules.specs.Ruling.{rule_at}
 use Rattle.mw_clock.specs.Clockwork.{IsSize, clock_rules}

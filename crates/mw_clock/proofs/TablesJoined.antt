@@ -1,12 +1,10 @@
 -- Files that hold the tables are joined to the joint of `Clockwork`.
-use Rattle.std.proofs.Common.{◌≡◌, ℕ, List, [], ◌∷◌, Option, Some, Ok, refl, sym, ap, ap₂, ◌∙◌, subst}
+use Rattle.std.proofs.Common.{◌≡◌, ℕ, List, [], ◌∷◌, Option, Some, Ok, sym, ap₂, ◌∙◌, subst}
 use Rattle.mw_edges.specs.Folders.{GivesFile}
 use Rattle.mw_edges.specs.declared.folder.FileRead.TheVariants.{Whole}
 use Rattle.mw_multi.specs.World.{World}
 use Rattle.mw_multi.specs.Players.{Players}
 use Rattle.mw_multi.specs.Files.{world_files}
-use Rattle.mw_multi.specs.Joint.{Joint}
-use Rattle.mw_multi.specs.JointOf.{joint_of}
 use Rattle.mw_tables.specs.WorldOf.{WorldOf, world_at}
 use Rattle.mw_tables.specs.PlayersOf.{players_at}
 use Rattle.mw_causes.specs.Tables.{Files, world_limit, max_table_file, max_world_files, WorldsOf}

@@ -1,13 +1,12 @@
 -- The joint of `Clockwork` can be tried: its goal holds with everything in hand, and there is room for each gear.
-use Rattle.std.proofs.Common.{◌≡◌, ◌<◌, ◌≤◌, ◌+◌, ◌*◌, ◌&&◌, ℕ, zero, suc, List, [], ◌∷◌, ◌++◌, Bool, true, false, nat_le, cond, refl, sym, ap, ◌∙◌, subst, arith}
+use Rattle.std.proofs.Common.{◌≡◌, ◌≤◌, ◌+◌, ◌*◌, ◌&&◌, ℕ, zero, suc, List, [], ◌∷◌, ◌++◌, Bool, true, false, nat_le, cond, refl, subst, arith}
 use Rattle.std.specs.Prelude.{Option, Some, None}
 use Rattle.std.proofs.lemmas.Grind.{common_steps}
 use Rattle.mw_rules.specs.Rule.{always, has}
 use Rattle.mw_rules.specs.Holds.{Bag, Places}
 use Rattle.mw_multi.specs.Bags.{everything}
 use Rattle.mw_multi.specs.Steps.{Step, location_steps, steps_of}
-use Rattle.mw_reach.specs.Reach.{Placed, bag_with, Closed, IsLeast}
-use Rattle.mw_reach.specs.Goals.{unmet_from}
+use Rattle.mw_reach.specs.Reach.{Placed, bag_with, Closed}
 use Rattle.mw_fill.specs.Generated.{IsUnmet, pool_size, room_size, IsRefused}
 use Rattle.mw_fill.specs.declared.seed.GenerateError.TheVariants.{NotBeatable, TooManyItems}
 use Rattle.mw_clock.specs.Clockwork.{IsSize, boxes_below}

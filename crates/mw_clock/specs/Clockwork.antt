@@ -1,7 +1,7 @@
 -- The world `Clockwork` of so many gears, its player and their joint, as plain data.
 use Rattle.std.specs.Prelude.{ℕ, zero, suc, pos, ◌+◌, ◌*◌, ◌≤◌, List, [], ◌∷◌, ◌++◌, Some, None, nat_eq, codes, decimal, if◌then◌else◌}
 use Rattle.mw_rules.specs.Rule.{Rule, always, has, can_reach}
-use Rattle.mw_multi.specs.World.{Entrance, Location, Item, PoolEntry, World}
+use Rattle.mw_multi.specs.World.{Entrance, Location, Item, World}
 use Rattle.mw_multi.specs.Players.{Player, Players}
 use Rattle.mw_multi.specs.Steps.{world_rules}
 use Rattle.mw_multi.specs.declared.item.Class.TheVariants.{Progression, Filler}

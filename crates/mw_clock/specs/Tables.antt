@@ -1,6 +1,6 @@
 -- The tables of `Clockwork` and of its player, as they are written.
 use Rattle.std.specs.Prelude.{ℕ, zero, suc, pos, ◌+◌, ◌*◌, List, [], ◌∷◌, ◌++◌, true, codes, decimal}
-use Rattle.mw_model.specs.Json.{Json, flag, whole, words, many, members, Members, no_members, member}
+use Rattle.mw_model.specs.Json.{Json, flag, whole, words, many, members, no_members, member}
 use Rattle.mw_model.specs.Trees.{items_of}
 use Rattle.mw_model.specs.Spelling.{spelling}
 use Rattle.mw_clock.specs.Clockwork.{floor}

@@ -1,4 +1,4 @@
-use Rattle.std.proofs.Common.{◌≡◌, ◌+◌, ℕ, Bool, true, length, nat_lt, nat_le, slice_index_or, refl, sym, subst, arith}
+use Rattle.std.proofs.Common.{◌≡◌, ◌+◌, ℕ, true, length, nat_lt, nat_le, slice_index_or, refl, sym, subst, arith}
 use Rattle.std.proofs.lemmas.Grind.{common_steps}
 use Rattle.mw_rules.specs.Rule.{IsWithin}
 use Rattle.mw_rules.specs.Holds.{bag_of, places_of, holds}
