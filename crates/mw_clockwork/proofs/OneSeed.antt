@@ -1,5 +1,5 @@
 -- The tables make the seed that the closure makes.
-use Rattle.std.proofs.Common.{◌≡◌, ℕ, List, Ok, sym, ◌∙◌, subst}
+use Rattle.std.proofs.Common.{◌≡◌, Ok, sym, ◌∙◌, subst}
 use Rattle.mw_multi.specs.Joint.{Joint}
 use Rattle.mw_seeds.specs.Made.{Generates}
 use Rattle.mw_causes.specs.Tables.{JointIn}
