@@ -14,7 +14,7 @@ use Rattle.json.proofs.Printed.Trees.{value-json_tokens, ArePrintable-json_token
 use Rattle.serde_json.specs.Data as found
 use Rattle.serde_json.specs.Read as read
 use Rattle.serde_json.proofs.Numbers.{number_of-decimal, number_of-negative}
-use Rattle.mw_model.specs.Json.{Json, null, flag, whole, not_whole, words, many, members, Items, no_items, item, Members, no_members, member, depth, items_depth, members_depth, IsInRange, ComeAfter, IsWritable, ItemsAreWritable, MembersAreWritable, IsOrdered, ItemsAreOrdered, MembersAreOrdered}
+use Rattle.mw_model.specs.Json.{Json, null, flag, whole, not_whole, numeral, words, many, members, Items, no_items, item, Members, no_members, member, depth, items_depth, members_depth, IsInRange, ComeAfter, IsWritable, ItemsAreWritable, MembersAreWritable, IsOrdered, ItemsAreOrdered, MembersAreOrdered, IsPlain, ItemsArePlain, MembersArePlain}
 use Rattle.mw_json.specs.Reading.{of_data, of_items, of_members, of_number, reading, max_depth}
 use Rattle.mw_model.specs.Spelling.{spelling, number_text, outline, items_outline, members_outline}
 
@@ -77,31 +77,32 @@ abbrev Again : Json → Type 0
 Again j = (d : found.Data) × (read.of_json (outline j) ≡ Some d) × (of_data d ≡ j)
 
 mutual
-  again : (j : Json) → IsWritable j → IsOrdered j → Again j
-  again null w o = (found.null, refl, refl)
-  again (flag b) w o = (found.boolean b, refl, refl)
-  again (whole z) w o = let n = number_again z w in (found.number n.0, ap (option_map found.number) n.1, n.2)
-  again not_whole w o = absurd w
-  again (words s) w o = (found.string s, refl, refl)
-  again (many js) w o = let r = items_again js w o in (found.array r.0, ap (option_map found.array) r.1, ap many r.2)
-  again (members ms) w o = let r = members_again ms found.no_members w o (none_below ms) in (found.object r.0, ap (option_map found.object) r.1, ap members r.2)
+  again : (j : Json) → IsWritable j → IsOrdered j → IsPlain j → Again j
+  again null w o p = (found.null, refl, refl)
+  again (flag b) w o p = (found.boolean b, refl, refl)
+  again (whole z) w o p = let n = number_again z w in (found.number n.0, ap (option_map found.number) n.1, n.2)
+  again not_whole w o p = absurd w
+  again (numeral s) w o p = absurd p
+  again (words s) w o p = (found.string s, refl, refl)
+  again (many js) w o p = let r = items_again js w o p in (found.array r.0, ap (option_map found.array) r.1, ap many r.2)
+  again (members ms) w o p = let r = members_again ms found.no_members w o p (none_below ms) in (found.object r.0, ap (option_map found.object) r.1, ap members r.2)
 
-  items_again : (js : Items) → ItemsAreWritable js → ItemsAreOrdered js → (ds : found.Items) × (read.of_items (items_outline js) ≡ Some ds) × (of_items ds ≡ js)
-  items_again no_items w o = (found.no_items, refl, refl)
-  items_again (item j js) w o =
-      let d = again j w.0 o.0 in
-      let ds = items_again js w.1 o.1 in (
+  items_again : (js : Items) → ItemsAreWritable js → ItemsAreOrdered js → ItemsArePlain js → (ds : found.Items) × (read.of_items (items_outline js) ≡ Some ds) × (of_items ds ≡ js)
+  items_again no_items w o p = (found.no_items, refl, refl)
+  items_again (item j js) w o p =
+      let d = again j w.0 o.0 p.0 in
+      let ds = items_again js w.1 o.1 p.1 in (
         found.item d.0 ds.0,
         ap (option_and_then (λ x. option_map (found.item x) (read.of_items (items_outline js)))) d.1 ∙ ap (option_map (found.item d.0)) ds.1,
         ap₂ item d.2 ds.2,
       )
 
-  members_again : (ms : Members) (done : found.Members) → MembersAreWritable ms → MembersAreOrdered ms → AllBelow done ms
+  members_again : (ms : Members) (done : found.Members) → MembersAreWritable ms → MembersAreOrdered ms → MembersArePlain ms → AllBelow done ms
       → (ds : found.Members) × (read.of_members (members_outline ms) done ≡ Some (followed_by done ds)) × (of_members ds ≡ ms)
-  members_again no_members done w o b = (found.no_members, ap Some (sym (followed_by_none done)), refl)
-  members_again (member k j ms) done w o b =
-      let d = again j w.0 o.0 in
-      let rest = members_again ms (followed_by done (one k d.0)) w.1 o.2 (all_below_one_more done k d.0 ms b.1 o.1) in (
+  members_again no_members done w o p b = (found.no_members, ap Some (sym (followed_by_none done)), refl)
+  members_again (member k j ms) done w o p b =
+      let d = again j w.0 o.0 p.0 in
+      let rest = members_again ms (followed_by done (one k d.0)) w.1 o.2 p.1 (all_below_one_more done k d.0 ms b.1 o.1) in (
         found.member k d.0 rest.0,
         ap (option_and_then (λ x. read.of_members (members_outline ms) (found.put k x done))) d.1 ∙ ap (read.of_members (members_outline ms)) (put_after done k d.0 b.0)
             ∙ rest.1 ∙ ap Some (followed_twice done k d.0 rest.0),
@@ -114,6 +115,7 @@ mutual
   numbers (flag b) w = tt
   numbers (whole z) w = number_is z w
   numbers not_whole w = tt
+  numbers (numeral s) w = w.0
   numbers (words s) w = tt
   numbers (many js) w = items_numbers js w
   numbers (members ms) w = members_numbers ms w
@@ -132,6 +134,7 @@ mutual
   deep (flag b) = refl
   deep (whole z) = refl
   deep not_whole = refl
+  deep (numeral s) = refl
   deep (words s) = refl
   deep (many js) = ap suc (items_deep js)
   deep (members ms) = ap suc (members_deep ms)
@@ -147,9 +150,9 @@ mutual
 abbrev last : Option (json.Json × List Token) → Option found.Data
 last o = option_and_then read.of_json (option_and_then (λ p. json.if_last p.0 p.1) o)
 
-pub reads_back : (j : Json) → IsWritable j → IsOrdered j → depth j ≤ max_depth → reading (spelling j) ≡ Some j
-reads_back j w o h =
-    let d = again j w o in
+pub reads_back : (j : Json) → IsWritable j → IsOrdered j → IsPlain j → depth j ≤ max_depth → reading (spelling j) ≡ Some j
+reads_back j w o p h =
+    let d = again j w o p in
     let ts = tree.json_tokens (outline j) in
     let same : tokens (spelling j) ≡ ts ++ [] = tokens-print ts (ArePrintable-json_tokens (outline j) (numbers j w)) ∙ sym (append-nil ts) in
     let parsed : json.value 127 (tokens (spelling j)) ≡ Some (outline j, []) = ap (json.value 127) same ∙ value-json_tokens (outline j) 127 [] (omega (arith, deep j)) in

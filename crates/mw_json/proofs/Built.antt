@@ -1,9 +1,9 @@
 -- An object's members are made field by field.
-use Rattle.std.proofs.Common.{◌≡◌, ◌<◌, ◌+◌, ◌++◌, ◌∷◌, [], ℕ, List, set, length, map, drop, get_or, refl, ap, sym, ◌∙◌, add-one, append_assoc, append-nil, arith, subst, drop-cons}
+use Rattle.std.proofs.Common.{◌≡◌, ◌<◌, ◌+◌, ◌++◌, ◌∷◌, [], ℕ, List, set, length, drop, get_or, refl, ap, sym, ◌∙◌, add-one, append_assoc, append-nil, arith, subst, drop-cons}
 use Rattle.std.proofs.lemmas.List.{drop-set-lt}
 use Rattle.mw_model.specs.Json.{Json, IsWritable, Members, no_members, member, MembersAreWritable}
 use Rattle.mw_json.specs.View.{members_of}
-use Rattle.mw_json.specs.Building.{FieldHolds, FieldsHold, FieldIsWritable, FieldsAreWritable}
+use Rattle.mw_json.specs.Building.{FieldHolds, FieldsHold}
 use Rattle.mw_json.specs.declared.build.Field.{Field}
 
 -- the members of an object as a list

@@ -6,7 +6,7 @@ use Rattle.std.proofs.lemmas.Grind.{common_steps}
 use Rattle.std.proofs.lemmas.List.Elements.{All-nil, All-cons}
 use Rattle.std.proofs.lemmas.Result.{IfOk-weaker}
 use Rattle.mw_model.specs.Ascending.{ComesBefore, NamesAscend}
-use Rattle.mw_model.specs.Json.{Json, null, flag, whole, not_whole, words, many, members, Items, no_items, item, Members, no_members, member, find_member, ComeAfter}
+use Rattle.mw_model.specs.Json.{Json, null, flag, whole, not_whole, numeral, words, many, members, Items, no_items, item, Members, no_members, member, find_member, ComeAfter}
 use Rattle.mw_json.specs.Grammar.{Breach, refused, under, number_at, items_length, list_at, list_up_to, object_at, found_or_missing, member_at, field_at}
 use Rattle.mw_json.specs.Parts.{not_empty, list_of_length, element_at, item_at}
 use Rattle.mw_json.specs.Readers.{each_from, list_of_at, first_at, field_or_at, each_member_at}
@@ -105,6 +105,7 @@ found_valid name (member k j ms) o =
 pub object_valid : (j : Json) → IsValid j → IfOk (object_at j) MembersAreValid
 object_valid (members ms) o = o
 object_valid not_whole o = tt
+object_valid (numeral s) o = tt
 object_valid null o = tt
 object_valid (flag b) o = tt
 object_valid (whole z) o = tt
@@ -139,6 +140,7 @@ in_valid_field_or P name absent read ms o here h =
 pub list_valid : (j : Json) → IsValid j → IfOk (list_at j) ItemsAreValid
 list_valid (many js) o = o
 list_valid not_whole o = tt
+list_valid (numeral s) o = tt
 list_valid null o = tt
 list_valid (flag b) o = tt
 list_valid (whole z) o = tt

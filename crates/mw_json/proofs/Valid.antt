@@ -1,24 +1,25 @@
 -- What is read from a text has its whole numbers in range and the members of each object in order.
-use Rattle.std.proofs.Common.{◌≡◌, ◌<◌, ◌≤◌, ◌^◌, ◌==◌, ◌&&◌, ℕ, zero, suc, pos, List, drop, Bool, true, false, Option, Some, None, Result, Ok, Err, option_map, option_and_then, nat_cmp, refl, ap, ◌∙◌, arith}
+use Rattle.std.proofs.Common.{◌≡◌, ◌<◌, ◌≤◌, ◌^◌, ◌==◌, ◌&&◌, ℕ, zero, suc, pos, List, drop, Bool, true, false, Option, Some, None, Result, Ok, Err, option_map, option_and_then, nat_cmp, refl, sym, ap, subst, arith}
 use Rattle.std.specs.Prelude.{IfOk, IfSome, nat_lt, nat_le, neg_ℤ, slice_index, if◌then◌else◌}
 use Rattle.std.specs.Float.Numeral.{minus, Parts, numeral_digits, scan_numeral}
 use Rattle.std.proofs.lemmas.Grind.{common_steps}
 use Rattle.std.proofs.lemmas.Option.{MatchOption-at_some}
-use Rattle.std.specs.Ordering.{match_ordering, ordering_reverse}
+use Rattle.std.specs.Ordering.{match_ordering}
 use Rattle.std.specs.declared.cmp.Ordering.{Ordering}
 use Rattle.std.specs.declared.cmp.Ordering.TheVariants.{Less, Equal, Greater}
 use Rattle.std.specs.Cmp.Lexicographic.{slice_cmp}
-use Rattle.std.proofs.lemmas.Cmp.{nat_list_cmp_total}
 use Rattle.json.specs.Json as json
 use Rattle.json.specs.Lex.{tokens}
 use Rattle.serde_json.specs.Data as found
 use Rattle.serde_json.specs.Read as read
-use Rattle.mw_model.specs.Json.{Json, depth, Members, no_members, member, ComeAfter, IsInRange}
+use Rattle.mw_model.specs.Json.{Json, depth, member, IsInRange}
+use Rattle.mw_model.specs.Trees.{set_member}
 use Rattle.mw_json.specs.Reading.{of_data, of_items, of_members, of_number, reading, IsReading}
 use Rattle.mw_json.specs.View.{view}
 use Rattle.mw_json.specs.declared.error.JsonError.{JsonError}
 use Rattle.mw_json.specs.declared.tree.Tree.{Tree}
 use Rattle.mw_json.specs.Valid.{IsValid, ItemsAreValid, MembersAreValid}
+use Rattle.mw_json.proofs.Setting.{Placed, set_valid}
 
 -- ---- what holds of a value, where there is one
 
@@ -37,28 +38,14 @@ module _ {A B : Type 0} (Q : B → Type 0) where
 
 -- ---- a member that is put at its place
 
-come_through : (k l : List ℕ) (ms : Members) → slice_cmp nat_cmp k l ≡ Less → ComeAfter l ms → ComeAfter k ms
-come_through k l no_members less h = tt
-come_through k l (member m j ms) less h = (nat_list_cmp_total.trans k l m less h.0, come_through k l ms less h.1)
-
-put_after : (l k : List ℕ) (d : found.Data) (ms : found.Members) → slice_cmp nat_cmp l k ≡ Less → ComeAfter l (of_members ms) → ComeAfter l (of_members (found.put k d ms))
-put_after l k d found.no_members less h = (less, tt)
-put_after l k d (found.member m e ms) less h =
-    let P : Ordering → Type 0 = λ o. ComeAfter l (of_members (match_ordering o (found.member k d (found.member m e ms)) (found.member m d ms) (found.member m e (found.put k d ms)))) in
-    elim (slice_cmp nat_cmp k m) as P [ Less ↦ (less, h) | Equal ↦ h | Greater ↦ (h.0, put_after l k d ms less h.1) ]
+put_is : (k : List ℕ) (d : found.Data) (ms : found.Members) → of_members (found.put k d ms) ≡ set_member k (of_data d) (of_members ms)
+put_is k d found.no_members = refl
+put_is k d (found.member m e ms) =
+    let P : Ordering → Type 0 = λ o. of_members (match_ordering o (found.member k d (found.member m e ms)) (found.member m d ms) (found.member m e (found.put k d ms))) ≡ Placed k (of_data d) m (of_data e) (of_members ms) o in
+    elim (slice_cmp nat_cmp k m) as P [ Less ↦ refl | Equal ↦ refl | Greater ↦ ap (member m (of_data e)) (put_is k d ms) ]
 
 put_valid : (k : List ℕ) (d : found.Data) (ms : found.Members) → IsValid (of_data d) → MembersAreValid (of_members ms) → MembersAreValid (of_members (found.put k d ms))
-put_valid k d found.no_members one h = (one, tt, tt)
-put_valid k d (found.member m e ms) one h =
-    let Q : Ordering → Type 0 = λ o. MembersAreValid (of_members (match_ordering o (found.member k d (found.member m e ms)) (found.member m d ms) (found.member m e (found.put k d ms)))) in
-    let P : Ordering → Type 0 = λ o. slice_cmp nat_cmp k m ≡ o → Q o in
-    let at : P (slice_cmp nat_cmp k m) =
-    elim (slice_cmp nat_cmp k m) as P [
-      | Less ↦ λ is. (one, (is, come_through k m (of_members ms) is h.1), h)
-      | Equal ↦ λ is. (one, h.1, h.2)
-      | Greater ↦ λ is. (h.0, put_after m k d ms (nat_list_cmp_total.antisymm m k ∙ ap ordering_reverse is) h.1, put_valid k d ms one h.2)
-    ] in
-    at refl
+put_valid k d ms one h = subst MembersAreValid (sym (put_is k d ms)) (set_valid k (of_data d) (of_members ms) one h)
 
 -- ---- the whole
 

@@ -1,6 +1,6 @@
 -- Grammars of JSON files: a value, or the first breach with the steps that lead outward from it.
 use Rattle.std.specs.Prelude.{◌≡◌, ◌==◌, ◌||◌, ◌&&◌, ◌+◌, ℕ, pos, negsuc, List, [], ◌∷◌, ◌++◌, Bool, false, Option, Some, None, Result, Ok, Err, nat_le, nat_lt, length, chars, if◌then◌else◌}
-use Rattle.mw_model.specs.Json.{Json, null, flag, whole, not_whole, words, many, members, Items, no_items, item, Members, find_member}
+use Rattle.mw_model.specs.Json.{Json, null, flag, whole, not_whole, numeral, words, many, members, Items, no_items, item, Members, find_member}
 use Rattle.mw_json.specs.declared.refusal.Kind.{Kind}
 use Rattle.mw_json.specs.declared.refusal.Kind.TheVariants.{MissingField, NotWhole, WrongKind, TooMany, NameTooLong}
 use Rattle.mw_json.specs.declared.refusal.Step.{Step}
@@ -39,6 +39,7 @@ Gives answer read = GivesBy (λ x. x) answer read
 -- any value of another kind than the one wanted
 abbrev pub other_kind : {A : Type 0} → Json → Result A Breach
 other_kind not_whole = refused NotWhole
+other_kind (numeral s) = refused WrongKind
 other_kind null = refused WrongKind
 other_kind (flag b) = refused WrongKind
 other_kind (whole z) = refused WrongKind
@@ -52,6 +53,7 @@ number_at low high (whole (pos n)) =
     if nat_le low n && nat_le n high then Ok n else refused WrongKind
 number_at low high (whole (negsuc n)) = refused WrongKind
 number_at low high not_whole = refused NotWhole
+number_at low high (numeral s) = refused WrongKind
 number_at low high null = refused WrongKind
 number_at low high (flag b) = refused WrongKind
 number_at low high (words s) = refused WrongKind
@@ -61,6 +63,7 @@ number_at low high (members ms) = refused WrongKind
 abbrev pub text_at : Json → Result (List ℕ) Breach
 text_at (words s) = Ok s
 text_at not_whole = refused NotWhole
+text_at (numeral s) = refused WrongKind
 text_at null = refused WrongKind
 text_at (flag b) = refused WrongKind
 text_at (whole z) = refused WrongKind
@@ -70,6 +73,7 @@ text_at (members ms) = refused WrongKind
 abbrev pub list_at : Json → Result Items Breach
 list_at (many js) = Ok js
 list_at not_whole = refused NotWhole
+list_at (numeral s) = refused WrongKind
 list_at null = refused WrongKind
 list_at (flag b) = refused WrongKind
 list_at (whole z) = refused WrongKind
@@ -79,6 +83,7 @@ list_at (members ms) = refused WrongKind
 abbrev pub object_at : Json → Result Members Breach
 object_at (members ms) = Ok ms
 object_at not_whole = refused NotWhole
+object_at (numeral s) = refused WrongKind
 object_at null = refused WrongKind
 object_at (flag b) = refused WrongKind
 object_at (whole z) = refused WrongKind

@@ -1,6 +1,6 @@
 -- Lists of a stated length, ids, and values that may be null or absent.
 use Rattle.std.specs.Prelude.{ℕ, ℤ, pos, zero, suc, ◌==◌, List, Option, Some, None, Result, Ok, if◌then◌else◌}
-use Rattle.mw_model.specs.Json.{Json, null, flag, whole, not_whole, words, many, members, Items, no_items, item, Members, find_member}
+use Rattle.mw_model.specs.Json.{Json, null, flag, whole, not_whole, numeral, words, many, members, Items, no_items, item, Members, find_member}
 use Rattle.mw_json.specs.Grammar.{Breach, ◌>>=◌, refused, under, number_at, list_at, items_length}
 use Rattle.mw_json.specs.declared.refusal.Kind.TheVariants.{WrongKind}
 use Rattle.mw_json.specs.declared.refusal.Step.TheVariants.{Name, Index}
@@ -42,6 +42,7 @@ null_or_at at null = Ok None
 null_or_at at (flag b) = there (at (flag b))
 null_or_at at (whole z) = there (at (whole z))
 null_or_at at not_whole = there (at not_whole)
+null_or_at at (numeral s) = there (at (numeral s))
 null_or_at at (words s) = there (at (words s))
 null_or_at at (many js) = there (at (many js))
 null_or_at at (members ms) = there (at (members ms))

@@ -2,7 +2,7 @@
 use Rattle.std.specs.Coded.{Coded, code_by}
 use mathlib.Core.Path.{◌≡◌, refl, ap, sym, ◌∙◌}
 use Rattle.std.specs.Prelude.{ℕ, List, [], ◌∷◌}
-use Rattle.mw_model.specs.Json.{Json, null, flag, whole, not_whole, words, many, members, Items, no_items, item, Members, no_members, member}
+use Rattle.mw_model.specs.Json.{Json, null, flag, whole, not_whole, numeral, words, many, members, Items, no_items, item, Members, no_members, member}
 use Rattle.mw_json.specs.View.{view, member_view, items_view, members_view, tree_step, member_step}
 use Rattle.mw_json.specs.contracts.tree.Tree as row
 use Rattle.mw_json.specs.declared.tree.Tree.{Tree, fold-roll-Tree}
@@ -17,6 +17,7 @@ abbrev mutual
   written (flag b) = tree.Flag b
   written (whole z) = tree.Whole z
   written not_whole = tree.NotWhole
+  written (numeral s) = tree.Numeral s
   written (words s) = tree.Words s
   written (many js) = tree.Many (items_written js)
   written (members ms) = tree.Members (members_written ms)
@@ -48,6 +49,8 @@ mutual
       member_step (Tree-F.Whole z)
   stands_for_it not_whole = ap view (sym tree.rolls-NotWhole) ∙ fold-roll-Tree Json Named tree_step
       member_step Tree-F.NotWhole
+  stands_for_it (numeral s) = ap view (sym (tree.rolls-Numeral s)) ∙ fold-roll-Tree Json Named
+      tree_step member_step (Tree-F.Numeral s)
   stands_for_it (words s) = ap view (sym (tree.rolls-Words s)) ∙ fold-roll-Tree Json Named tree_step
       member_step (Tree-F.Words s)
   stands_for_it
@@ -80,6 +83,7 @@ members_in null = no_members
 members_in (flag b) = no_members
 members_in (whole z) = no_members
 members_in not_whole = no_members
+members_in (numeral s) = no_members
 members_in (words s) = no_members
 members_in (many js) = no_members
 

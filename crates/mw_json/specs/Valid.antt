@@ -1,5 +1,5 @@
 -- What a text's reading keeps.
-use Rattle.mw_model.specs.Json.{Json, null, flag, whole, not_whole, words, many, members, Items, no_items, item, Members, no_members, member, ComeAfter, IsInRange}
+use Rattle.mw_model.specs.Json.{Json, null, flag, whole, not_whole, numeral, words, many, members, Items, no_items, item, Members, no_members, member, ComeAfter, IsInRange, IsNumeral}
 
 -- whole numbers from -2^63 to 2^64 - 1, and each object's members strictly ascending in byte order of their names
 abbrev mutual
@@ -8,6 +8,7 @@ abbrev mutual
   IsValid (flag b) = Unit {0}
   IsValid (whole z) = IsInRange z
   IsValid not_whole = Unit {0}
+  IsValid (numeral s) = IsNumeral s
   IsValid (words s) = Unit {0}
   IsValid (many js) = ItemsAreValid js
   IsValid (members ms) = MembersAreValid ms

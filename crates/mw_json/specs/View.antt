@@ -1,6 +1,6 @@
 -- The meaning of a `Tree`.
 use Rattle.std.specs.Prelude.{ℕ, List, [], ◌∷◌, map}
-use Rattle.mw_model.specs.Json.{Json, null, flag, whole, not_whole, words, many, members, Items, Members, no_members, member}
+use Rattle.mw_model.specs.Json.{Json, null, flag, whole, not_whole, numeral, words, many, members, Items, Members, no_members, member}
 use Rattle.mw_model.specs.Trees.{items_of}
 use Rattle.mw_json.specs.declared.tree.Tree.{Tree, fold-Tree}
 use Rattle.mw_json.specs.declared.tree.Member.{Member, fold-Member}
@@ -16,6 +16,7 @@ tree_step Tree-F.Null = null
 tree_step (Tree-F.Flag b) = flag b
 tree_step (Tree-F.Whole z) = whole z
 tree_step Tree-F.NotWhole = not_whole
+tree_step (Tree-F.Numeral s) = numeral s
 tree_step (Tree-F.Words s) = words s
 tree_step (Tree-F.Many js) = many (items_of js)
 tree_step (Tree-F.Members ms) = members (members_of ms)

@@ -13,6 +13,7 @@ pub fn same(left: &Tree, right: &Tree) -> bool
         (Tree::Flag(a), Tree::Flag(b)) => a == b,
         (Tree::Whole(a), Tree::Whole(b)) => a == b,
         (Tree::NotWhole, Tree::NotWhole) => true,
+        (Tree::Numeral(a), Tree::Numeral(b)) => a.as_str() == b.as_str(),
         (Tree::Words(a), Tree::Words(b)) => a.as_str() == b.as_str(),
         (Tree::Many(a), Tree::Many(b)) => same_items(a.as_slice(), b.as_slice()),
         (Tree::Members(a), Tree::Members(b)) => same_members(a.as_slice(), b.as_slice()),

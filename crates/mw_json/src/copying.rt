@@ -15,6 +15,7 @@ pub fn copy(alloc: Global, tree: &Tree) -> Result<Tree, Memory>
         Tree::Flag(b) => Ok(Tree::Flag(*b)),
         Tree::Whole(z) => Ok(Tree::Whole(*z)),
         Tree::NotWhole => Ok(Tree::NotWhole),
+        Tree::Numeral(text) => Ok(Tree::Numeral(Text::of(alloc, text.as_str())?)),
         Tree::Words(text) => Ok(Tree::Words(Text::of(alloc, text.as_str())?)),
         Tree::Many(items) => Ok(Tree::Many(copy_items(alloc, items.as_slice())?)),
         Tree::Members(members) => Ok(Tree::Members(copy_members(alloc, members.as_slice())?)),

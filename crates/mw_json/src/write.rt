@@ -1,7 +1,8 @@
 ghost use Rattle.std.specs.Prelude.{◌≡◌, ◌≤◌, ◌++◌, ◌∷◌, ◌↔◌, [], Some, IfOk, OnOk, IsTrue, IsUtf8};
 ghost use Rattle.json.specs.Token.{number as number_token};
 ghost use Rattle.json.specs.Tree.{json_tokens, items_tokens, members_tokens};
-ghost use Rattle.mw_model.specs.Json.{Json, depth, IsWritable, ItemsAreWritable, MembersAreWritable, IsOrdered, IsInRange};
+ghost use Rattle.mw_model.specs.Json.{Json, depth, IsWritable, ItemsAreWritable, MembersAreWritable, IsOrdered, IsPlain, IsInRange, IsNumeral};
+ghost use Rattle.mw_json.specs.KeptReading.{kept_reading};
 ghost use Rattle.mw_json.specs.Reading.{reading, max_depth};
 ghost use Rattle.mw_model.specs.Spelling.{spelling, number_text, outline, items_outline, members_outline};
 ghost use Rattle.mw_json.specs.View.{view, items_view, members_view};
@@ -9,6 +10,7 @@ ghost use Rattle.mw_json.specs.View.{view, items_view, members_view};
 use crate::tree::{Member, Tree};
 use json::Writer;
 use mw_base::{Bytes, List, Memory};
+use mw_numerals::is_kept;
 use std::alloc::Global;
 
 /// The compact text of a tree.
@@ -24,8 +26,14 @@ pub fn compact(alloc: Global, tree: &Tree) -> Result<Bytes, Memory>
 
 /// What is written is read again.
 pub fn reads_back()
-    ensures { (j : Json) → IsWritable j → IsOrdered j → depth j ≤ max_depth
+    ensures { (j : Json) → IsWritable j → IsOrdered j → IsPlain j → depth j ≤ max_depth
         → reading (spelling j) ≡ Some j }
+{}
+
+/// What is written is read again with its numerals.
+pub fn keeps_back()
+    ensures { (j : Json) → IsWritable j → IsOrdered j → depth j ≤ max_depth
+        → kept_reading (spelling j) ≡ Some j }
 {}
 
 #[cycle(write)]
@@ -40,6 +48,7 @@ fn write(tree: &Tree, out: &mut Writer) -> Result<(), Memory>
         Tree::Flag(b) => out.boolean(*b)?,
         Tree::Whole(z) => write_whole(*z, out)?,
         Tree::NotWhole => unreachable!(),
+        Tree::Numeral(text) => out.number(text.as_str())?,
         Tree::Words(text) => out.string(text.as_str())?,
         Tree::Many(items) => {
             out.begin_array()?;
@@ -105,9 +114,16 @@ pub fn can_write(tree: &Tree) -> bool
         Tree::Null | Tree::Flag(_) | Tree::Words(_) => true,
         Tree::Whole(z) => is_in_range(*z),
         Tree::NotWhole => false,
+        Tree::Numeral(text) => is_numeral(text.as_str()),
         Tree::Many(items) => can_write_items(items.as_slice()),
         Tree::Members(members) => can_write_members(members.as_slice()),
     }
+}
+
+fn is_numeral(text: &str) -> bool
+    ensures { IsTrue result ↔ IsNumeral text.now }
+{
+    is_kept(text)
 }
 
 fn is_in_range(z: i128) -> bool

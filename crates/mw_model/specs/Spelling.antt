@@ -4,7 +4,7 @@ use Rattle.std.specs.Fmt.{signed_decimal}
 use Rattle.json.specs.Json as json
 use Rattle.json.specs.Tree.{json_tokens}
 use Rattle.json.specs.Print.{print}
-use Rattle.mw_model.specs.Json.{Json, null, flag, whole, not_whole, words, many, members, Items, no_items, item, Members, no_members, member}
+use Rattle.mw_model.specs.Json.{Json, null, flag, whole, not_whole, numeral, words, many, members, Items, no_items, item, Members, no_members, member}
 
 abbrev pub number_text : ℤ → List ℕ
 number_text (pos n) = decimal n
@@ -16,6 +16,7 @@ abbrev mutual
   outline (flag b) = json.boolean b
   outline (whole z) = json.number (number_text z)
   outline not_whole = json.null
+  outline (numeral s) = json.number s
   outline (words s) = json.string s
   outline (many js) = json.array (items_outline js)
   outline (members ms) = json.object (members_outline ms)

@@ -1,7 +1,7 @@
 -- Whether two values are the same.
 use Rattle.std.specs.Prelude.{◌&&◌, Bool, true, false, not, bytes_eq, if◌then◌else◌}
 use Rattle.std.specs.Ordering.{int_eq}
-use Rattle.mw_model.specs.Json.{Json, null, flag, whole, not_whole, words, many, members, Items, no_items, item, Members, no_members, member}
+use Rattle.mw_model.specs.Json.{Json, null, flag, whole, not_whole, numeral, words, many, members, Items, no_items, item, Members, no_members, member}
 
 -- part by part
 abbrev mutual
@@ -10,6 +10,7 @@ abbrev mutual
   json_eq (flag a) (flag b) = if a then b else not b
   json_eq (whole a) (whole b) = int_eq a b
   json_eq not_whole not_whole = true
+  json_eq (numeral a) (numeral b) = bytes_eq a b
   json_eq (words a) (words b) = bytes_eq a b
   json_eq (many js) (many ks) = items_eq js ks
   json_eq (members ms) (members ns) = members_eq ms ns

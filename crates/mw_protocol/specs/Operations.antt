@@ -4,8 +4,9 @@ use Rattle.std.specs.Int.{w64, int_max, int_min, int_bit_and, int_bit_or, int_bi
 use Rattle.std.specs.Ordering.{nat_cmp, int_eq}
 use Rattle.std.specs.Cmp.Lexicographic.{slice_cmp}
 use Rattle.std.specs.declared.cmp.Ordering.TheVariants.{Less, Equal, Greater}
-use Rattle.mw_model.specs.Json.{Json, null, flag, whole, not_whole, words, many, members, Items, no_items, item, Members, no_members, member}
+use Rattle.mw_model.specs.Json.{Json, null, flag, whole, not_whole, numeral, words, many, members, Items, no_items, item, Members, no_members, member}
 use Rattle.mw_model.specs.Sets.{Operation}
+pub use Rattle.mw_model.specs.Trees.{set_member}
 use Rattle.mw_protocol.specs.Equal.{json_eq}
 
 -- why an operation fails: its name, its operand or the value is another than stated; or a number is outside its range
@@ -26,6 +27,7 @@ number_in null = None
 number_in (flag b) = None
 number_in (whole z) = if is_number z then Some z else None
 number_in not_whole = None
+number_in (numeral s) = None
 number_in (words s) = None
 number_in (many js) = None
 number_in (members ms) = None
@@ -141,17 +143,6 @@ abbrev pub without_member : List ℕ → Members → Members
 without_member name no_members = no_members
 without_member name (member k j ms) =
     if bytes_eq k name then ms else member k j (without_member name ms)
-
--- a member with this value: the one of this name, or a new one at its place in byte order
-abbrev pub set_member : List ℕ → Json → Members → Members
-set_member name value no_members = member name value no_members
-set_member name value (member k j ms) =
-    elim (slice_cmp nat_cmp name k) [
-      | Less ↦ member name value (member k j ms)
-      | Equal ↦ member k value ms
-      | Greater ↦ member k j
-          (set_member name value ms)
-    ]
 
 -- each of these members set in turn
 abbrev pub set_members : Members → Members → Members

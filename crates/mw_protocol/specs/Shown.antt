@@ -2,7 +2,7 @@
 use Rattle.std.specs.Prelude.{ℕ, pos, ◌&&◌, ◌++◌, ◌∷◌, [], List, Bool, false, Option, Some, None, codes, bytes_eq, int_le, length, take, drop, nat_lt, map, filter, if◌then◌else◌}
 use Rattle.std.specs.List.{position_or_len, before_first, after_first}
 use Rattle.mw_model.specs.Items.{NetItem}
-use Rattle.mw_model.specs.Json.{Json, null, flag, whole, not_whole, words, many, members, Items, no_items, item, Members, no_members, member, find_member, field_of}
+use Rattle.mw_model.specs.Json.{Json, null, flag, whole, not_whole, numeral, words, many, members, Items, no_items, item, Members, no_members, member, find_member, field_of}
 use Rattle.mw_protocol.specs.Checks.{Check, checks_at}
 use Rattle.mw_protocol.specs.Connecting.{Member}
 use Rattle.mw_protocol.specs.Messages.{PrintJson, ServerPacket, room_info, connected, received_items, room_update, connection_refused, location_info, data_package, invalid_packet, print, retrieved, set_reply, bounced}
@@ -63,6 +63,7 @@ value_shown team null = []
 value_shown team (flag b) = []
 value_shown team (whole z) = []
 value_shown team not_whole = []
+value_shown team (numeral s) = []
 value_shown team (words s) = []
 value_shown team (members ms) = []
 
