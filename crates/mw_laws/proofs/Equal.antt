@@ -3,7 +3,7 @@ use Rattle.std.proofs.Common.{◌≡◌, true, false, refl, ap, ap₂, ◌∙◌
 use Rattle.std.proofs.lemmas.Bool.{and_parts, false≢true}
 use Rattle.std.proofs.lemmas.Bool.Decides.{Decides-int_eq}
 use Rattle.std.proofs.lemmas.Slice.Eq.{bytes_eq-Decides}
-use Rattle.mw_model.specs.Json.{Json, null, flag, whole, not_whole, words, many, members, Items, no_items, item, Members, no_members, member}
+use Rattle.mw_model.specs.Json.{Json, null, flag, whole, not_whole, numeral, words, many, members, Items, no_items, item, Members, no_members, member}
 use Rattle.mw_protocol.specs.Equal.{json_eq, items_eq, members_eq}
 
 mutual
@@ -15,6 +15,7 @@ mutual
   json_same (flag false) (flag false) h = refl
   json_same (whole a) (whole b) h = ap whole ((Decides-int_eq a b).0 h)
   json_same not_whole not_whole h = refl
+  json_same (numeral s) (numeral t) h = ap numeral ((bytes_eq-Decides s t).0 h)
   json_same (words s) (words t) h = ap words ((bytes_eq-Decides s t).0 h)
   json_same (many js) (many ks) h = ap many (items_same js ks h)
   json_same (members ms) (members ns) h = ap members (members_same ms ns h)
