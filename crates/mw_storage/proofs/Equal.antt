@@ -2,7 +2,7 @@
 use Rattle.std.proofs.Common.{◌≡◌, ◌↔◌, Bool, true, false, IsTrue, bytes_eq, refl, sym, ap, ap₂, ◌∙◌, ◌&&◌}
 use Rattle.std.proofs.lemmas.Slice.Eq.{bytes_eq-Decides}
 use Rattle.std.proofs.lemmas.Bool.Decides.{Decides-int_eq}
-use Rattle.mw_model.specs.Json.{Json, null, flag, whole, not_whole, words, many, members, Items, no_items, item, Members, no_members, member}
+use Rattle.mw_model.specs.Json.{Json, null, flag, whole, not_whole, numeral, words, many, members, Items, no_items, item, Members, no_members, member}
 use Rattle.mw_protocol.specs.Equal.{json_eq, items_eq, members_eq}
 
 both : (a b : Bool) → a && b ≡ true → (a ≡ true) × (b ≡ true)
@@ -16,6 +16,7 @@ mutual
   json_eq-refl (flag false) = refl
   json_eq-refl (whole z) = (Decides-int_eq z z).1 refl
   json_eq-refl not_whole = refl
+  json_eq-refl (numeral s) = (bytes_eq-Decides s s).1 refl
   json_eq-refl (words s) = (bytes_eq-Decides s s).1 refl
   json_eq-refl (many js) = items_eq-refl js
   json_eq-refl (members ms) = members_eq-refl ms
@@ -37,6 +38,7 @@ mutual
   json_eq-same (flag false) (flag false) h = refl
   json_eq-same (whole a) (whole b) h = ap whole ((Decides-int_eq a b).0 h)
   json_eq-same not_whole not_whole h = refl
+  json_eq-same (numeral s) (numeral t) h = ap numeral ((bytes_eq-Decides s t).0 h)
   json_eq-same (words s) (words t) h = ap words ((bytes_eq-Decides s t).0 h)
   json_eq-same (many js) (many ks) h = ap many (items_eq-same js ks h)
   json_eq-same (members ms) (members ns) h = ap members (members_eq-same ms ns h)

@@ -4,7 +4,7 @@ use Rattle.std.proofs.lemmas.Fmt.{decimal_by_steps, decimal_step}
 use Rattle.json.specs.Token.{Token}
 use Rattle.json.specs.Print.{print_from, escape, quoted, begins, ends, token_text}
 use Rattle.json.specs.Tree.{json_tokens, items_tokens, members_tokens}
-use Rattle.mw_model.specs.Json.{Json, null, flag, whole, not_whole, words, many, members, Items, no_items, item, Members, no_members, member}
+use Rattle.mw_model.specs.Json.{Json, null, flag, whole, not_whole, numeral, words, many, members, Items, no_items, item, Members, no_members, member}
 use Rattle.mw_model.specs.Spelling.{spelling, number_text, outline, items_outline, members_outline}
 use Rattle.mw_storage.specs.Sizes.{quoted_size, size, items_size, members_size}
 
@@ -37,6 +37,7 @@ mutual
   printed after (flag false) ts = head after (Token.boolean false) ts refl
   printed after (whole z) ts = head after (Token.number (number_text z)) ts refl
   printed after not_whole ts = head after Token.null ts refl
+  printed after (numeral s) ts = head after (Token.number s) ts refl
   printed after (words s) ts = omega (arith, head after (Token.string s) ts refl, size_of_quoted s)
   printed after (many js) ts = omega (arith, head after Token.begin_array (items_tokens (items_outline js) ++ ts) refl, first_items js ts)
   printed after (members ms) ts = omega (arith, head after Token.begin_object (members_tokens (members_outline ms) ++ ts) refl, first_members ms ts)

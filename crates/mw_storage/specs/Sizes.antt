@@ -1,7 +1,7 @@
 -- How long the compact text of a value is, part by part.
 use Rattle.std.specs.Prelude.{ℕ, ◌+◌, max, List, true, false, length}
 use Rattle.json.specs.Print.{escape}
-use Rattle.mw_model.specs.Json.{Json, null, flag, whole, not_whole, words, many, members, Items, no_items, item, Members, no_members, member}
+use Rattle.mw_model.specs.Json.{Json, null, flag, whole, not_whole, numeral, words, many, members, Items, no_items, item, Members, no_members, member}
 use Rattle.mw_model.specs.Spelling.{number_text}
 
 -- a text in quotes
@@ -16,6 +16,7 @@ abbrev mutual
   size (flag false) = 5
   size (whole z) = length (number_text z)
   size not_whole = 4
+  size (numeral s) = length s
   size (words s) = quoted_size s
   size (many js) = 1 + max 1 (items_size js)
   size (members ms) = 1 + max 1 (members_size ms)

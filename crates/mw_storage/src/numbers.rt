@@ -156,10 +156,10 @@ fn of_numbers(name: &str, z: i64, n: i64) -> Result<Tree, Fault>
 }
 
 /// An operation that only numbers have.
-pub(crate) fn by_number(name: &str, value: &Tree, operand: &Tree) -> Result<Tree, Fault>
-    ensures { IsResultOf result (by_number name.now (view value.now) (view operand.now)) }
+pub(crate) fn by_number(name: &str, value: Tree, operand: &Tree) -> Result<Tree, Fault>
+    ensures { IsResultOf result (by_number name.now (view value) (view operand.now)) }
 {
-    match (number_of(value), number_of(operand)) {
+    match (number_of(&value), number_of(operand)) {
         (Some(z), Some(n)) => of_numbers(name, z, n),
         _ => Err(Fault::Bad),
     }

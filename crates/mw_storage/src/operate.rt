@@ -26,7 +26,7 @@ fn added(alloc: Global, value: Tree, operand: &Tree) -> Result<Tree, Fault>
 {
     match value {
         Tree::Many(items) => joined(alloc, items, operand),
-        value => by_number("add", &value, operand),
+        value => by_number("add", value, operand),
     }
 }
 
@@ -119,6 +119,6 @@ pub(crate) fn operated(alloc: Global, operation: &Operation, value: Tree) -> Res
         "remove" => removed(value, operand),
         "pop" => popped(value, operand),
         "update" => updated(alloc, value, operand),
-        name => by_number(name, &value, operand),
+        name => by_number(name, value, operand),
     }
 }

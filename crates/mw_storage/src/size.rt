@@ -66,6 +66,7 @@ fn size(tree: &Tree) -> Option<u64>
         Tree::Flag(false) => Some(5),
         Tree::Whole(z) => Some(number_size(*z)),
         Tree::NotWhole => unreachable!(),
+        Tree::Numeral(text) => Some(text.as_str().len() as u64),
         Tree::Words(text) => quoted_size(text.as_str()),
         Tree::Many(items) => items_size(items.as_slice())?.max(1).checked_add(1),
         Tree::Members(members) => members_size(members.as_slice())?.max(1).checked_add(1),
