@@ -14,12 +14,12 @@ use Rattle.mw_model.specs.Json.{Json, depth}
 use Rattle.mw_model.specs.Spelling.{spelling}
 use Rattle.mw_model.specs.Statuses.{is_client_status, is_hint_status}
 use Rattle.mw_protocol.specs.Spelled.{place_bytes, location_bytes, locations_bytes, flag_byte, text_bytes, IsSlot, IsPlace, IsLocation, IsTarget, AreLocations, IsValue, IsKey}
-use Rattle.mw_json.specs.Reading.{reading, IsReading, max_depth}
-use Rattle.mw_json.proofs.Again.{reads_back}
-use Rattle.mw_json.proofs.Valid.{reading_valid}
+use Rattle.mw_json.specs.KeptReading.{kept_reading, IsKeptReading}
+use Rattle.mw_json.specs.Reading.{max_depth}
+use Rattle.mw_json.proofs.KeptAgain.{keeps_back}
 use Rattle.mw_records.specs.Reading.{◌>>=◌, IsRead, number_at, passing, is_team, is_slot, is_location, is_flag, is_count, team_at, slot_at, client_status_at, hint_status_at, location_at, flag_at, place_at, target_at, offer_at, terms_at, each_location, locations_at, split_at, text_at, key_at, is_writable, is_compact, compact_value, value_of, value_at}
 use Rattle.mw_records.proofs.Spelling.{IsBytes, IsBytes-drop, bind_some, guard_none, guard_some, some_is, Takes, Takes-then, IsField, fits_as, passing_is, seen_is, pair_is, byte_is, two_bytes_is, four_bytes_is, eight_bytes_is}
-use Rattle.mw_records.proofs.Values.{and_left, and_right, both, same_bytes, tests_writable, own_value, own_text}
+use Rattle.mw_records.proofs.Values.{and_left, and_right, both, same_bytes, tests_writable, kept_valid, own_value, own_text}
 
 -- ---- fields
 
@@ -236,10 +236,10 @@ where_some false o v e = absurd cc
 value_read : (text : List ℕ) (v : Json) → value_of text ≡ Some v → IsRead text v × (true ≡ is_compact text v)
 unfolding value_of
 value_read text v e =
-    let a = where_some (is_utf8 text) (compact_value text (reading text)) v e in
-    let b = compact_some text (reading text) v a.1 in
-    let stands : IsReading text v = record { utf8 = IsUtf8-from_is_utf8 text a.0; is = b.0 } in
-    (record { stands = stands; valid = reading_valid text v stands; shallow = leb-true (depth v) max_depth b.1 }, sym b.2)
+    let a = where_some (is_utf8 text) (compact_value text (kept_reading text)) v e in
+    let b = compact_some text (kept_reading text) v a.1 in
+    let stands : IsKeptReading text v = record { utf8 = IsUtf8-from_is_utf8 text a.0; is = b.0 } in
+    (record { stands = stands; valid = kept_valid text v stands; shallow = leb-true (depth v) max_depth b.1 }, sym b.2)
 
 spelled_so : (text : List ℕ) (v : Json) → true ≡ is_compact text v → spelling v ≡ text
 unfolding is_compact
@@ -251,8 +251,8 @@ compact_itself v h = sym (both (is_writable v) (bytes_eq (spelling v) (spelling 
 
 reads_itself : (v : Json) → IsValue v → IsRead (spelling v) v
 reads_itself v h =
-    let stands : IsReading (spelling v) v = record { utf8 = h.text; is = reads_back v h.writable h.ordered h.shallow } in
-    record { stands = stands; valid = reading_valid (spelling v) v stands; shallow = h.shallow }
+    let stands : IsKeptReading (spelling v) v = record { utf8 = h.text; is = keeps_back v h.writable h.ordered h.shallow } in
+    record { stands = stands; valid = kept_valid (spelling v) v stands; shallow = h.shallow }
 
 abbrev pub value_spelling : Json → List ℕ
 value_spelling v = text_bytes (spelling v)

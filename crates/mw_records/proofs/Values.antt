@@ -1,15 +1,20 @@
--- A value's text: when it is the compact text of its own reading.
-use Rattle.std.proofs.Common.{◌≡◌, ◌<◌, ◌^◌, ◌&&◌, ◌↔◌, ℕ, pos, negsuc, List, length, Bool, true, false, Some, None, refl, sym, arith}
+-- A value's text: when it is the compact text of its own kept reading.
+use Rattle.std.proofs.Common.{◌≡◌, ◌<◌, ◌≤◌, ◌^◌, ◌&&◌, ◌↔◌, ℕ, pos, negsuc, List, length, Bool, true, false, Some, None, Ok, refl, sym, subst, arith}
 use Rattle.std.specs.Prelude.{IsTrue, IsUtf8, bytes_eq, nat_le, if◌then◌else◌}
 use Rattle.std.specs.Str.{is_utf8}
 use Rattle.std.proofs.lemmas.Bool.{ltb-true, le-leb, leb-true}
 use Rattle.std.proofs.lemmas.Slice.Eq.{bytes_eq-Decides}
 use Rattle.std.proofs.lemmas.Str.{IsUtf8-from_is_utf8, is_utf8-from_IsUtf8}
-use Rattle.mw_model.specs.Json.{Json, null, flag, whole, not_whole, words, many, members, Items, no_items, item, Members, no_members, member, depth, IsWritable, ItemsAreWritable, MembersAreWritable, IsOrdered, ItemsAreOrdered, MembersAreOrdered}
+use Rattle.mw_model.specs.Json.{Json, null, flag, whole, not_whole, numeral, words, many, members, Items, no_items, item, Members, no_members, member, depth, IsWritable, ItemsAreWritable, MembersAreWritable, IsOrdered, ItemsAreOrdered, MembersAreOrdered}
 use Rattle.mw_model.specs.Spelling.{spelling}
 use Rattle.mw_protocol.specs.Spelled.{IsValue}
-use Rattle.mw_json.specs.Reading.{reading, IsReading, max_depth}
+use Rattle.mw_json.specs.KeptReading.{kept_reading, IsKeptReading}
+use Rattle.mw_json.specs.Reading.{max_depth}
 use Rattle.mw_json.specs.Valid.{IsValid, ItemsAreValid, MembersAreValid}
+use Rattle.mw_json.specs.TreeCode.{written, stands_for_it}
+use Rattle.mw_json.specs.View.{view}
+use Rattle.mw_json.proofs.KeptAgain.{is_kept_one, numeral_is}
+use Rattle.mw_json.proofs.KeptGood.{all_valid}
 use Rattle.mw_records.specs.Reading.{IsRead, is_writable, items_are_writable, members_are_writable, is_compact, compact_value, value_of}
 
 -- ---- tests
@@ -50,6 +55,7 @@ mutual
   writable_where (whole (pos n)) e = ltb-true n (2 ^ 64) e
   writable_where (whole (negsuc n)) e = ltb-true n (2 ^ 63) e
   writable_where not_whole e = absurd cc
+  writable_where (numeral s) e = numeral_is s e
   writable_where (words s) e = tt
   writable_where (many js) e = items_writable_where js e
   writable_where (members ms) e = members_writable_where ms e
@@ -71,6 +77,7 @@ mutual
   tests_writable (whole (pos n)) w = le-leb _ _ w
   tests_writable (whole (negsuc n)) w = le-leb _ _ w
   tests_writable not_whole w = absurd w
+  tests_writable (numeral s) w = is_kept_one s w
   tests_writable (words s) w = refl
   tests_writable (many js) w = items_test_writable js w
   tests_writable (members ms) w = members_test_writable ms w
@@ -104,6 +111,7 @@ mutual
   ordered (flag b) h = tt
   ordered (whole z) h = tt
   ordered not_whole h = tt
+  ordered (numeral s) h = tt
   ordered (words s) h = tt
   ordered (many js) h = items_ordered js h
   ordered (members ms) h = members_ordered ms h
@@ -116,17 +124,23 @@ mutual
   members_ordered no_members h = tt
   members_ordered (member k j ms) h = (ordered j h.0, h.1, members_ordered ms h.2)
 
+-- what a text is read as is valid, as the tree that is read of it is
+pub kept_valid : (text : List ℕ) (j : Json) → IsKeptReading text j → IsValid j
+kept_valid text j h =
+    let tree : view (written j) ≡ j = stands_for_it j in
+    subst IsValid tree (all_valid text (depth j) (Ok (written j)) (subst (λ i. IsKeptReading text i × (depth i ≤ depth j)) (sym tree) (h, omega arith)))
+
 -- ---- a value's text
 
-pub no_text : (text : List ℕ) → (IsUtf8 text → reading text ≡ None) → value_of text ≡ None
+pub no_text : (text : List ℕ) → (IsUtf8 text → kept_reading text ≡ None) → value_of text ≡ None
 unfolding value_of
 no_text text h =
-    let P : Bool → Type 0 = λ b. is_utf8 text ≡ b → (if b then compact_value text (reading text) else None) ≡ None in
+    let P : Bool → Type 0 = λ b. is_utf8 text ≡ b → (if b then compact_value text (kept_reading text) else None) ≡ None in
     let at : P (is_utf8 text) =
     elim (is_utf8 text) as P [ true ↦ λ e. rw (h (IsUtf8-from_is_utf8 text e)) refl | false ↦ λ e. refl ] in
     at refl
 
-pub too_deep : (text : List ℕ) (j : Json) → IsReading text j → max_depth < depth j → value_of text ≡ None
+pub too_deep : (text : List ℕ) (j : Json) → IsKeptReading text j → max_depth < depth j → value_of text ≡ None
 unfolding value_of
 too_deep text j r deep =
     let shallow : nat_le (depth j) max_depth ≡ false = no_truth _ (λ e. omega (arith, leb-true (depth j) max_depth e)) in

@@ -2,12 +2,14 @@
 use Rattle.std.specs.Prelude.{◌≡◌, ◌≤◌, ◌^◌, ℕ, ℤ, pos, negsuc, zero, suc, ◌==◌, ◌&&◌, ◌∷◌, [], List, Bool, true, false, Option, Some, None, Result, Ok, Err, length, take, drop, nat_lt, nat_le, bytes_eq, if◌then◌else◌}
 use Rattle.std.specs.Int.{Width, w16, w32, w64, byte_len, from_be_bytes}
 use Rattle.std.specs.Str.{is_utf8}
-use Rattle.mw_model.specs.Json.{Json, null, flag, whole, not_whole, words, many, members, Items, no_items, item, Members, no_members, member, depth}
+use Rattle.mw_model.specs.Json.{Json, null, flag, whole, not_whole, numeral, words, many, members, Items, no_items, item, Members, no_members, member, depth}
 use Rattle.mw_model.specs.Spelling.{spelling}
 use Rattle.mw_model.specs.Statuses.{is_client_status, is_hint_status}
 use Rattle.mw_protocol.specs.Records.{Record, checks, release, collect, status, hint, hint_status, store}
-use Rattle.mw_json.specs.Reading.{reading, IsReading, max_depth}
+use Rattle.mw_json.specs.KeptReading.{kept_reading, IsKeptReading}
+use Rattle.mw_json.specs.Reading.{max_depth}
 use Rattle.mw_json.specs.Valid.{IsValid}
+use Rattle.mw_numerals.specs.Numerals.{is_kept}
 use Rattle.mw_records.specs.declared.stop.Stop.{Stop}
 use Rattle.mw_records.specs.declared.stop.Stop.TheVariants.{Bad, Memory}
 
@@ -145,6 +147,7 @@ abbrev mutual
   is_writable (flag b) = true
   is_writable (whole z) = is_in_range z
   is_writable not_whole = false
+  is_writable (numeral s) = is_kept s
   is_writable (words s) = true
   is_writable (many js) = items_are_writable js
   is_writable (members ms) = members_are_writable ms
@@ -161,20 +164,20 @@ abbrev mutual
 unfoldable pub is_compact : List ℕ → Json → Bool
 is_compact text j = is_writable j && bytes_eq (spelling j) text
 
--- the value of a text that is the compact text of its own reading
+-- the value of a text that is the compact text of its own kept reading
 abbrev pub compact_value : List ℕ → Option Json → Option Json
 compact_value text None = None
 compact_value text (Some j) =
     if nat_le (depth j) max_depth && is_compact text j then Some j else None
 
--- it is a text's reading, and no deeper than readings are
+-- it is a text's kept reading, and no deeper than readings are
 pub record IsRead (text : List ℕ) (j : Json) : Type 0 where
-  pub stands : IsReading text j
+  pub stands : IsKeptReading text j
   pub valid : IsValid j
   pub shallow : depth j ≤ max_depth
 
 unfoldable pub value_of : List ℕ → Option Json
-value_of text = if is_utf8 text then compact_value text (reading text) else None
+value_of text = if is_utf8 text then compact_value text (kept_reading text) else None
 
 unfoldable pub value_at : List ℕ → Option (Json × List ℕ)
 value_at bytes = do

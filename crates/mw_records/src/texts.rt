@@ -7,7 +7,7 @@ ghost use Rattle.mw_records.specs.declared.stop.Stop.TheVariants as stops;
 use crate::fields::u32_of;
 use crate::stop::Stop;
 use mw_base::{Memory, Text};
-use mw_json::{JsonError, Tree, can_write, compact, read_text};
+use mw_json::{JsonError, Tree, can_write, compact, read_kept};
 use std::alloc::Global;
 
 /// A text's bytes.
@@ -43,7 +43,7 @@ fn tree_of(alloc: Global, text: &[u8]) -> Result<Tree, Stop>
     ensures ok { IfOk result (λ t. IsRead text.now (view t)) }
     ensures bad { result ≡ Err stops.Bad → value_of_lem text.now ≡ None }
 {
-    match read_text(alloc, text) {
+    match read_kept(alloc, text) {
         Ok(tree) => Ok(tree),
         Err(JsonError::Memory) => Err(Stop::Memory),
         Err(JsonError::NoJson) => Err(Stop::Bad),
@@ -51,7 +51,7 @@ fn tree_of(alloc: Global, text: &[u8]) -> Result<Tree, Stop>
     }
 }
 
-/// Whether a text is the compact text of its reading.
+/// Whether a text is the compact text of its kept reading.
 fn is_own(alloc: Global, text: &[u8], tree: &Tree) -> Result<bool, Memory>
     ensures { IfOk result (λ own. own ≡ is_compact text.now (view tree.now)) }
 {
@@ -62,7 +62,7 @@ fn is_own(alloc: Global, text: &[u8], tree: &Tree) -> Result<bool, Memory>
     Ok(again.as_slice() == text)
 }
 
-/// The value of a text that is the compact text of its own reading.
+/// The value of a text that is the compact text of its own kept reading.
 fn value_of(alloc: Global, text: &[u8]) -> Result<Tree, Stop>
     requires { length text.now < 2 ^ 32 }
     ensures value { Gives view result (value_of_lem text.now) }
