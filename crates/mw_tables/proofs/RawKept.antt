@@ -3,7 +3,7 @@ use Rattle.std.proofs.Common.{◌≡◌, ◌≤◌, ℕ, ◌+◌, ◌&&◌, List
 use Rattle.std.specs.Prelude.{IfOk, bytes_eq, codes, nat_le}
 use Rattle.std.proofs.lemmas.Grind.{common_steps}
 use Rattle.std.proofs.lemmas.Result.{IfOk-weaker}
-use Rattle.mw_model.specs.Json.{Json, null, flag, whole, not_whole, words, many, members, Items, no_items, item, Members, no_members, member}
+use Rattle.mw_model.specs.Json.{Json, null, flag, whole, not_whole, numeral, words, many, members, Items, no_items, item, Members, no_members, member}
 use Rattle.mw_json.specs.Grammar.{Breach, under, refused, number_at, name_at, object_at, field_at}
 use Rattle.mw_json.specs.Parts.{there}
 use Rattle.mw_json.specs.Readers.{field_or_at}
@@ -123,6 +123,7 @@ mutual
       after FoundKept InLimits (rules_under (codes "and") ms) _ (under_kept (codes "and") ms) (λ all k. all_or_kept all _ k (
       after FoundKept InLimits (rules_under (codes "or") ms) _ (under_kept (codes "or") ms) (λ some l. some_or_kept some (refused WrongKind) l tt)))))
   form_kept not_whole = tt
+  form_kept (numeral s) = tt
   form_kept null = tt
   form_kept (whole z) = tt
   form_kept (words s) = tt
@@ -136,6 +137,7 @@ mutual
   rules_kept : (j : Json) → IfOk (rules_at j) ListKept
   rules_kept (many js) = from_kept 0 js
   rules_kept not_whole = tt
+  rules_kept (numeral s) = tt
   rules_kept null = tt
   rules_kept (flag b) = tt
   rules_kept (whole z) = tt

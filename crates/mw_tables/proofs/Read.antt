@@ -5,7 +5,7 @@ use Rattle.std.proofs.lemmas.Grind.{common_steps}
 use Rattle.std.proofs.lemmas.Int.{ints}
 use Rattle.std.proofs.lemmas.List.Elements.{All-nil, All-cons}
 use Rattle.std.proofs.lemmas.Result.{IfOk-weaker}
-use Rattle.mw_model.specs.Json.{Json, null, flag, whole, not_whole, words, many, members, Items, no_items, item, Members, no_members, member, find_member}
+use Rattle.mw_model.specs.Json.{Json, null, flag, whole, not_whole, numeral, words, many, members, Items, no_items, item, Members, no_members, member, find_member}
 use Rattle.mw_json.specs.Grammar.{Breach, under, refused, has_control, short_text, name_of, name_at, number_at, text_at, list_at, items_length, list_up_to}
 use Rattle.mw_json.specs.declared.refusal.Kind.TheVariants.{WrongKind, NameTooLong, TooMany}
 use Rattle.mw_json.specs.declared.refusal.Step.TheVariants.{Name, Index}
@@ -67,6 +67,7 @@ id_or_null_kept null = tt
 id_or_null_kept (flag b) = after IsId IsIdOrNone (id_at (flag b)) _ (id_kept (flag b)) (λ id h. h)
 id_or_null_kept (whole z) = after IsId IsIdOrNone (id_at (whole z)) _ (id_kept (whole z)) (λ id h. h)
 id_or_null_kept not_whole = after IsId IsIdOrNone (id_at not_whole) _ (id_kept not_whole) (λ id h. h)
+id_or_null_kept (numeral s) = after IsId IsIdOrNone (id_at (numeral s)) _ (id_kept (numeral s)) (λ id h. h)
 id_or_null_kept (words s) = after IsId IsIdOrNone (id_at (words s)) _ (id_kept (words s)) (λ id h. h)
 id_or_null_kept (many js) = after IsId IsIdOrNone (id_at (many js)) _ (id_kept (many js)) (λ id h. h)
 id_or_null_kept (members ms) = after IsId IsIdOrNone (id_at (members ms)) _ (id_kept (members ms)) (λ id h. h)

@@ -2,7 +2,7 @@
 use Rattle.std.proofs.Common.{◌≡◌, ◌≤◌, ℕ, ℤ, ◌||◌, List, length, true, Option, Some, None, All, arith}
 use Rattle.std.specs.Prelude.{IfOk, codes, nat_le, is_some, sum_by}
 use Rattle.std.proofs.lemmas.Grind.{common_steps}
-use Rattle.mw_model.specs.Json.{Json, null, flag, whole, not_whole, words, many, members, Members}
+use Rattle.mw_model.specs.Json.{Json, null, flag, whole, not_whole, numeral, words, many, members, Members}
 use Rattle.mw_json.specs.Grammar.{other_kind, number_at, name_at, list_at, object_at, field_at, items_length}
 use Rattle.mw_json.specs.declared.refusal.Kind.TheVariants.{WrongKind, TooMany}
 use Rattle.mw_json.specs.Parts.{id_at, null_or_at}
@@ -77,6 +77,7 @@ none_there id null = tt
 none_there id (flag b) = tt
 none_there id (whole z) = tt
 none_there id not_whole = tt
+none_there id (numeral s) = tt
 none_there id (words s) = tt
 none_there id (many js) = tt
 none_there id (members ms) = tt

@@ -1,6 +1,6 @@
 -- The shape of a rule: its forms and limits, its names as they are written.
 use Rattle.std.specs.Prelude.{ℕ, ◌+◌, ◌&&◌, nat_le, is_some, List, [], ◌∷◌, Bool, true, false, Option, Some, None, Result, Ok, bytes_eq, codes, if◌then◌else◌}
-use Rattle.mw_model.specs.Json.{Json, null, flag, whole, not_whole, words, many, members, Items, no_items, item, Members, no_members, member, find_member}
+use Rattle.mw_model.specs.Json.{Json, null, flag, whole, not_whole, numeral, words, many, members, Items, no_items, item, Members, no_members, member, find_member}
 use Rattle.mw_json.specs.Grammar.{Breach, ◌>>=◌, refused, under, number_at, name_at, object_at, field_at}
 use Rattle.mw_json.specs.Parts.{there}
 use Rattle.mw_json.specs.Readers.{list_of_at, field_or_at}
@@ -98,6 +98,7 @@ abbrev mutual
       rules_under (codes "and") ms >>= (λ all. all_or all (
       rules_under (codes "or") ms >>= (λ some. some_or some (refused WrongKind))))))
   form_at not_whole = refused NotWhole
+  form_at (numeral s) = refused WrongKind
   form_at null = refused WrongKind
   form_at (whole z) = refused WrongKind
   form_at (words s) = refused WrongKind
@@ -112,6 +113,7 @@ abbrev mutual
   pub rules_at : Json → Result (List RawRule) Breach
   rules_at (many js) = rules_from 0 js
   rules_at not_whole = refused NotWhole
+  rules_at (numeral s) = refused WrongKind
   rules_at null = refused WrongKind
   rules_at (flag b) = refused WrongKind
   rules_at (whole z) = refused WrongKind
