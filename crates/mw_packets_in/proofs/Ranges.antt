@@ -2,25 +2,24 @@
 use Rattle.std.proofs.Common.{◌≡◌, ℕ, ℤ, List, Option, Some, None, Result, Ok, codes}
 use Rattle.std.specs.Prelude.{All, Bool, IfOk, IfSome, if◌then◌else◌, true, false}
 use Rattle.std.proofs.lemmas.Result.{IfOk-at_ok, IfOk-weaker}
-use Rattle.mw_model.specs.Json.{Json, null, flag, whole, not_whole, words, many, members, Items, items_depth, Members, IsInRange}
+use Rattle.mw_model.specs.Json.{Json, null, flag, whole, not_whole, numeral, words, many, members, Items, items_depth, Members, IsInRange}
 use Rattle.mw_protocol.specs.Packets.{Version}
 use Rattle.mw_json.specs.Grammar.{Breach, refused, items_length, list_at, object_at, field_at}
 use Rattle.mw_json.specs.Parts.{there, null_or_at}
 use Rattle.mw_json.specs.Readers.{each_from, field_or_at}
 use Rattle.mw_json.specs.Valid.{IsValid, ItemsAreValid, MembersAreValid}
-use Rattle.mw_json.specs.declared.refusal.Kind.TheVariants.{NotWhole}
-use Rattle.mw_json.proofs.Kept.{AreKept, each_valid_kept, in_valid_field, in_valid_field_or, list_valid, object_valid, unless}
+use Rattle.mw_json.proofs.Kept.{AreKept, each_valid_kept, in_valid_field, in_valid_field_or, list_valid, object_valid}
 use Rattle.mw_json.proofs.Passing.{after}
-use Rattle.mw_packets_in.specs.Fields.{whole_at, wholes_at, all_whole}
+use Rattle.mw_packets_in.specs.Fields.{whole_at, wholes_at}
 use Rattle.mw_packets_in.specs.Kept.{AreRead, IsVersion}
 use Rattle.mw_packets_in.specs.Rows.{version_at}
-use Rattle.mw_packets_in.specs.Whole.{has_not_whole}
 
 whole_is : (j : Json) → IsValid j → IfOk (whole_at j) IsInRange
 whole_is (whole z) h = h
 whole_is null h = tt
 whole_is (flag b) h = tt
 whole_is not_whole h = tt
+whole_is (numeral s) h = tt
 whole_is (words s) h = tt
 whole_is (many js) h = tt
 whole_is (members ms) h = tt
@@ -42,12 +41,11 @@ wholes_kept zs ms h e = IfOk-at_ok (All IsInRange) e (in_valid_field (All IsInRa
 version_is : (j : Json) → IsValid j → IfOk (version_at j) IsVersion
 unfolding version_at
 version_is j o =
-    after MembersAreValid IsVersion (object_at j) _ (object_valid j o) (λ inner v.
-    after MembersAreValid IsVersion (all_whole j inner) _ (unless MembersAreValid (has_not_whole j) NotWhole (Ok inner) (λ e. v)) (λ ms w.
+    after MembersAreValid IsVersion (object_at j) _ (object_valid j o) (λ ms w.
     after IsInRange IsVersion (field_at (codes "major") whole_at ms) _ (in_valid_field IsInRange (codes "major") whole_at ms w whole_is) (λ major a.
     after IsInRange IsVersion (field_at (codes "minor") whole_at ms) _ (in_valid_field IsInRange (codes "minor") whole_at ms w whole_is) (λ minor b.
     after IsInRange IsVersion (field_at (codes "build") whole_at ms) _ (in_valid_field IsInRange (codes "build") whole_at ms w whole_is) (λ build c.
-    record { major = a; minor = b; build = c })))))
+    record { major = a; minor = b; build = c }))))
 
 pub version_kept : (version : Version) (ms : Members) → AreRead 62 ms → field_at (codes "version") version_at ms ≡ Ok version → IsVersion version
 version_kept version ms h e = IfOk-at_ok IsVersion e (in_valid_field IsVersion (codes "version") version_at ms h.valid version_is)
@@ -60,6 +58,7 @@ null_or_whole (whole z) h = h
 null_or_whole null h = tt
 null_or_whole (flag b) h = tt
 null_or_whole not_whole h = tt
+null_or_whole (numeral s) h = tt
 null_or_whole (words s) h = tt
 null_or_whole (many js) h = tt
 null_or_whole (members ms) h = tt

@@ -1,12 +1,13 @@
 -- Messages of clients, and what stands in their place.
-use Rattle.std.specs.Prelude.{◌≡◌, ℕ, pos, List, [], ◌∷◌, Some, codes, refl}
-use Rattle.mw_model.specs.Json.{Json, whole, not_whole, words, many, members, Items, no_items, item, Members, no_members, member}
-use Rattle.mw_protocol.specs.Packets.{Inbound, sync, good, bad_cmd, bad_arguments}
+use Rattle.std.specs.Prelude.{◌≡◌, ℕ, pos, List, [], ◌∷◌, Some, None, codes, refl}
+use Rattle.mw_model.specs.Json.{Json, whole, numeral, words, many, members, Items, no_items, item, Members, no_members, member}
+use Rattle.mw_protocol.specs.Packets.{Inbound, sync, bounce, good, bad_cmd, bad_arguments}
 use Rattle.mw_json.specs.Grammar.{field_at}
 use Rattle.mw_json.specs.Parts.{field_if_at}
 use Rattle.mw_json.specs.Readers.{field_or_at}
+use Rattle.mw_packets_in.specs.Fields.{client_status_at}
 use Rattle.mw_packets_in.specs.PacketsOf.{bad, message_of, no_cmd, no_list}
-use Rattle.mw_packets_in.specs.Rows.{bounce_at, set_at, operations_at, operation_at}
+use Rattle.mw_packets_in.specs.Rows.{bounce_at, status_update_at, set_at, operations_at, operation_at}
 
 -- an object of a command, with further members
 abbrev object : List ℕ → Members → Json
@@ -30,12 +31,26 @@ pub after_no_command : message
     ≡ no_cmd ∷ good sync ∷ []
 after_no_command = refl
 
--- a fraction in a further member
+-- a fraction in a further member passes as it stands
 pub bounced_fraction : message
-    (item (object (codes "Bounce") (member (codes "data") not_whole no_members)) no_items)
-    ≡ bad bad_arguments (Some (codes "Bounce")) (codes "arguments: data") ∷ []
+    (item (object (codes "Bounce") (member (codes "data") (numeral (codes "0.50")) no_members))
+    no_items)
+    ≡ good (bounce record {
+      games = None;
+      tags = None;
+      slots = None;
+      further = member (codes "data") (numeral (codes "0.50")) no_members;
+    }) ∷ []
 unfolding bounce_at field_if_at
 bounced_fraction = refl
+
+-- and is no whole number
+pub status_with_a_fraction : message
+    (item (object (codes "StatusUpdate") (member (codes "status") (numeral (codes "5.0")) no_members))
+    no_items)
+    ≡ bad bad_arguments (Some (codes "StatusUpdate")) (codes "arguments: status") ∷ []
+unfolding status_update_at client_status_at field_at
+status_with_a_fraction = refl
 
 -- an operation without a value
 pub operation_without_value : message

@@ -1,6 +1,6 @@
 -- What the packets of clients keep.
 use Rattle.std.specs.Prelude.{ℕ, ℤ, pos, ◌==◌, ◌≤◌, ◌||◌, List, [], ◌∷◌, All, Bool, Option, IfSome, IsTrue, codes}
-use Rattle.mw_model.specs.Json.{Json, Members, IsInRange, depth, members_depth}
+use Rattle.mw_model.specs.Json.{Json, Members, IsInRange, IsWritable, MembersAreWritable, depth, members_depth}
 use Rattle.mw_model.specs.Passed.{AreFurther}
 use Rattle.mw_protocol.specs.Connecting.{is_mask}
 use Rattle.mw_protocol.specs.Packets.{Bounce, Connect, UpdateHint, Version}
@@ -70,11 +70,13 @@ IsGet get = AreFurther get_names get.further
 
 -- ---- what is read
 
--- it stands in a text, at most so deep
+-- it stands in a text's kept reading, at most so deep
 pub record IsRead (most : ℕ) (j : Json) : Type 0 where
   pub valid : IsValid j
+  pub writable : IsWritable j
   pub shallow : depth j ≤ most
 
 pub record AreRead (most : ℕ) (ms : Members) : Type 0 where
   pub valid : MembersAreValid ms
+  pub writable : MembersAreWritable ms
   pub shallow : members_depth ms ≤ most

@@ -5,4 +5,3 @@ pub mod Own
 pub mod PacketsOf
 pub mod Rows
 pub mod View
-pub mod Whole

@@ -1,5 +1,5 @@
 -- What a packet with further members has of its own.
-use Rattle.std.specs.Prelude.{ℕ, List, codes}
+use Rattle.std.specs.Prelude.{ℕ, List}
 use Rattle.mw_json.specs.Sets.{set_names}
 use Rattle.mw_packets_in.specs.Kept.{bounce_names, get_names}
 use Rattle.mw_packets_in.specs.declared.row.Row.{Row}
@@ -9,9 +9,3 @@ abbrev pub own_names : Row → List (List ℕ)
 own_names row.Bounce = bounce_names
 own_names row.Get = get_names
 own_names row.Set = set_names
-
--- the name under which a breach in the further ones is told
-abbrev pub label_of : Row → List ℕ
-label_of row.Bounce = codes "data"
-label_of row.Get = codes "keys"
-label_of row.Set = codes "operations"

@@ -1,9 +1,10 @@
 -- The packets of a client's message, and what stands in the place of one that is none.
 use Rattle.std.specs.Prelude.{ℕ, List, [], ◌∷◌, ◌++◌, Option, Some, None, Result, Ok, Err, bytes_eq, codes, nat_le, if◌then◌else◌}
-use Rattle.mw_model.specs.Json.{Json, null, flag, whole, not_whole, words, many, members, Items, no_items, item, Members, depth, find_member}
+use Rattle.mw_model.specs.Json.{Json, null, flag, whole, not_whole, numeral, words, many, members, Items, no_items, item, Members, depth, find_member}
 use Rattle.mw_protocol.specs.Packets.{Packet, sync, BadKind, bad_cmd, bad_arguments, Inbound, good, wrong}
 use Rattle.mw_json.specs.Grammar.{Breach, items_length}
-use Rattle.mw_json.specs.Reading.{reading, max_depth}
+use Rattle.mw_json.specs.KeptReading.{kept_reading}
+use Rattle.mw_json.specs.Reading.{max_depth}
 use Rattle.mw_json.specs.declared.refusal.Step.{Step}
 use Rattle.mw_json.specs.declared.refusal.Step.TheVariants.{Name, Index}
 use Rattle.mw_packets_in.specs.Rows.{connect_at, connect_update_at, say_at, get_data_package_at, checks_at, scouts_at, update_hint_at, status_update_at, bounce_at, get_at, set_at, set_notify_at}
@@ -65,6 +66,7 @@ inbound_by (Some null) ms = no_cmd
 inbound_by (Some (flag b)) ms = no_cmd
 inbound_by (Some (whole z)) ms = no_cmd
 inbound_by (Some not_whole) ms = no_cmd
+inbound_by (Some (numeral s)) ms = no_cmd
 inbound_by (Some (many js)) ms = no_cmd
 inbound_by (Some (members inner)) ms = no_cmd
 inbound_by None ms = no_cmd
@@ -76,6 +78,7 @@ inbound_of null = no_cmd
 inbound_of (flag b) = no_cmd
 inbound_of (whole z) = no_cmd
 inbound_of not_whole = no_cmd
+inbound_of (numeral s) = no_cmd
 inbound_of (words s) = no_cmd
 inbound_of (many js) = no_cmd
 
@@ -104,13 +107,14 @@ message_of null = no_list
 message_of (flag b) = no_list
 message_of (whole z) = no_list
 message_of not_whole = no_list
+message_of (numeral s) = no_list
 message_of (words s) = no_list
 message_of (members ms) = no_list
 
--- of a text's reading, where there is one and it isn't too deep
+-- of a text's kept reading, where there is one and it isn't too deep
 abbrev pub read_message : Option Json → List Inbound
 read_message None = no_list
 read_message (Some j) = if nat_le (depth j) max_depth then message_of j else no_list
 
 abbrev pub packets_of : List ℕ → List Inbound
-packets_of text = read_message (reading text)
+packets_of text = read_message (kept_reading text)

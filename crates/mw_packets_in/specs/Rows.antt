@@ -2,20 +2,20 @@
 use Rattle.std.specs.Prelude.{pos, List, None, Result, Ok, false, codes}
 use Rattle.mw_model.specs.Json.{Json, whole, Members}
 use Rattle.mw_model.specs.Sets.{Operation}
+use Rattle.mw_protocol.specs.Further.{others}
 use Rattle.mw_protocol.specs.Packets.{Packet, Version, connect, connect_update, location_checks, location_scouts, update_hint, status_update, say, get_data_package, bounce, get, change, set_notify}
 use Rattle.mw_json.specs.Grammar.{Breach, ◌>>=◌, number_at, text_at, list_at, object_at, field_at}
 use Rattle.mw_json.specs.Parts.{null_or_at, field_if_at}
 use Rattle.mw_json.specs.Readers.{each_from, field_or_at}
 use Rattle.mw_json.specs.Sets.{set_names}
-use Rattle.mw_packets_in.specs.Fields.{whole_at, flag_at, value_at, any_at, mask_at, hint_status_at, client_status_at, texts_at, wholes_at, all_whole, further_at}
+use Rattle.mw_packets_in.specs.Fields.{whole_at, flag_at, any_at, mask_at, hint_status_at, client_status_at, texts_at, wholes_at}
 use Rattle.mw_packets_in.specs.Kept.{bounce_names, get_names}
 
 -- ---- a session
 
 unfoldable pub version_at : Json → Result Version Breach
 version_at j = do
-  inner ← object_at j
-  ms ← all_whole j inner
+  ms ← object_at j
   major ← field_at (codes "major") whole_at ms
   minor ← field_at (codes "minor") whole_at ms
   build ← field_at (codes "build") whole_at ms
@@ -82,25 +82,26 @@ status_update_at ms = do
 
 -- ---- messages between clients, and the data storage
 
--- a breach in further members is told as one of the data
 unfoldable pub bounce_at : Members → Result Packet Breach
 bounce_at ms = do
   games ← field_if_at (codes "games") texts_at ms
   tags ← field_if_at (codes "tags") texts_at ms
   slots ← field_if_at (codes "slots") wholes_at ms
-  further ← further_at (codes "data") bounce_names ms
-  Ok (bounce record { games = games; tags = tags; slots = slots; further = further })
+  Ok (bounce record {
+    games = games;
+    tags = tags;
+    slots = slots;
+    further = others bounce_names ms;
+  })
 
 unfoldable pub get_at : Members → Result Packet Breach
 get_at ms = do
   keys ← field_at (codes "keys") texts_at ms
-  further ← further_at (codes "keys") get_names ms
-  Ok (get keys further)
+  Ok (get keys (others get_names ms))
 
 unfoldable pub operation_at : Json → Result Operation Breach
 operation_at j = do
-  inner ← object_at j
-  ms ← all_whole j inner
+  ms ← object_at j
   name ← field_at (codes "operation") text_at ms
   value ← field_at (codes "value") any_at ms
   Ok record { name = name; value = value }
@@ -114,16 +115,15 @@ operations_at j = do
 unfoldable pub set_at : Members → Result Packet Breach
 set_at ms = do
   key ← field_at (codes "key") text_at ms
-  fallback ← field_or_at (codes "default") (whole (pos 0)) value_at ms
+  fallback ← field_or_at (codes "default") (whole (pos 0)) any_at ms
   want_reply ← field_or_at (codes "want_reply") false flag_at ms
   operations ← field_at (codes "operations") operations_at ms
-  further ← further_at (codes "operations") set_names ms
   Ok (change record {
     key = key;
     fallback = fallback;
     want_reply = want_reply;
     operations = operations;
-    further = further;
+    further = others set_names ms;
   })
 
 unfoldable pub set_notify_at : Members → Result Packet Breach

@@ -8,11 +8,8 @@ ghost use Rattle.mw_packets_in.specs.View.{packet_view};
 
 use crate::packet::Packet;
 use crate::parts::{mask_in, text_in, texts_in, whole_in};
-use crate::whole::holds_not_whole;
 use mw_base::{List, Text};
-use mw_json::{
-    Kind, Member, Refusal, Tree, field_if, field_in, field_or, null_or, object_of, refuse,
-};
+use mw_json::{Member, Refusal, Tree, field_if, field_in, field_or, null_or, object_of};
 use std::alloc::Global;
 use std::marker::Model;
 
@@ -100,15 +97,12 @@ impl Model for ConnectUpdate {
     ghost invariant = { λ u. HasMask u.items_handling };
 }
 
-/// A version: an object with three whole numbers, in which all numbers are whole.
+/// A version: an object with three whole numbers.
 #[tactic(auto, unfolding(crate::specs::Rows::version_at))]
 fn version_of(alloc: Global, tree: &Tree) -> Result<Version, Refusal>
     ensures { Gives result (version_at (view tree.now)) }
 {
     let members = object_of(alloc, tree)?;
-    if holds_not_whole(tree) {
-        return refuse(alloc, Kind::NotWhole);
-    }
     let major = field_in(alloc, members, "major", whole_in)?;
     let minor = field_in(alloc, members, "minor", whole_in)?;
     let build = field_in(alloc, members, "build", whole_in)?;

@@ -1,19 +1,14 @@
 ghost use Rattle.std.specs.Prelude.{◌≡◌, IfOk};
 ghost use Rattle.mw_model.specs.Texts.{has_text};
 ghost use Rattle.mw_protocol.specs.Further.{others};
-ghost use Rattle.mw_json.specs.Grammar.{GivesBy, refused, under};
 ghost use Rattle.mw_json.specs.View.{member_view, members_view};
-ghost use Rattle.mw_json.specs.declared.refusal.Kind.TheVariants.{NotWhole};
-ghost use Rattle.mw_json.specs.declared.refusal.Step.TheVariants.{Name};
-ghost use Rattle.mw_packets_in.specs.Fields.{further_at};
 ghost use Rattle.mw_json.specs.Sets.{set_names};
 ghost use Rattle.mw_packets_in.specs.Kept.{bounce_names, get_names};
-ghost use Rattle.mw_packets_in.specs.Own.{label_of, own_names};
+ghost use Rattle.mw_packets_in.specs.Own.{own_names};
 
 use crate::row::Row;
-use crate::whole::some_member;
-use mw_base::{List, Memory, Text};
-use mw_json::{Kind, Member, Refusal, Step, copy_member};
+use mw_base::{List, Memory};
+use mw_json::{Member, copy_member};
 use std::alloc::Global;
 
 fn is_bounce_name(name: &str) -> bool
@@ -49,17 +44,6 @@ fn is_own(row: Row, name: &str) -> bool
     }
 }
 
-/// The name under which a row's further members are refused.
-fn label(row: Row) -> &'static str
-    ensures { result.now ≡ label_of row }
-{
-    match row {
-        Row::Bounce => "data",
-        Row::Get => "keys",
-        Row::Set => "operations",
-    }
-}
-
 /// Whether a row has this member.
 fn is_own_member(row: Row, member: &Member) -> bool
     ensures { result ≡ has_text (own_names row) (member_view member.now).0 }
@@ -67,8 +51,12 @@ fn is_own_member(row: Row, member: &Member) -> bool
     is_own(row, member.name.as_str())
 }
 
-/// Copies of the members that a row doesn't have.
-fn others_of(alloc: Global, row: Row, members: &[Member]) -> Result<List<Member>, Memory>
+/// Copies of a packet's further members: those that its row doesn't have.
+pub(crate) fn further_of(
+    alloc: Global,
+    row: Row,
+    members: &[Member],
+) -> Result<List<Member>, Memory>
     ensures { IfOk result (λ ms. members_view ms
         ≡ others (own_names row) (members_view members.now)) }
 {
@@ -78,34 +66,6 @@ fn others_of(alloc: Global, row: Row, members: &[Member]) -> Result<List<Member>
             continue;
         }
         found.push(copy_member(alloc, member)?)?;
-    }
-    Ok(found)
-}
-
-/// The refusal of a number that isn't whole under a name.
-fn refuse_under(alloc: Global, name: &str) -> Result<List<Member>, Refusal>
-    ensures { GivesBy members_view result (under (Name name.now) (refused NotWhole)) }
-{
-    let mut path = List::new(alloc);
-    path.push(Step::Name(Text::of(alloc, name)?))?;
-    Err(Refusal::Named {
-        kind: Kind::NotWhole,
-        path,
-    })
-}
-
-/// Copies of a packet's further members, in which all numbers are whole.
-pub(crate) fn further_of(
-    alloc: Global,
-    row: Row,
-    members: &[Member],
-) -> Result<List<Member>, Refusal>
-    ensures { GivesBy members_view result
-        (further_at (label_of row) (own_names row) (members_view members.now)) }
-{
-    let found = others_of(alloc, row, members)?;
-    if some_member(found.as_slice()) {
-        return refuse_under(alloc, label(row));
     }
     Ok(found)
 }

@@ -16,7 +16,6 @@ mod status;
 mod storage;
 mod tags;
 mod told;
-mod whole;
 
 pub use bad::{Bad, BadKind};
 pub use connect::{Connect, ConnectUpdate, Version};

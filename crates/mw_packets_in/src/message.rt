@@ -15,7 +15,7 @@ use crate::status::status_update_of;
 use crate::storage::{bounce_of, get_of, set_notify_of, set_of};
 use crate::told::{bad, told, unnamed};
 use mw_base::{List, Memory, Text};
-use mw_json::{JsonError, Member, Tree, find, read_text};
+use mw_json::{JsonError, Member, Tree, find, read_kept};
 use std::alloc::Global;
 
 /// Messages between clients, and the data storage.
@@ -139,7 +139,7 @@ pub fn packets_of(alloc: Global, text: &Text) -> Result<List<Inbound>, Memory>
     ensures { IfOk result (λ l. map inbound_view l ≡ packets_of_lem text.now) }
 {
     let text = text.as_str();
-    match read_text(alloc, text.as_bytes()) {
+    match read_kept(alloc, text.as_bytes()) {
         Ok(tree) => message_of(alloc, &tree),
         Err(JsonError::Memory) => Err(Memory),
         Err(JsonError::NoJson) => all_bad(alloc, "no JSON list"),

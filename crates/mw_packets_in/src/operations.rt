@@ -6,24 +6,20 @@ ghost use Rattle.mw_packets_in.specs.Kept.{AreRead, IsRead};
 ghost use Rattle.mw_packets_in.specs.Rows.{operation_at, operations_at};
 
 use crate::parts::{any_in, text_in};
-use crate::whole::holds_not_whole;
 use mw_base::List;
 use mw_json::{
-    Kind, Member, Operation, Refusal, Tree, at_index, at_name, field_in, field_seen, list_of,
-    member_of, object_of, refuse,
+    Member, Operation, Refusal, Tree, at_index, at_name, field_in, field_seen, list_of, member_of,
+    object_of,
 };
 use std::alloc::Global;
 
-/// An operation: an object with a name and an operand, in which all numbers are whole.
+/// An operation: an object with a name and an operand.
 #[tactic(auto, unfolding(crate::specs::Rows::operation_at))]
 fn operation_of(alloc: Global, tree: &Tree) -> Result<Operation, Refusal>
     requires { IsRead 62 (view tree.now) }
     ensures { Gives result (operation_at (view tree.now)) }
 {
     let members = object_of(alloc, tree)?;
-    if holds_not_whole(tree) {
-        return refuse(alloc, Kind::NotWhole);
-    }
     let name = field_in(alloc, members, "operation", text_in)?;
     let value = field_seen(alloc, members, "value", any_in)?;
     Ok(Operation { name, value })

@@ -2,9 +2,8 @@ ghost use Rattle.std.specs.Prelude.{◌≡◌, pos};
 ghost use Rattle.mw_json.specs.View.{view};
 ghost use Rattle.mw_json.specs.Grammar.{Gives, GivesBy, text_at};
 ghost use Rattle.mw_protocol.specs.Connecting.{is_mask as is_mask_lem};
-ghost use Rattle.mw_packets_in.specs.Fields.{any_at, flag_at, mask_at, texts_at, value_at, whole_at, wholes_at};
+ghost use Rattle.mw_packets_in.specs.Fields.{any_at, flag_at, mask_at, texts_at, whole_at, wholes_at};
 
-use crate::whole::holds_not_whole;
 use mw_base::{List, Text};
 use mw_json::{Kind, Refusal, Tree, copy, each, list_of, number_between, refuse, text_of};
 use std::alloc::Global;
@@ -35,16 +34,6 @@ pub(crate) fn text_in(alloc: Global, tree: &Tree) -> Result<Text, Refusal>
 {
     let text = text_of(alloc, tree)?;
     Ok(Text::of(alloc, text)?)
-}
-
-/// A copy of a value in which all numbers are whole.
-pub(crate) fn value_in(alloc: Global, tree: &Tree) -> Result<Tree, Refusal>
-    ensures { GivesBy view result (value_at (view tree.now)) }
-{
-    if holds_not_whole(tree) {
-        return refuse(alloc, Kind::NotWhole);
-    }
-    Ok(copy(alloc, tree)?)
 }
 
 /// A copy of any value.

@@ -8,7 +8,7 @@ ghost use Rattle.mw_packets_in.specs.View.{packet_view};
 use crate::further::further_of;
 use crate::operations::operations_field;
 use crate::packet::Packet;
-use crate::parts::{flag_in, text_in, texts_in, value_in, wholes_in};
+use crate::parts::{any_in, flag_in, text_in, texts_in, wholes_in};
 use crate::row::Row;
 use mw_base::{List, Text};
 use mw_json::{Member, Refusal, SetPacket, Tree, field_if, field_in, field_or, field_or_seen};
@@ -117,7 +117,7 @@ pub(crate) fn set_of(alloc: Global, members: &[Member]) -> Result<Packet, Refusa
     ensures { GivesBy packet_view result (set_at (members_view members.now)) }
 {
     let key = field_in(alloc, members, "key", text_in)?;
-    let default = field_or_seen(alloc, members, "default", Tree::Whole(0), value_in)?;
+    let default = field_or_seen(alloc, members, "default", Tree::Whole(0), any_in)?;
     let want_reply = field_or(alloc, members, "want_reply", false, flag_in)?;
     let operations = operations_field(alloc, members)?;
     let further = further_of(alloc, Row::Set, members)?;

@@ -3,7 +3,7 @@ use Rattle.mw_json.specs.View.{member_view, members_view}
 use Rattle.mw_protocol.specs.Further.{others}
 use Rattle.mw_packets_in.specs.Own.{own_names}
 use Rattle.mw_packets_in.proofs.Others.{ahead, none_left, one_more}
-use Rattle.mw_packets_in.proofs.further.others_of.Goals as goal
+use Rattle.mw_packets_in.proofs.further.further_of.Goals as goal
 
 pub loop-member-preserved : goal.loop-member-preserved
 loop-member-preserved c =
