@@ -1,23 +1,24 @@
 -- What a Set does.
 use Rattle.std.proofs.Common.{◌≡◌, ℕ, ◌==◌, List, Bool, true, false, cond, ◌∷◌, [], ◌++◌, Option, Some, None, Result, Ok, Err, refl, sym, ap, ◌∙◌, append-nil, codes, length, IsTrue}
+use Rattle.std.specs.Prelude.{IfOk, ◌+◌}
 use Rattle.std.proofs.lemmas.Bool.{cond_both, cond-true, cond-false}
 use Rattle.std.specs.List.{list_all}
 use Rattle.mw_model.specs.Json.{Json, no_members, member}
 use Rattle.mw_model.specs.Seed.{Seed}
-use Rattle.mw_model.specs.Sets.{SetPacket}
+use Rattle.mw_model.specs.Sets.{Operation, SetPacket}
 use Rattle.mw_model.specs.Texts.{has_text}
 use Rattle.mw_protocol.specs.Connecting.{Member}
 use Rattle.mw_protocol.specs.Effects.{effect_of}
 use Rattle.mw_protocol.specs.Equal.{json_eq}
 use Rattle.mw_protocol.specs.Heard.{watchers_hear}
 use Rattle.mw_protocol.specs.Messages.{invalid_packet, retrieved, set_reply}
-use Rattle.mw_protocol.specs.Operations.{operated}
+use Rattle.mw_protocol.specs.Operations.{Fault, operated}
 use Rattle.mw_protocol.specs.Packets.{change}
 use Rattle.mw_protocol.specs.Reading.{read_value, or_null, private_value}
 use Rattle.mw_protocol.specs.Records.{store}
 use Rattle.mw_protocol.specs.Rooms.{Room, sent, effect_in, member_in, members_in, affected, next}
 use Rattle.mw_protocol.specs.Standing.{Standing, steps}
-use Rattle.mw_protocol.specs.Storage.{Kept, Refused, private_key, store_full, Changed, bytes_kept, is_too_much, value_of, put, before, is_private, run_from, kept_after, set_case, ◌then◌}
+use Rattle.mw_protocol.specs.Storage.{Kept, Refused, private_key, store_full, Changed, bytes_kept, is_too_much, value_of, put, before, is_private, refused_at, run_from, kept_after, set_case, ◌then◌}
 use Rattle.mw_protocol.specs.Storing.{is_kept, store_records, storing, refused_by, reply_to}
 use Rattle.mw_laws.specs.Stored.{hears_of, SetsAreTold, value_in, sets_nothing, RefusedSetsChangeNothing, IsGot, SetsAreGot}
 use Rattle.mw_laws.specs.Told.{telling_where}
@@ -91,18 +92,34 @@ public kept set c =
       | false ↦ λ _. refl
     ]
 
-replaced_new : (kept : List Kept) (set : SetPacket) (c : Changed) (value : Json) → set_case kept set ≡ Ok c → set.operations ≡ record { name = codes "replace"; value = value } ∷ [] → c.new ≡ value
+-- operations of which the last replaces the value
+abbrev and_replace : List Operation → Json → List Operation
+and_replace first value = first ++ record { name = codes "replace"; value = value } ∷ []
+
+run_replaces : (i : ℕ) (first : List Operation) (value j : Json) → IfOk (run_from i (and_replace first value) j) (λ new. new ≡ value)
 unfolding operated
-replaced_new kept set c value done replaces =
-    let after = kept_after kept set in
-    let alone : after value ≡ Ok c =
-    sym (cond-false (is_private set.key) (Err private_key) (after value) (public kept set c done))
-    ∙ ap (λ operations. cond (is_private set.key) (Err private_key) (run_from 0 operations (before kept set) then after)) (sym replaces) ∙ done in
-    within (is_too_much (put set.key value kept)) alone
+run_replaces i [] value j = refl
+run_replaces i (o ∷ os) value j = by (operated o j) (run_replaces (i + 1) os value)
   where
-    within : (full : Bool) → cond full (Err (store_full (bytes_kept (put set.key value kept)) (length (put set.key value kept)))) (Ok record { old = before kept set; new = value }) ≡ Ok c → c.new ≡ value
-    within true e = absurd (none_some c (ap made e))
-    within false e = ap (λ changed. changed.new) (sym (some_same (record { old = before kept set; new = value }) c (ap made e)))
+    by : (r : Result Json Fault) → ((k : Json) → IfOk (run_from (i + 1) (and_replace os value) k) (λ new. new ≡ value)) → IfOk (refused_at i r then run_from (i + 1) (and_replace os value)) (λ new. new ≡ value)
+    by (Ok k) rest = rest k
+    by (Err fault) rest = tt
+
+replaced_new : (kept : List Kept) (set : SetPacket) (c : Changed) (first : List Operation) (value : Json) → set_case kept set ≡ Ok c → set.operations ≡ and_replace first value → c.new ≡ value
+replaced_new kept set c first value done replaces =
+    let after = kept_after kept set in
+    let ran : run_from 0 (and_replace first value) (before kept set) then after ≡ Ok c =
+    sym (cond-false (is_private set.key) (Err private_key) (run_from 0 (and_replace first value) (before kept set) then after) (public kept set c done))
+    ∙ ap (λ operations. cond (is_private set.key) (Err private_key) (run_from 0 operations (before kept set) then after)) (sym replaces) ∙ done in
+    by (run_from 0 (and_replace first value) (before kept set)) (run_replaces 0 first value (before kept set)) ran
+  where
+    within : (new : Json) (full : Bool) → cond full (Err (store_full (bytes_kept (put set.key new kept)) (length (put set.key new kept)))) (Ok record { old = before kept set; new = new }) ≡ Ok c → c.new ≡ new
+    within new true e = absurd (none_some c (ap made e))
+    within new false e = ap (λ changed. changed.new) (sym (some_same (record { old = before kept set; new = new }) c (ap made e)))
+
+    by : (r : Result Json Refused) → IfOk r (λ new. new ≡ value) → r then kept_after kept set ≡ Ok c → c.new ≡ value
+    by (Ok new) is e = within new (is_too_much (put set.key new kept)) e ∙ is
+    by (Err r) is e = absurd (none_some c (ap made e))
 
 kept_got : (room : Room) (key : List ℕ) (value : Json) → is_private key ≡ false → value_of key (now room).storage ≡ Some value → IsGot room key value
 kept_got room key value public kept =
@@ -124,5 +141,5 @@ sets_are_got room number m set c is done =
     record {
       kept = kept;
       got = λ turns none. kept_got (later turns) set.key c.new (public (now room).storage set c done) (kept turns none);
-      replaced = λ value replaces. replaced_new (now room).storage set c value done replaces;
+      replaced = λ first value replaces. replaced_new (now room).storage set c first value done replaces;
     }

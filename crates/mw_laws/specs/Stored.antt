@@ -3,7 +3,7 @@ use Rattle.std.specs.Prelude.{◌≡◌, ℕ, ◌==◌, ◌&&◌, ◌||◌, ◌+
 use Rattle.std.specs.List.{list_all}
 use Rattle.mw_model.specs.Json.{Json, Members, no_members, member, find_member, ComeAfter}
 use Rattle.mw_model.specs.Seed.{Seed}
-use Rattle.mw_model.specs.Sets.{SetPacket}
+use Rattle.mw_model.specs.Sets.{Operation, SetPacket}
 use Rattle.mw_model.specs.Texts.{has_text}
 use Rattle.mw_protocol.specs.Connecting.{Member}
 use Rattle.mw_protocol.specs.Messages.{ServerPacket, invalid_packet, retrieved, set_reply}
@@ -110,9 +110,10 @@ pub record SetIsGot (room : Room) (number : ℕ) (set : SetPacket) (c : Changed)
       ≡ Some c.new
   pub got : (turns : List Turn) → IsTrue (list_all (sets_nothing set.key) turns)
       → IsGot (after_all (next room (sent number (change set))) turns) set.key c.new
-  -- where it just replaces the value, the new one is what it gives
-  pub replaced : (value : Json)
-      → set.operations ≡ record { name = codes "replace"; value = value } ∷ [] → c.new ≡ value
+  -- where its last operation replaces the value, the new one is what that gives
+  pub replaced : (first : List Operation) (value : Json)
+      → set.operations ≡ first ++ record { name = codes "replace"; value = value } ∷ []
+      → c.new ≡ value
 
 abbrev pub SetsAreGot : Type 0
 SetsAreGot =
