@@ -1,6 +1,10 @@
-ghost use Rattle.std.specs.Prelude.{◌≡◌, ◌++◌, Err, ℕ, List, IfOk};
+ghost use Rattle.std.specs.Prelude.{◌≡◌, ◌++◌, Err, ℕ, List, IfOk, Some};
+ghost use Rattle.mw_model.specs.Json.{Json, IsPlain};
+ghost use Rattle.mw_model.specs.Spelling.{spelling};
+ghost use Rattle.mw_json.specs.KeptReading.{kept_reading};
+ghost use Rattle.mw_json.specs.Reading.{reading};
 ghost use Rattle.mw_protocol.specs.Records as plain;
-ghost use Rattle.mw_protocol.specs.Spelled.{record_bytes, Begins, IsRecord, Spells};
+ghost use Rattle.mw_protocol.specs.Spelled.{record_bytes, Begins, IsRecord, IsValue, Spells};
 ghost use Rattle.mw_records.specs.Records.{record_view};
 ghost use Rattle.mw_records.specs.declared.error.RecordError.TheVariants as errors;
 
@@ -34,4 +38,11 @@ pub fn decode(alloc: Global, bytes: &[u8], at: u64) -> Result<(Record, u64), Rec
 pub fn one_spelling()
     ensures { (r s : plain.Record) (x y : List ℕ) → IsRecord r → IsRecord s
         → record_bytes r ++ x ≡ record_bytes s ++ y → (r ≡ s) × (x ≡ y) }
+{}
+
+/// The compact text of a value without numerals is read as that value, with numerals or without
+/// them: so a journal that holds none means what it means to a reader that knows none.
+pub fn plain_values_stay()
+    ensures { (value : Json) → IsValue value → IsPlain value
+        → (reading (spelling value) ≡ Some value) × (kept_reading (spelling value) ≡ Some value) }
 {}

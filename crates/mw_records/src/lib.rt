@@ -14,7 +14,7 @@ mod stored;
 mod texts;
 
 pub use checked::CheckedLocations;
-pub use decoding::{decode, one_spelling};
+pub use decoding::{decode, one_spelling, plain_values_stay};
 pub use encoding::encode;
 pub use error::RecordError;
 pub use record::Record;
