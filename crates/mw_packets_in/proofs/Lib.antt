@@ -1,3 +1,4 @@
+pub mod AsRead
 pub mod Kept
 pub mod Others
 pub mod Passed

@@ -1,3 +1,4 @@
+pub mod AsRead
 pub mod Examples
 pub mod Fields
 pub mod Kept
