@@ -1,5 +1,5 @@
 -- What is read of a message stands in its packets.
-use Rattle.std.proofs.Common.{◌≡◌, ◌||◌, ◌+◌, ℕ, ℤ, zero, suc, pos, List, [], ◌∷◌, Bool, true, false, Option, Some, None, Result, Ok, Err, codes, map, refl, sym, ap, ap₂, subst, ◌∙◌}
+use Rattle.std.proofs.Common.{◌≡◌, ◌+◌, ℕ, ℤ, zero, suc, pos, List, [], ◌∷◌, Bool, true, false, Option, Some, None, Result, Ok, Err, codes, map, refl, sym, ap, ap₂, subst, ◌∙◌}
 use Rattle.std.specs.Prelude.{IfOk, bytes_eq, nat_le, option_and_then, option_map, slice_get, unwrap_or, if◌then◌else◌}
 use Rattle.std.specs.Ordering.{nat_cmp, is_lt}
 use Rattle.std.specs.Cmp.Lexicographic.{slice_cmp}
@@ -11,7 +11,7 @@ use Rattle.mw_model.specs.Texts.{has_text}
 use Rattle.mw_model.specs.Trees.{items_of, put_member, text_json, id_json}
 use Rattle.mw_protocol.specs.Further.{others}
 use Rattle.mw_protocol.specs.Messages.{put_if, texts_json, ids_json, bounced_json}
-use Rattle.mw_protocol.specs.Packets.{Bounce, Packet, Bad, bounce, get, change, Inbound, good, wrong}
+use Rattle.mw_protocol.specs.Packets.{Bounce, Packet, Bad, bounce, get, change, good, wrong}
 use Rattle.mw_json.specs.Grammar.{Breach, ◌>>=◌, under, items_length, text_at, list_at, found_or_missing, member_at, field_at}
 use Rattle.mw_json.specs.KeptReading.{kept_reading}
 use Rattle.mw_json.specs.Parts.{read_if, field_if_at}
@@ -19,7 +19,7 @@ use Rattle.mw_json.specs.Reading.{max_depth}
 use Rattle.mw_json.specs.Readers.{each_from, first_at, field_or_at}
 use Rattle.mw_json.specs.Sets.{set_names}
 use Rattle.mw_json.specs.declared.refusal.Step.TheVariants.{Name, Index}
-use Rattle.mw_json.proofs.Passing.{past, after, within, if_told}
+use Rattle.mw_json.proofs.Passing.{past, after, within}
 use Rattle.mw_packets_in.specs.AsRead.{element, element_of, IsSent, BouncesStay, AreOthers, GetsStay, AreOperations, IsAskedBy, SetsStay}
 use Rattle.mw_packets_in.specs.Fields.{whole_at, flag_at, any_at, texts_at, wholes_at}
 use Rattle.mw_packets_in.specs.Kept.{bounce_names, get_names}

@@ -1,11 +1,11 @@
 -- The whole numbers of packets are a reading's.
-use Rattle.std.proofs.Common.{◌≡◌, ℕ, ℤ, List, Option, Some, None, Result, Ok, codes}
-use Rattle.std.specs.Prelude.{All, Bool, IfOk, IfSome, if◌then◌else◌, true, false}
+use Rattle.std.proofs.Common.{◌≡◌, ℕ, ℤ, List, Option, None, Ok, codes}
+use Rattle.std.specs.Prelude.{All, IfOk, IfSome}
 use Rattle.std.proofs.lemmas.Result.{IfOk-at_ok, IfOk-weaker}
-use Rattle.mw_model.specs.Json.{Json, null, flag, whole, not_whole, numeral, words, many, members, Items, items_depth, Members, IsInRange}
+use Rattle.mw_model.specs.Json.{Json, null, flag, whole, not_whole, numeral, words, many, members, Members, IsInRange}
 use Rattle.mw_protocol.specs.Packets.{Version}
-use Rattle.mw_json.specs.Grammar.{Breach, refused, items_length, list_at, object_at, field_at}
-use Rattle.mw_json.specs.Parts.{there, null_or_at}
+use Rattle.mw_json.specs.Grammar.{items_length, list_at, object_at, field_at}
+use Rattle.mw_json.specs.Parts.{null_or_at}
 use Rattle.mw_json.specs.Readers.{each_from, field_or_at}
 use Rattle.mw_json.specs.Valid.{IsValid, ItemsAreValid, MembersAreValid}
 use Rattle.mw_json.proofs.Kept.{AreKept, each_valid_kept, in_valid_field, in_valid_field_or, list_valid, object_valid}
