@@ -1,6 +1,6 @@
--- A seed file that is written has its members in order, and doesn't nest deep.
+-- A seed file that is written has its members in order and no numeral, and doesn't nest deep.
 use Rattle.std.proofs.Common.{◌≤◌, ℕ, List, [], ◌∷◌, map, arith, refl}
-use Rattle.mw_model.specs.Json.{Json, Members, no_members, member, depth, items_depth, members_depth, IsOrdered, ItemsAreOrdered}
+use Rattle.mw_model.specs.Json.{Json, Members, no_members, member, depth, items_depth, members_depth, IsOrdered, ItemsAreOrdered, IsPlain, ItemsArePlain, MembersArePlain}
 use Rattle.mw_model.specs.Games.{game_json, ids_members}
 use Rattle.mw_model.specs.Trees.{items_of, text_json}
 use Rattle.mw_model.specs.Seed.{Seed, Slot, Game, NamedId, Held, Spot}
@@ -52,6 +52,34 @@ seed_ordered seed games =
         ),
       ),
     )
+
+-- ---- numerals
+
+items_plain : {A : Type 0} (json : A → Json) → ((x : A) → IsPlain (json x)) → (xs : List A) → ItemsArePlain (items_of (map json xs))
+items_plain json h [] = tt
+items_plain json h (x ∷ xs) = (h x, items_plain json h xs)
+
+slot_plain : (s : Slot) → IsPlain (slot_json s)
+slot_plain s = (tt, (items_plain text_json (λ t. tt) s.names, (items_plain start_json (λ i. (tt, (tt, tt))) s.start, tt)))
+
+sphere_plain : (spots : List Spot) → IsPlain (sphere_json spots)
+sphere_plain spots = items_plain spot_json (λ s. (tt, (tt, tt))) spots
+
+ids_plain : (ns : List NamedId) → MembersArePlain (ids_members ns)
+ids_plain [] = tt
+ids_plain (n ∷ ns) = (tt, ids_plain ns)
+
+games_plain : (gs : List Game) → MembersArePlain (members_of (map game_member gs))
+games_plain [] = tt
+games_plain (g ∷ gs) = ((ids_plain g.item_name_to_id, (ids_plain g.location_name_to_id, tt)), games_plain gs)
+
+pub seed_plain : (seed : Seed) → IsPlain (seed_json seed)
+seed_plain seed =
+    let locations = items_plain held_json (λ h. (tt, (tt, (tt, (tt, (tt, tt)))))) seed.locations in
+    let server : IsPlain (server_json seed.server) = (tt, (tt, (tt, (tt, (tt, (tt, tt)))))) in
+    let slots = items_plain slot_json slot_plain seed.slots in
+    let spheres = items_plain sphere_json sphere_plain seed.spheres in
+    (tt, (games_plain seed.games, (locations, (tt, (server, (slots, (spheres, (tt, tt))))))))
 
 -- ---- depth
 

@@ -24,7 +24,7 @@ use Rattle.mw_multidata.proofs.Bools.{by_two}
 use Rattle.mw_multidata.proofs.Again.{members_in, field_again, number_again, short_again, server_again, games_again, SlotShape, slots_again, HeldShape, held_again, list_again, SpotShape, SphereShape, spheres_again}
 use Rattle.mw_multidata.proofs.NamesAgain.{IsPlayedSlot, names_pass_all}
 use Rattle.mw_multidata.proofs.NamesKept.{IsKnown, IsWithin}
-use Rattle.mw_multidata.proofs.Orders.{seed_ordered, seed_shallow}
+use Rattle.mw_multidata.proofs.Orders.{seed_ordered, seed_plain, seed_shallow}
 use Rattle.mw_multidata.proofs.Plays.{PlayAll, played_same, plays}
 
 -- ---- what is known by a look-up
@@ -228,7 +228,7 @@ module _ (seed : Seed) (h : IsSeed seed) where
   read_again bytes w utf8 is =
       let j = seed_json seed in
       let few : depth j ≤ max_depth = omega (arith, seed_shallow seed) in
-      let read : reading bytes ≡ Some j = ap reading is ∙ reads_back j w ordered few in
+      let read : reading bytes ≡ Some j = ap reading is ∙ reads_back j w ordered (seed_plain seed) few in
       inr (inr (j, record { read = record { utf8 = utf8; is = read }; deep = few }, seed_read))
 
   -- what is written stands for the seed
