@@ -1,5 +1,10 @@
+use crate::harness::{Run, add_file, cases_tell, faults, folder_of, holds, runs_tell};
+use crate::new_room_tests::EMPTY;
 use crate::session_harness::marks;
+use crate::tests::FOLDER_A;
+use mw_base::List;
 use mw_cases::ROOM_A;
+use mw_edges::MemoryFolder;
 use std::alloc::Global;
 use std::sync::Wait;
 use std::test::Fail;
@@ -30,7 +35,6 @@ fn storage_out_of_range(rt: HostRuntime) -> Result<(), Fail> {
     let expected =
         r#"1 [{"cmd":"InvalidPacket","original_cmd":"Set","text":"operation 0: out of range","type":"arguments"}]
 1 [{"cmd":"Retrieved","keys":{"k":null}}]
-1 [{"cmd":"InvalidPacket","original_cmd":"Set","text":"arguments: operations","type":"arguments"}]
 "#;
     are_answered(&rt, rt.alloc(), messages, expected)
 }
@@ -159,4 +163,168 @@ take 2
 2 [{"cmd":"Bounced","games":["G"],"tags":[]}]
 "#;
     are_linked(&rt, rt.alloc(), lines, expected)
+}
+
+/// Ann and Bob connect with a death link.
+const BOTH_LINKED: &str = r#"open
+open
+text 1 [{"cmd":"Connect","game":"G","items_handling":7,"name":"Ann","tags":["NoText","DeathLink"],"version":{"build":0,"major":0,"minor":6}}]
+text 2 [{"cmd":"Connect","game":"G","items_handling":7,"name":"Bob","tags":["NoText","DeathLink"],"version":{"build":0,"major":0,"minor":6}}]
+take 1
+take 2
+mark
+text 1 [{"cmd":"Bounce","data":{"source":"Ann","time":1712345678.250},"tags":["DeathLink"]}]
+take 1
+take 2
+"#;
+
+#[test]
+fn a_death_link_keeps_its_time(rt: HostRuntime) -> Result<(), Fail> {
+    let expected =
+        r#"1 [{"cmd":"Bounced","data":{"source":"Ann","time":1712345678.250},"tags":["DeathLink"]}]
+2 [{"cmd":"Bounced","data":{"source":"Ann","time":1712345678.250},"tags":["DeathLink"]}]
+"#;
+    marks(&rt, rt.alloc(), ROOM_A, BOTH_LINKED, expected)
+}
+
+#[test]
+fn a_numeral_is_a_value_and_no_number(rt: HostRuntime) -> Result<(), Fail> {
+    let messages = r#"[{"cmd":"Set","key":"k","operations":[{"operation":"replace","value":1.50}]}]
+[{"cmd":"Get","keys":["k"]}]
+[{"cmd":"Set","key":"k","operations":[{"operation":"add","value":1}]}]
+[{"cmd":"Sync",1.5:0}]
+[{"cmd":"ConnectUpdate","items_handling":7.0}]
+[{"cmd":"Connect","game":"G","items_handling":7.0,"name":"Ann","tags":[],"version":{"build":0,"major":0,"minor":5}}]"#;
+    let expected = r#"1 [{"cmd":"Retrieved","keys":{"k":1.50}}]
+1 [{"cmd":"InvalidPacket","original_cmd":"Set","text":"operation 0: bad operation","type":"arguments"}]
+1 [{"cmd":"InvalidPacket","original_cmd":null,"text":"no JSON list","type":"cmd"}]
+1 [{"cmd":"InvalidPacket","original_cmd":"ConnectUpdate","text":"arguments: items_handling","type":"arguments"}]
+1 [{"cmd":"InvalidPacket","original_cmd":"Connect","text":"arguments: items_handling","type":"arguments"}]
+"#;
+    are_answered(&rt, rt.alloc(), messages, expected)
+}
+
+/// A value comes back from a Set, a Bounce and a Get, from the same after a crash behind a commit,
+/// and in another run.
+const VALUE_PASSES: [Run<'static>; 3] = [
+    ("new-room A J", "", "0 room made\n"),
+    (
+        "drive A J",
+        r#"open
+connect 1 Ann 7
+take 1
+mark
+text 1 [{"cmd":"Set","key":"k","operations":[{"operation":"replace","value":$0}],"want_reply":true}]
+take 1
+text 1 [{"cmd":"Bounce","data":{"n":$0},"slots":[1]}]
+take 1
+text 1 [{"cmd":"Get","keys":["k"],"n":[$0]}]
+take 1
+commit
+crash
+open
+connect 1 Ann 7
+text 1 [{"cmd":"Get","keys":["k"]}]
+take 1
+"#,
+        r#"mark
+1 [{"cmd":"SetReply","key":"k","original_value":0,"slot":1,"value":$0}]
+1 [{"cmd":"Bounced","data":{"n":$0},"slots":[1]}]
+1 [{"cmd":"Retrieved","keys":{"k":$0},"n":[$0]}]
+1 [..1 [{"cmd":"Retrieved","keys":{"k":$0}}]
+"#,
+    ),
+    (
+        "drive A J",
+        "open\nconnect 1 Bob 7\ntext 1 [{\"cmd\":\"Get\",\"keys\":[\"k\"]}]\ntake 1\n",
+        r#"0 1 [..1 [{"cmd":"Retrieved","keys":{"k":$0}}]
+"#,
+    ),
+];
+
+/// Numerals of each shape, and what looks like one.
+const NUMERALS: &str = r#"1.50
+1712345678.250
+-0
+-0.0
+1e400
+1E+02
+12.5e-30
+18446744073709551615
+18446744073709551616
+-9223372036854775808
+-9223372036854775809
+100000000000000000000000000000000000000000.000
+"n1.5"
+[1.0,{"n1.5":1.50,"s":-0}]"#;
+
+#[test]
+fn numerals_come_back(rt: HostRuntime) -> Result<(), Fail> {
+    cases_tell(&rt, rt.alloc(), &FOLDER_A, "", &VALUE_PASSES, NUMERALS)
+}
+
+/// The bytes of a journal of Room A, which these ones end.
+fn journal_of(alloc: Global, rest: &[u8]) -> Result<Vec<u8>, Fail> {
+    let mut bytes = Vec::from_slice(alloc, &EMPTY[..40])?;
+    bytes.extend_from_slice(rest)?;
+    Ok(bytes)
+}
+
+/// The end of a journal that keeps a value without numerals, as it was written when no journal held
+/// one.
+const PLAIN: [u8; 44] = [
+    1, 0, 0, 0, 38, 7, 0, 0, 0, 1, 107, 0, 0, 0, 28, 123, 34, 97, 34, 58, 91, 53, 44, 110, 117,
+    108, 108, 44, 34, 110, 49, 46, 53, 34, 93, 44, 34, 98, 34, 58, 45, 55, 125, 0,
+];
+
+/// Ann sets the value.
+const SETS_PLAIN: [Run<'static>; 2] = [
+    ("new-room A J", "", "0 room made\n"),
+    (
+        "drive A J",
+        r#"open
+connect 1 Ann 7
+text 1 [{"cmd":"Set","key":"k","operations":[{"operation":"replace","value":{"b":-7,"a":[5,null,"n1.5"]}}]}]
+commit
+"#,
+        "0 ",
+    ),
+];
+
+/// Bob gets it.
+const GETS_PLAIN: [Run<'static>; 1] = [(
+    "drive A J",
+    "open\nconnect 1 Bob 7\ntext 1 [{\"cmd\":\"Get\",\"keys\":[\"k\"]}]\ntake 1\ncommit\n",
+    r#"0 1 [..1 [{"cmd":"Retrieved","keys":{"k":{"a":[5,null,"n1.5"],"b":-7}}}]
+"#,
+)];
+
+/// A folder that has Room A, and these bytes as its journal.
+fn folder_with(alloc: Global, journal: &[u8]) -> Result<MemoryFolder, Fail> {
+    let mut files = List::new(alloc);
+    add_file(alloc, &mut files, "A", ROOM_A.as_bytes())?;
+    add_file(alloc, &mut files, "J", journal)?;
+    Ok(MemoryFolder::new(files, faults(alloc, "", 0)?))
+}
+
+/// Fails where runs on a folder tell otherwise, or don't leave the journal with these bytes.
+fn leaves<R: Threads + Wait + Sync>(
+    rt: &R,
+    alloc: Global,
+    folder: &mut MemoryFolder,
+    runs: &[Run<'_>],
+    journal: &[u8],
+) -> Result<(), Fail> {
+    runs_tell(rt, alloc, folder, "", runs, "")?;
+    holds(alloc, folder, "J", journal, "journal")
+}
+
+#[test]
+fn a_journal_without_numerals_stays(rt: HostRuntime) -> Result<(), Fail> {
+    let alloc = rt.alloc();
+    let journal = journal_of(alloc, &PLAIN)?;
+    let mut written = folder_of(alloc, &FOLDER_A, "", "")?;
+    leaves(&rt, alloc, &mut written, &SETS_PLAIN, &journal)?;
+    let mut recovered = folder_with(alloc, &journal)?;
+    leaves(&rt, alloc, &mut recovered, &GETS_PLAIN, &journal)
 }

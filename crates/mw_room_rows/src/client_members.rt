@@ -7,7 +7,7 @@ use std::test::Fail;
 
 /// The values that each member is tried with. The first stands for none.
 const VALUES: &str =
-    r#"- null true 0 1 2 3 5 7 10 20 30 40 -9 0.5 1e3 -0 "x" [] ["x"] [7] [null] [0.5] {} {"a":0.5}"#;
+    r#"- null true 0 1 2 3 5 7 10 20 30 40 -9 0.5 1e3 -0 "x" [] ["x"] [7] [null] [0.5] {} {"a":0.5} 1e400"#;
 
 /// A member with a value, as it stands behind others; nothing where there is none.
 fn member(alloc: Global, name: &str, value: &str) -> Result<String, Fail> {
@@ -79,7 +79,7 @@ const LOCATIONS_AND_STATUSES: &str =
 [{"cmd":"StatusUpdate"@}] | status | 0 5 10 20 30 | StatusUpdate, arguments, arguments: status
 [{"cmd":"Say"@}] | text | "x" | Say, arguments, arguments: text
 [{"cmd":"GetDataPackage"@}] | games | - [] ["x"] | GetDataPackage, arguments, arguments: games
-[{"cmd":"Sync"@}] | more | - null true 0 1 2 3 5 7 10 20 30 40 -9 "x" [] ["x"] [7] [null] {} 0.5 1e3 -0 [0.5] {"a":0.5} | "#;
+[{"cmd":"Sync"@}] | more | - null true 0 1 2 3 5 7 10 20 30 40 -9 "x" [] ["x"] [7] [null] {} 0.5 1e3 -0 [0.5] {"a":0.5} 1e400 | "#;
 
 #[test]
 fn each_member_of_locations_and_statuses(rt: HostRuntime) -> Result<(), Fail> {
@@ -91,16 +91,16 @@ const MESSAGES_AND_STORAGE: &str =
     r#"[{"cmd":"Bounce"@}] | games | - [] ["x"] | Bounce, arguments, arguments: games
 [{"cmd":"Bounce"@}] | tags | - [] ["x"] | Bounce, arguments, arguments: tags
 [{"cmd":"Bounce"@}] | slots | - [] [7] | Bounce, arguments, arguments: slots
-[{"cmd":"Bounce"@}] | more | - null true 0 1 2 3 5 7 10 20 30 40 -9 "x" [] ["x"] [7] [null] {} | Bounce, arguments, arguments: data
+[{"cmd":"Bounce"@}] | more | - null true 0 1 2 3 5 7 10 20 30 40 -9 "x" [] ["x"] [7] [null] {} 0.5 1e3 -0 [0.5] {"a":0.5} 1e400 | none
 [{"cmd":"Get"@}] | keys | [] ["x"] | Get, arguments, arguments: keys
-[{"cmd":"Get","keys":[]@}] | more | - null true 0 1 2 3 5 7 10 20 30 40 -9 "x" [] ["x"] [7] [null] {} | Get, arguments, arguments: keys
+[{"cmd":"Get","keys":[]@}] | more | - null true 0 1 2 3 5 7 10 20 30 40 -9 "x" [] ["x"] [7] [null] {} 0.5 1e3 -0 [0.5] {"a":0.5} 1e400 | none
 [{"cmd":"Set","operations":[]@}] | key | "x" | Set, arguments, arguments: key
-[{"cmd":"Set","key":"x","operations":[]@}] | default | - null true 0 1 2 3 5 7 10 20 30 40 -9 "x" [] ["x"] [7] [null] {} | Set, arguments, arguments: default
+[{"cmd":"Set","key":"x","operations":[]@}] | default | - null true 0 1 2 3 5 7 10 20 30 40 -9 "x" [] ["x"] [7] [null] {} 0.5 1e3 -0 [0.5] {"a":0.5} 1e400 | none
 [{"cmd":"Set","key":"x","operations":[]@}] | want_reply | - true | Set, arguments, arguments: want_reply
 [{"cmd":"Set","key":"x"@}] | operations | [] | Set, arguments, arguments: operations
-[{"cmd":"Set","key":"x","operations":[]@}] | more | - null true 0 1 2 3 5 7 10 20 30 40 -9 "x" [] ["x"] [7] [null] {} | Set, arguments, arguments: operations
+[{"cmd":"Set","key":"x","operations":[]@}] | more | - null true 0 1 2 3 5 7 10 20 30 40 -9 "x" [] ["x"] [7] [null] {} 0.5 1e3 -0 [0.5] {"a":0.5} 1e400 | none
 [{"cmd":"Set","key":"x","operations":[{"value":1@}]}] | operation | "x" | Set, arguments, arguments: operations
-[{"cmd":"Set","key":"x","operations":[{"operation":"add"@}]}] | value | null true 0 1 2 3 5 7 10 20 30 40 -9 "x" [] ["x"] [7] [null] {} | Set, arguments, arguments: operations
+[{"cmd":"Set","key":"x","operations":[{"operation":"add"@}]}] | value | null true 0 1 2 3 5 7 10 20 30 40 -9 "x" [] ["x"] [7] [null] {} 0.5 1e3 -0 [0.5] {"a":0.5} 1e400 | Set, arguments, arguments: operations
 [{"cmd":"SetNotify"@}] | keys | [] ["x"] | SetNotify, arguments, arguments: keys"#;
 
 #[test]

@@ -97,9 +97,18 @@ const COMMANDS: &str = r#"[{"cmd":"ConnectUpdate","items_handling":3}] | a packe
 [{"cmd":"Set","key":"k","default":0,"operations":[{"operation":"add","value":1}]}] | a packet
 [{"cmd":"SetNotify","keys":["k"]}] | a packet"#;
 
+/// Messages with numerals where any value may stand.
+const NUMERALS: &str =
+    r#"[{"cmd":"Connect","name":"Ann","version":{"major":0,"minor":5,"build":0,"more":[0.5]}}] | a packet
+[{"cmd":"Sync","more":1e400}] | a packet
+[{"cmd":"Bounce","tags":["DeathLink"],"data":{"source":"Ann","time":1712345678.250}}] | a packet
+[{"cmd":"Get","keys":["k"],"n":0.5}] | a packet
+[{"cmd":"Set","key":"k","default":-0,"operations":[{"operation":"replace","value":1.50}],"n":[{"a":2e0}]}] | a packet"#;
+
 #[test]
 fn each_command_is_read(rt: HostRuntime) -> Result<(), Fail> {
-    each::<Messages>(rt.alloc(), COMMANDS)
+    each::<Messages>(rt.alloc(), COMMANDS)?;
+    each::<Messages>(rt.alloc(), NUMERALS)
 }
 
 /// Texts that are no packets, and why.
@@ -107,7 +116,12 @@ const OTHERS: &str = r#" | none, cmd, no JSON list
 7 | none, cmd, no JSON list
 {"cmd":"Sync"} | none, cmd, no JSON list
 [{"cmd":"Sync"} | none, cmd, no JSON list
+[{"cmd":"Sync",1.5:0}] | none, cmd, no JSON list
+[{"cmd":"Sync","n":1.}] | none, cmd, no JSON list
+1.5 | none, cmd, no JSON list
 [7] | none, cmd, no cmd
+[7.0] | none, cmd, no cmd
+[{"cmd":7.0}] | none, cmd, no cmd
 [[]] | none, cmd, no cmd
 [{}] | none, cmd, no cmd
 [{"cmd":null}] | none, cmd, no cmd
@@ -122,13 +136,15 @@ fn other_texts_are_no_packets(rt: HostRuntime) -> Result<(), Fail> {
 const BAD_MEMBERS: &str =
     r#"[{"cmd":"LocationChecks"}] | LocationChecks, arguments, arguments: locations
 [{"cmd":"LocationChecks","locations":[1.0]}] | LocationChecks, arguments, arguments: locations
-[{"cmd":"Connect","name":"Ann","version":{"major":0,"minor":5,"build":0,"more":[0.5]}}] | Connect, arguments, arguments: version
+[{"cmd":"Connect","name":"Ann","version":{"major":0,"minor":5.0,"build":0}}] | Connect, arguments, arguments: version
+[{"cmd":"Connect","name":"Ann","version":{"major":0,"minor":5,"build":0},"items_handling":7.0}] | Connect, arguments, arguments: items_handling
 [{"cmd":"Connect","name":"Ann","version":{"major":0,"minor":5,"build":0},"tags":null}] | Connect, arguments, arguments: tags
 [{"cmd":"ConnectUpdate","items_handling":2,"tags":7}] | ConnectUpdate, arguments, arguments: items_handling
 [{"cmd":"StatusUpdate","status":7}] | StatusUpdate, arguments, arguments: status
-[{"cmd":"Bounce","data":{"time":0.5}}] | Bounce, arguments, arguments: data
-[{"cmd":"Get","keys":["k"],"n":0.5}] | Get, arguments, arguments: keys
-[{"cmd":"Set","key":"k","default":0,"operations":[{"operation":"replace","value":1.5}]}] | Set, arguments, arguments: operations"#;
+[{"cmd":"Bounce","slots":[1.0]}] | Bounce, arguments, arguments: slots
+[{"cmd":"Get","keys":[0.5]}] | Get, arguments, arguments: keys
+[{"cmd":"Set","key":"k","want_reply":-0,"operations":[]}] | Set, arguments, arguments: want_reply
+[{"cmd":"Set","key":"k","operations":[{"operation":1e2,"value":1.5}]}] | Set, arguments, arguments: operations"#;
 
 #[test]
 fn a_bad_member_is_named(rt: HostRuntime) -> Result<(), Fail> {

@@ -133,9 +133,11 @@ status 5 of a hint | 0 | 06000001000000000000006505 | no record
 a flag of 2 | 0 | 0500000100000000000000650200011e | no record
 a key that is no text | 0 | 0700000001ff0000000135 | no record
 white space | 0 | 07000000016b000000022035 | no record
-a fraction | 0 | 07000000016b00000003352e35 | no record
 another spelling of a text | 0 | 07000000016b00000008225c753030343122 | no record
 members out of order | 0 | 07000000016b0000000d7b2262223a312c2261223a327d | no record
+a numeral with white space | 0 | 07000000016b00000004312e3520 | no record
+a numeral as a name | 0 | 07000000016b000000077b312e353a307d | no record
+no numeral | 0 | 07000000016b00000002312e | no record
 no JSON | 0 | 07000000016b000000015b | no record
 a value cut short | 0 | 07000000016b0000000235 | no record
 behind a record's end | 4 | 02000001 | no record
@@ -164,4 +166,49 @@ impl Theme for Beginnings {
 #[test]
 fn what_is_no_record(rt: HostRuntime) -> Result<(), Fail> {
     each::<Beginnings>(rt.alloc(), NO_RECORDS)
+}
+
+/// Records that are read, and written again, in cases `VALUE | DIGITS | DIGITS`.
+struct Again;
+
+impl Theme for Again {
+    fn answer(alloc: Global, case: &str) -> Result<Text, Fail> {
+        let bytes = hex::decode(alloc, part(case, 1))?;
+        let (record, _) = decode(alloc, bytes.as_slice(), 0)?;
+        let mut again = Bytes::from_vec(Vec::new(alloc));
+        encode(alloc, &record, &mut again)?;
+        Ok(Text::from_string(hex::encode(alloc, again.as_slice())?))
+    }
+}
+
+/// Records of values with numerals.
+const NUMERALS: &str = r#"5.50 | 07000000016b00000004352e3530 | 07000000016b00000004352e3530
+-0 | 07000000016b000000022d30 | 07000000016b000000022d30
+1e400 | 07000000016b000000053165343030 | 07000000016b000000053165343030
+[1.5,{"n":2.0}] | 07000000016b0000000f5b312e352c7b226e223a322e307d5d | 07000000016b0000000f5b312e352c7b226e223a322e307d5d"#;
+
+#[test]
+fn records_keep_numerals(rt: HostRuntime) -> Result<(), Fail> {
+    each::<Again>(rt.alloc(), NUMERALS)
+}
+
+/// Whether a record begins whose value is a numeral within so many lists, in cases
+/// `LISTS | ANSWER`.
+struct Nested;
+
+impl Theme for Nested {
+    fn answer(alloc: Global, case: &str) -> Result<Text, Fail> {
+        let lists = part(case, 0).parse::<usize>()?;
+        let mut bytes = Vec::from_slice(alloc, &[7, 0, 0, 0, 1, 107, 0, 0, 0])?;
+        bytes.push(lists.saturating_mul(2).saturating_add(3) as u8)?;
+        bytes.extend_from_slice("[".repeat(alloc, lists)?.as_bytes())?;
+        bytes.extend_from_slice(b"1.5")?;
+        bytes.extend_from_slice("]".repeat(alloc, lists)?.as_bytes())?;
+        Ok(Text::of(alloc, begins(alloc, bytes.as_slice(), 0))?)
+    }
+}
+
+#[test]
+fn values_nest_as_deep_as_texts(rt: HostRuntime) -> Result<(), Fail> {
+    each::<Nested>(rt.alloc(), "64 | a record\n65 | no record")
 }
