@@ -1,22 +1,17 @@
 -- What the readers of numbers and names give keeps their rules.
-use Rattle.std.proofs.Common.{◌≡◌, ◌≤◌, ◌<◌, ◌==◌, ℕ, List, [], ◌∷◌, true, false, Result, Ok, Less, nat_cmp, length, map, refl, sym, subst, arith}
+use Rattle.std.proofs.Common.{◌≡◌, ◌≤◌, ◌<◌, ◌==◌, ℕ, List, [], ◌∷◌, true, false, Ok, length, refl, arith}
 use Rattle.std.specs.Prelude.{All, IfOk, chars, codes, bytes_eq, nat_lt}
-use Rattle.std.specs.Cmp.Lexicographic.{slice_cmp}
 use Rattle.std.proofs.lemmas.Grind.{common_steps}
 use Rattle.std.proofs.lemmas.Int.{ints}
 use Rattle.std.proofs.lemmas.List.Elements.{All-nil, All-cons}
 use Rattle.std.proofs.lemmas.Result.{IfOk-weaker}
-use Rattle.mw_model.specs.Json.{Json, Members, no_members, member, ComeAfter}
-use Rattle.mw_json.specs.Grammar.{Breach, refused, under, number_at, text_at, has_control, short_text, name_of, name_at}
+use Rattle.mw_model.specs.Json.{Json}
+use Rattle.mw_json.specs.Grammar.{refused, number_at, text_at, has_control, short_text, name_of, name_at}
 use Rattle.mw_json.specs.Parts.{id_at}
-use Rattle.mw_json.specs.Readers.{each_member_at}
 use Rattle.mw_json.specs.Settings.{password_at, remaining_of, remaining_at, permission_at}
-use Rattle.mw_json.specs.Valid.{IsValid, MembersAreValid}
 use Rattle.mw_json.specs.declared.refusal.Kind.TheVariants.{WrongKind, NameTooLong}
-use Rattle.mw_json.specs.declared.refusal.Step.TheVariants.{Name}
 use Rattle.mw_json.proofs.Kept.{either, unless, IsBetween, number_kept}
-use Rattle.mw_json.proofs.Passing.{past, after, within, where_true}
-use Rattle.mw_model.specs.Ascending.{ComesBefore, NamesAscend}
+use Rattle.mw_json.proofs.Passing.{past, after, where_true}
 use Rattle.mw_multidata.specs.Parts.{flags_at}
 use Rattle.mw_multidata.specs.SeedKept.{IsName, IsId, is_class, is_remaining, is_permission}
 use Rattle.mw_multidata.specs.Shape.{seed_name_of, seed_name_at}

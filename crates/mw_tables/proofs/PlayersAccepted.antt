@@ -1,5 +1,5 @@
 -- A players file that is accepted stands for players.
-use Rattle.std.proofs.Common.{◌≡◌, ◌≤◌, ℕ, ◌+◌, List, [], ◌∷◌, ◌++◌, length, map, Bool, true, false, Ok, All, refl, sym, ap, ◌∙◌, subst, arith, append-nil, append_assoc}
+use Rattle.std.proofs.Common.{◌≡◌, ◌≤◌, ℕ, ◌+◌, List, [], ◌∷◌, ◌++◌, length, map, Bool, true, false, Ok, All, refl, sym, ◌∙◌, subst, arith, append-nil, append_assoc}
 use Rattle.std.specs.Str.{chars}
 use Rattle.std.specs.Prelude.{IfOk, codes, nat_le, sum_by, flat_map, bytes_eq, not}
 use Rattle.std.specs.List.{IsDistinct}
@@ -13,7 +13,7 @@ use Rattle.mw_json.specs.Grammar.{under, number_at, text_at, name_of, name_at, l
 use Rattle.mw_json.specs.Parts.{not_empty, list_of_length}
 use Rattle.mw_json.specs.Readers.{each_from, field_or_at, each_member_at}
 use Rattle.mw_json.specs.Settings.{password_at, remaining_at, permission_at}
-use Rattle.mw_json.specs.declared.refusal.Kind.TheVariants.{WrongKind, TooMany, NameTooLong, DuplicateName}
+use Rattle.mw_json.specs.declared.refusal.Kind.TheVariants.{TooMany, NameTooLong, DuplicateName}
 use Rattle.mw_json.specs.declared.refusal.Step.TheVariants.{Name, Index}
 use Rattle.mw_multi.specs.Names.{IsName}
 use Rattle.mw_multi.specs.Players.{StartEntry, Player, Players}

@@ -1,20 +1,18 @@
 -- What is known of the names, numbers and lists that a grammar gives.
-use Rattle.std.proofs.Common.{◌≡◌, ◌<◌, ◌≤◌, ℕ, ◌+◌, ◌==◌, ◌||◌, List, [], ◌∷◌, length, Bool, true, false, Option, Some, None, Result, Ok, if◌then◌else◌, All, refl, arith}
+use Rattle.std.proofs.Common.{◌≡◌, ◌<◌, ◌≤◌, ℕ, ◌==◌, ◌||◌, List, [], ◌∷◌, length, Bool, true, false, if◌then◌else◌, All, refl, arith}
 use Rattle.std.specs.Prelude.{IfOk, chars, nat_le, nat_lt}
 use Rattle.std.proofs.lemmas.Grind.{common_steps}
 use Rattle.std.proofs.lemmas.Int.{ints}
 use Rattle.std.proofs.lemmas.List.Elements.{All-nil, All-cons}
 use Rattle.std.proofs.lemmas.Result.{IfOk-weaker}
-use Rattle.mw_model.specs.Json.{Json, null, flag, whole, not_whole, numeral, words, many, members, Items, no_items, item, Members, no_members, member, find_member}
-use Rattle.mw_json.specs.Grammar.{Breach, under, refused, has_control, short_text, name_of, name_at, number_at, text_at, list_at, items_length, list_up_to}
-use Rattle.mw_json.specs.declared.refusal.Kind.TheVariants.{WrongKind, NameTooLong, TooMany}
-use Rattle.mw_json.specs.declared.refusal.Step.TheVariants.{Name, Index}
+use Rattle.mw_model.specs.Json.{Json, null, flag, whole, not_whole, numeral, words, many, members}
+use Rattle.mw_json.specs.Grammar.{refused, has_control, short_text, name_of, name_at, number_at, text_at}
+use Rattle.mw_json.specs.declared.refusal.Kind.TheVariants.{WrongKind, NameTooLong}
 use Rattle.mw_json.specs.Parts.{id_at, null_or_at}
-use Rattle.mw_json.specs.Readers.{each_from, list_of_at, first_at, field_or_at, each_member_at}
 use Rattle.mw_json.proofs.Kept.{IsBetween, number_kept}
 use Rattle.mw_multi.specs.Names.{IsName, IsId}
 use Rattle.mw_multi.specs.WorldKept.{IsIdOrNone}
-use Rattle.mw_json.proofs.Passing.{past, after, within, where_true, if_told}
+use Rattle.mw_json.proofs.Passing.{past, after, where_true}
 
 -- ---- names
 
