@@ -6,7 +6,8 @@ use crate::storage::{Bounce, Get};
 use mw_base::{List, Text};
 use mw_json::SetPacket;
 
-/// What a client asks for, after Archipelago's network protocol. Numbers are from -2^63 to 2^64 - 1.
+/// What a client asks for, after Archipelago's network protocol. Whole numbers are from -2^63 to
+/// 2^64 - 1. Where any value may stand, other numerals stand by their characters.
 pub enum Packet {
     /// The session wants to play a slot.
     Connect(Connect),

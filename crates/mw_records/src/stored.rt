@@ -8,9 +8,9 @@ use std::marker::Model;
 pub struct Stored {
     /// The key, shorter than 2^32 bytes.
     pub key: Text,
-    /// The value: whole numbers from -2^63 to 2^64 - 1, the members of each object in order, at
-    /// most 64 deep, its compact text shorter than 2^32 bytes. So it is what its compact text is
-    /// read as.
+    /// The value: whole numbers from -2^63 to 2^64 - 1, other numerals by their characters, the
+    /// members of each object in order, at most 64 deep, its compact text shorter than 2^32 bytes.
+    /// So it is what its compact text is read as with its numerals.
     pub value: Tree,
 }
 

@@ -6,7 +6,7 @@ ghost use Rattle.mw_storage.specs.Results.{IsResultOf};
 use crate::fault::Fault;
 use mw_json::Tree;
 
-/// The number that a value is.
+/// The number that a value is. A numeral that stands by its characters is none.
 pub(crate) fn number_of(tree: &Tree) -> Option<i64>
     ensures { result ≡ number_in (view tree.now) }
 {
