@@ -17,10 +17,10 @@ use Rattle.mw_protocol.specs.Packets.{change}
 use Rattle.mw_protocol.specs.Reading.{read_value, or_null, private_value}
 use Rattle.mw_protocol.specs.Records.{store}
 use Rattle.mw_protocol.specs.Rooms.{Room, sent, effect_in, member_in, members_in, affected, next}
-use Rattle.mw_protocol.specs.Standing.{Standing, steps}
+use Rattle.mw_protocol.specs.Standing.{Standing, step, steps, standing}
 use Rattle.mw_protocol.specs.Storage.{Kept, Refused, private_key, store_full, Changed, bytes_kept, is_too_much, value_of, put, before, is_private, refused_at, run_from, kept_after, set_case, ◌then◌}
 use Rattle.mw_protocol.specs.Storing.{is_kept, store_records, storing, refused_by, reply_to}
-use Rattle.mw_laws.specs.Stored.{hears_of, SetsAreTold, value_in, sets_nothing, RefusedSetsChangeNothing, IsGot, SetsAreGot}
+use Rattle.mw_laws.specs.Stored.{hears_of, SetsAreTold, value_in, sets_nothing, RefusedSetsChangeNothing, IsGot, RecordedIsGot, SetsAreGot}
 use Rattle.mw_laws.specs.Told.{telling_where}
 use Rattle.mw_laws.specs.Turns.{Turn, after_all, now}
 use Rattle.mw_laws.proofs.Each.{some_same, none_some}
@@ -28,7 +28,7 @@ use Rattle.mw_laws.proofs.Equal.{json_same}
 use Rattle.mw_laws.proofs.Getting.{got, gets_are_answered}
 use Rattle.mw_laws.proofs.Journal.{standing-append}
 use Rattle.mw_laws.proofs.Quiet.{answered, announced_to, hears_as}
-use Rattle.mw_laws.proofs.Stored.{put_same, turns_stay}
+use Rattle.mw_laws.proofs.Stored.{put_same, steps_other, turns_stay}
 
 pub refused_sets_change_nothing : RefusedSetsChangeNothing
 refused_sets_change_nothing room number m set r is refused =
@@ -133,6 +133,16 @@ kept_got room key value public kept =
           (all.0, all.1, all.2 key ∙ cond-true (has_text keys key) (Some (read_value room.seed (now room) key)) None has ∙ ap Some read);
     }
 
+pub recorded_is_got : RecordedIsGot
+recorded_is_got room journal more key value public is spared =
+    let before = standing room.seed journal in
+    let kept : value_of key (now room).storage ≡ Some value =
+    ap (λ records. value_in room.seed records key) is
+    ∙ ap (λ s. value_of key s.storage) (standing-append room.seed journal (store key value ∷ more))
+    ∙ steps_other key room.seed (step room.seed before (store key value)) more spared
+    ∙ put_same key value before.storage in
+    kept_got room key value public kept
+
 pub sets_are_got : SetsAreGot
 sets_are_got room number m set c is done =
     let later = λ (turns : List Turn). after_all (next room (sent number (change set))) turns in
@@ -141,5 +151,6 @@ sets_are_got room number m set c is done =
     record {
       kept = kept;
       got = λ turns none. kept_got (later turns) set.key c.new (public (now room).storage set c done) (kept turns none);
+      public = public (now room).storage set c done;
       replaced = λ first value replaces. replaced_new (now room).storage set c first value done replaces;
     }

@@ -50,7 +50,7 @@ stored_other key (status team slot number) kept h = refl
 stored_other key (hint g) kept h = refl
 stored_other key (hint_status team finder location number) kept h = refl
 
-steps_other : (key : List ℕ) (seed : Seed) (s : Standing) (rs : List Record) → list_all (spares key) rs ≡ true → value_of key (steps seed s rs).storage ≡ value_of key s.storage
+pub steps_other : (key : List ℕ) (seed : Seed) (s : Standing) (rs : List Record) → list_all (spares key) rs ≡ true → value_of key (steps seed s rs).storage ≡ value_of key s.storage
 steps_other key seed s [] h = refl
 steps_other key seed s (r ∷ rs) h =
     let parts = and_parts (spares key r) (list_all (spares key) rs) h in

@@ -12,7 +12,7 @@ use Rattle.mw_protocol.specs.Reading.{read_value}
 use Rattle.mw_protocol.specs.Records.{Record, checks, release, collect, status, hint, hint_status, store}
 use Rattle.mw_protocol.specs.Rooms.{Room, sent, member_in, next}
 use Rattle.mw_protocol.specs.Standing.{standing}
-use Rattle.mw_protocol.specs.Storage.{Refused, Changed, value_of, set_case}
+use Rattle.mw_protocol.specs.Storage.{Refused, Changed, is_private, value_of, set_case}
 use Rattle.mw_protocol.specs.Storing.{refused_by, store_records, reply_to}
 use Rattle.mw_laws.specs.Told.{recording_more, telling_where}
 use Rattle.mw_laws.specs.Turns.{Turn, happens, after_all, now}
@@ -103,6 +103,13 @@ pub record IsGot (room : Room) (key : List ℕ) (value : Json) : Type 0 where
       (retrieved record { keys = values; further = further })
       × (find_member key values ≡ Some value)
 
+-- what a journal has as a key's last record is got, in whatever life a room has the journal
+abbrev pub RecordedIsGot : Type 0
+RecordedIsGot =
+    (room : Room) (journal more : List Record) (key : List ℕ) (value : Json)
+    → is_private key ≡ false → room.journal ≡ journal ++ store key value ∷ more
+    → IsTrue (list_all (spares key) more) → IsGot room key value
+
 -- after a Set that isn't refused its new value is kept and got, until a session sends another Set of its key
 pub record SetIsGot (room : Room) (number : ℕ) (set : SetPacket) (c : Changed) : Type 0 where
   pub kept : (turns : List Turn) → IsTrue (list_all (sets_nothing set.key) turns)
@@ -110,6 +117,8 @@ pub record SetIsGot (room : Room) (number : ℕ) (set : SetPacket) (c : Changed)
       ≡ Some c.new
   pub got : (turns : List Turn) → IsTrue (list_all (sets_nothing set.key) turns)
       → IsGot (after_all (next room (sent number (change set))) turns) set.key c.new
+  -- its key isn't read alone
+  pub public : is_private set.key ≡ false
   -- where its last operation replaces the value, the new one is what that gives
   pub replaced : (first : List Operation) (value : Json)
       → set.operations ≡ first ++ record { name = codes "replace"; value = value } ∷ []

@@ -10,7 +10,7 @@ ghost use Rattle.mw_laws.specs.Naming.{JournalsAreNamed};
 ghost use Rattle.mw_laws.specs.Shows.{ShownIsChecked};
 ghost use Rattle.mw_laws.specs.Silence.{NoTextIsTold};
 ghost use Rattle.mw_laws.specs.Stored.{GetsAreAnswered, KeysStay, RefusedSetsChangeNothing};
-ghost use Rattle.mw_laws.specs.Stored.{SetsAreGot, SetsAreTold};
+ghost use Rattle.mw_laws.specs.Stored.{RecordedIsGot, SetsAreGot, SetsAreTold};
 ghost use Rattle.mw_laws.specs.Strangers.{StrangersHear, SlotsStay, StrangersAreAnswered, StrangersHearNoOthers};
 ghost use Rattle.mw_laws.specs.Tails.{TailsOfTheLastView, TakenWasOwed};
 ghost use Rattle.mw_laws.specs.Told.{EventsTell};
@@ -115,6 +115,12 @@ pub fn gets_are_answered()
 /// Get of the key is answered, until another Set of it comes.
 pub fn set_is_got()
     ensures { SetsAreGot }
+{}
+
+/// What the last record of a key holds is what each Get of the key is answered, in the life that
+/// recorded it and in each later one whose journal has the record.
+pub fn recorded_is_got()
+    ensures { RecordedIsGot }
 {}
 
 /// A Set that is refused is answered by why it is, and changes nothing.
