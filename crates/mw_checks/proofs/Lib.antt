@@ -1,6 +1,7 @@
 pub mod Counting
 pub mod Giving
 pub mod Keeping
+pub mod Kept
 pub mod News
 pub mod Numbering
 pub mod Releasing

@@ -1,4 +1,5 @@
-ghost use Rattle.std.specs.Prelude.{◌≡◌};
+ghost use Rattle.std.specs.Prelude.{◌≡◌, true};
+ghost use Rattle.mw_model.specs.Items.{NetItem};
 ghost use Rattle.mw_protocol.specs.Checks.{keeps};
 
 use mw_base::{NetItem, SlotId};
@@ -12,6 +13,15 @@ pub(crate) struct Handling {
 }
 
 impl Handling {
+    /// Whether it asks for items of each kind.
+    #[tactic(auto, using(crate::proofs::Kept::keeps_each))]
+    pub(crate) fn keeps_all(&self) -> bool
+        ensures { result ≡ true → (item : NetItem)
+            → keeps self.now.mask self.now.slot item ≡ true }
+    {
+        self.mask / 4 % 2 == 1 && self.mask / 2 % 2 == 1 && self.mask % 2 == 1
+    }
+
     /// Whether it asks for an item.
     pub(crate) fn keeps(&self, item: &NetItem) -> bool
         ensures { result ≡ keeps self.now.mask self.now.slot item.now }

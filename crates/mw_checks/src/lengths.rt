@@ -1,7 +1,7 @@
 ghost use Rattle.std.specs.Prelude.{◌≡◌, ◌≤◌, ◌<◌, ◌^◌, map, length, slice_get, option_to_list};
 ghost use Rattle.mw_model.specs.Seed.{slot_of};
 ghost use Rattle.mw_protocol.specs.Checks.{found_item, start_item, start_items};
-ghost use Rattle.mw_checks.specs.Rows.{one_if, standing};
+ghost use Rattle.mw_checks.specs.Rows.{AllBelow, one_if, standing};
 ghost use Rattle.mw_checks.specs.Views.{asked_of};
 
 use crate::handling::Handling;
@@ -46,8 +46,8 @@ fn is_counted(handling: &Handling, places: &Places, number: u32) -> bool
     }
 }
 
-/// How many of the items that stand at numbers are asked for.
-pub(crate) fn count_found(handling: &Handling, places: &Places, numbers: &[u32]) -> usize
+/// How many of the items that stand at numbers are asked for, one after the other.
+fn count_each(handling: &Handling, places: &Places, numbers: &[u32]) -> usize
     ensures count { result ≡ length (asked_of handling.now
         (map found_item (standing places.now.locations numbers.now))) }
     ensures few { result ≤ length numbers.now }
@@ -59,4 +59,18 @@ pub(crate) fn count_found(handling: &Handling, places: &Places, numbers: &[u32])
         }
     }
     count
+}
+
+/// How many of the items that stand at numbers are asked for.
+#[tactic(auto, using(crate::proofs::Kept::counted_all))]
+pub(crate) fn count_found(handling: &Handling, places: &Places, numbers: &[u32]) -> usize
+    requires { AllBelow (length places.now.locations) numbers.now }
+    ensures count { result ≡ length (asked_of handling.now
+        (map found_item (standing places.now.locations numbers.now))) }
+    ensures few { result ≤ length numbers.now }
+{
+    if handling.keeps_all() {
+        return numbers.len();
+    }
+    count_each(handling, places, numbers)
 }

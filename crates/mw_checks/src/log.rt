@@ -7,6 +7,7 @@ ghost use Rattle.mw_checks.specs.Fresh.{new_at, new_among};
 ghost use Rattle.mw_checks.specs.Kept.{KeptIn, AreReceived, AreFound};
 ghost use Rattle.mw_checks.specs.Log.{AreFresh, HasLogRoom, checks_of, given_by};
 ghost use Rattle.mw_checks.specs.Log.{view_of};
+ghost use Rattle.mw_checks.specs.Rows.{AllBelow};
 
 use crate::check::Check;
 use crate::fresh::{fresh_numbers, fresh_pairs};
@@ -138,7 +139,8 @@ impl CheckLog {
 
     /// The numbers of the items that a slot received in a team.
     fn received_row(&self, team: TeamId, slot: SlotId) -> &[u32]
-        ensures { AreReceived self.now team slot result.now }
+        ensures items { AreReceived self.now team slot result.now }
+        ensures below { AllBelow (length self.now.seed.locations) result.now }
     {
         self.rows.received_by(team, slot)
     }

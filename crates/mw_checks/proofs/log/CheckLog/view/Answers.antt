@@ -16,4 +16,4 @@ returns c =
     let own : c.self.inside.places ≡ seed = ap (λ (l : Log). l.seed) c.self.view_is in
     viewed record { slot = slot; mask = c.args.mask } record { skip = c.args.from; items = c.new.result } c.offer_own_starts.new.self c.offer_all.new.self c.args.from (start_items (slot_of c.self.inside.places slot)) (map found_item (standing c.self.inside.places.locations row)) c.new.ensures refl c.in_ok-offer_own_starts.ensures c.in_ok-offer_all.ensures
     ∙ ap (λ (s : Seed). drop c.args.from (filter (keeps c.args.mask slot) (start_items (slot_of s slot) ++ map found_item (standing s.locations row)))) own
-    ∙ ap (λ (is : List NetItem). drop c.args.from (filter (keeps c.args.mask slot) (start_items (slot_of seed slot) ++ is))) c.received_row.ensures
+    ∙ ap (λ (is : List NetItem). drop c.args.from (filter (keeps c.args.mask slot) (start_items (slot_of seed slot) ++ is))) c.received_row.ensures.items

@@ -2,7 +2,7 @@ use Rattle.std.proofs.Common.{◌≡◌, ◌≤◌, ◌+◌, drop, map, length}
 use Rattle.mw_protocol.specs.Checks.{found_item}
 use Rattle.mw_checks.specs.Rows.{standing}
 use Rattle.mw_checks.specs.Views.{asked_of}
-use Rattle.mw_checks.proofs.lengths.count_found.Given as goal
+use Rattle.mw_checks.proofs.lengths.count_each.Given as goal
 
 abbrev pub invariant-loop-number : goal.invariant-loop-number
 invariant-loop-number l =
