@@ -198,12 +198,14 @@ struct Nested;
 
 impl Theme for Nested {
     fn answer(alloc: Global, case: &str) -> Result<Text, Fail> {
-        let lists = part(case, 0).parse::<usize>()?;
+        let lists = part(case, 0).parse::<u8>()?;
+        let front = "[".repeat(alloc, usize::from(lists))?;
+        let end = "]".repeat(alloc, usize::from(lists))?;
         let mut bytes = Vec::from_slice(alloc, &[7, 0, 0, 0, 1, 107, 0, 0, 0])?;
-        bytes.push(lists.saturating_mul(2).saturating_add(3) as u8)?;
-        bytes.extend_from_slice("[".repeat(alloc, lists)?.as_bytes())?;
+        bytes.push(lists.saturating_mul(2).saturating_add(3))?;
+        bytes.extend_from_slice(front.as_bytes())?;
         bytes.extend_from_slice(b"1.5")?;
-        bytes.extend_from_slice("]".repeat(alloc, lists)?.as_bytes())?;
+        bytes.extend_from_slice(end.as_bytes())?;
         Ok(Text::of(alloc, begins(alloc, bytes.as_slice(), 0))?)
     }
 }

@@ -80,10 +80,11 @@ const KEPT: [(&[u8], &[u8]); 22] = [
 
 /// Whether a text's kept reading is written as another text.
 fn is_kept_as(alloc: Global, text: &[u8], written: &[u8]) -> Result<bool, Memory> {
-    match read_kept(alloc, text) {
-        Ok(tree) => Ok(can_write(&tree) && compact(alloc, &tree)?.as_slice() == written),
-        Err(_) => Ok(false),
-    }
+    let Ok(tree) = read_kept(alloc, text) else {
+        return Ok(false);
+    };
+    let again = compact(alloc, &tree)?;
+    Ok(can_write(&tree) && again.as_slice() == written)
 }
 
 #[test]
@@ -128,10 +129,15 @@ const NO_JSON: [&[u8]; 27] = [
     b"tru",
 ];
 
+/// Whether a text has no kept reading.
+fn is_no_json(alloc: Global, text: &[u8]) -> bool {
+    matches!(&read_kept(alloc, text), Err(JsonError::NoJson))
+}
+
 #[test]
 fn other_texts_are_not_kept(rt: HostRuntime) {
     for text in NO_JSON {
-        assert!(rt; matches!(read_kept(rt.alloc(), text), Err(JsonError::NoJson)));
+        assert!(rt; is_no_json(rt.alloc(), text));
     }
 }
 
