@@ -1,11 +1,13 @@
-ghost use Rattle.std.specs.Prelude.{◌≡◌, ◌+◌, ◌++◌, IfOk, OnOk, map, length};
+ghost use Rattle.std.specs.Prelude.{◌≡◌, ◌+◌, ◌++◌, false, IfOk, OnOk, map, length};
 ghost use Rattle.mw_checks.specs.Log.{checks_of};
 ghost use Rattle.mw_protocol.specs.Checks.{locations_in};
+ghost use Rattle.mw_protocol.specs.Connecting as plain;
 ghost use Rattle.mw_protocol.specs.Owed.{items_from, update_with, growth_owed as growth_owed_lem};
 ghost use Rattle.mw_protocol.specs.Standing.{points};
 ghost use Rattle.mw_packets_out.specs.View.{packet_view};
 ghost use Rattle.mw_effects.specs.News.{items_for, view_for, received_in, growth_in, points_before, points_after};
 ghost use Rattle.mw_effects.specs.Parts.{standing_of, grown, news_of, paid_by, IsLogged};
+ghost use Rattle.mw_owed.specs.Untouched.{IsUntouched};
 
 use mw_base::{List, Memory, NetItem};
 use mw_checks::CheckLog;
@@ -76,6 +78,7 @@ fn push_update(
 }
 
 /// The new locations of the member's slot and its points, where it has new ones or other points.
+#[tactic(auto, using(crate::proofs::Untouched::no_update))]
 fn add_update(
     alloc: Global,
     packets: &mut List<ServerPacket>,
@@ -90,6 +93,9 @@ fn add_update(
         (locations_in member.now.team member.now.slot (news_of effect.now))) }
 {
     let locations = locations_for_member(alloc, effect, member)?;
+    if locations.len() == 0 && paid_by(effect, member) == 0 {
+        return Ok(());
+    }
     let before = points_of(standing, member);
     let after = points_with(standing, effect, locations.len(), member)?;
     push_update(packets, before, after, locations)?;
@@ -176,8 +182,20 @@ fn add_items_owed(
     add_new_items(alloc, packets, log, effect, member)
 }
 
+/// Whether an effect's records may come to something for a slot.
+#[tactic(auto, using(crate::proofs::Untouched::nothing_new))]
+fn may_touch(effect: &Effect) -> bool
+    ensures { result ≡ false → (member : plain.Member) → IsUntouched effect.now member }
+{
+    if effect.new.len() > 0 {
+        return true;
+    }
+    effect.payer.is_some()
+}
+
 /// What a member is owed once an effect is done, beside the answer to its own packet and what is
 /// told to several.
+#[tactic(auto, using(crate::proofs::Untouched::nothing_grows))]
 fn growth_of(
     alloc: Global,
     standing: &Standing,
@@ -190,6 +208,9 @@ fn growth_of(
         ≡ growth_in whole standing.now effect.now member.now) }
 {
     let mut packets = List::new(alloc);
+    if !whole && !may_touch(effect) {
+        return Ok(packets);
+    }
     add_update(alloc, &mut packets, standing, effect, member)?;
     add_items_owed(alloc, &mut packets, &standing.log, effect, whole, member)?;
     Ok(packets)
