@@ -1,0 +1,2 @@
+pub mod MetKeys
+pub mod Naming
