@@ -11,7 +11,7 @@ use mw_link::Link;
 /// the tail from its index of what its session was to receive, and stands at that index in it by
 /// each later run's journal; what was sent over a link are the first of all messages that its
 /// session was owed; no item is received twice; and what a crash may leave is settled for a life to
-/// which the runs led, in which neither command refuses a journal.
+/// which the runs led, in which `drive` refuses no journal.
 ///
 /// It speaks of any folder that tells the journal's file, and of any links. Of each run it takes
 /// what a run keeps, which are the clauses `kept` of `cmd_drive` and `cmd_serve` where the run
