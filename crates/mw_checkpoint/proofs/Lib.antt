@@ -1,2 +1,6 @@
+pub mod Carrying
+pub mod HeldTexts
 pub mod MetKeys
 pub mod Naming
+pub mod Pairing
+pub mod Spelt

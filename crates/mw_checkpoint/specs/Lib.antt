@@ -1,6 +1,11 @@
 pub mod Choices
 pub mod Chosen
 pub mod Created
+pub mod Disks
 pub mod Keys
+pub mod Pair
+pub mod Preparing
 pub mod Refused
+pub mod Switching
 pub mod Thinning
+pub mod Whole

@@ -2,6 +2,10 @@
 use Rattle.std.specs.Prelude.{◌≡◌, ◌<◌, ℕ, List, Option, Some}
 use Rattle.mw_journal.specs.declared.error.OpenError.{OpenError}
 use Rattle.mw_journal.specs.declared.error.OpenError.TheVariants as open_error
+use Rattle.mw_disk.specs.declared.disk.DiskError.{DiskError}
+use Rattle.mw_disk.specs.declared.disk.DiskError.TheVariants as disk_error
+use Rattle.mw_journal.specs.declared.error.AppendError.{AppendError}
+use Rattle.mw_journal.specs.declared.error.AppendError.TheVariants as append_error
 use Rattle.mw_journal.specs.Refused.{IsNotJournal, IsOtherSeed}
 use Rattle.mw_checkpoint.specs.declared.error.PairError.{PairError}
 use Rattle.mw_checkpoint.specs.declared.error.PairError.TheVariants.{DiskFault, NotEmpty, NotJournal, OtherSeed, BadChoice, BadRecord, ChoiceFull, Memory}
@@ -14,6 +18,23 @@ pair_error_of place open_error.NotEmpty = NotEmpty place
 pair_error_of place (open_error.NotJournal at) = NotJournal place at
 pair_error_of place (open_error.OtherSeed found) = OtherSeed place found
 pair_error_of place open_error.Memory = Memory
+
+-- the error for one of the disk at a place
+abbrev pub disk_error_of : ℕ → DiskError → PairError
+disk_error_of place disk_error.Failed = DiskFault place
+disk_error_of place disk_error.Memory = Memory
+
+-- the error for one of an append to CHOICE
+abbrev pub choice_error_of : AppendError → PairError
+choice_error_of append_error.DiskFault = DiskFault 0
+choice_error_of (append_error.JournalFull len) = ChoiceFull len
+choice_error_of append_error.Memory = Memory
+
+-- the error for one of an append to a journal at a place that records have room in
+abbrev pub append_error_of : ℕ → AppendError → PairError
+append_error_of place append_error.DiskFault = DiskFault place
+append_error_of place (append_error.JournalFull len) = Memory
+append_error_of place append_error.Memory = Memory
 
 -- each error of `chosen`, where CHOICE tells its bytes or nothing, and the count of its disk before
 -- and after

@@ -1,7 +1,8 @@
 ghost use Rattle.std.specs.Prelude.{◌≡◌};
-ghost use Rattle.mw_checkpoint.specs.Refused.{pair_error_of};
+ghost use Rattle.mw_checkpoint.specs.Refused.{append_error_of, choice_error_of, disk_error_of, pair_error_of};
 
-use mw_journal::OpenError;
+use mw_disk::DiskError;
+use mw_journal::{AppendError, OpenError};
 use thiserror::Error;
 
 /// Why a call on the three files of a pair room gave nothing. A place is 0 for CHOICE, 1 for the
@@ -69,5 +70,37 @@ pub(crate) fn pair_error(place: u8, error: OpenError) -> PairError
         OpenError::NotJournal { at } => PairError::NotJournal { place, at },
         OpenError::OtherSeed { found } => PairError::OtherSeed { place, found },
         OpenError::Memory => PairError::Memory,
+    }
+}
+
+/// The error of a pair room for one of the disk at a place.
+pub(crate) fn disk_error(place: u8, error: DiskError) -> PairError
+    ensures { result ≡ disk_error_of place error }
+{
+    match error {
+        DiskError::Failed => PairError::DiskFault { place },
+        DiskError::Memory => PairError::Memory,
+    }
+}
+
+/// The error of a pair room for one of an append to CHOICE.
+pub(crate) fn choice_error(error: AppendError) -> PairError
+    ensures { result ≡ choice_error_of error }
+{
+    match error {
+        AppendError::DiskFault => PairError::DiskFault { place: 0 },
+        AppendError::JournalFull { len } => PairError::ChoiceFull { len },
+        AppendError::Memory => PairError::Memory,
+    }
+}
+
+/// The error of a pair room for one of an append to the journal at a place. A journal's records have
+/// room in one batch of another one, so none is full.
+pub(crate) fn append_error(place: u8, error: AppendError) -> PairError
+    ensures { result ≡ append_error_of place error }
+{
+    match error {
+        AppendError::DiskFault => PairError::DiskFault { place },
+        AppendError::JournalFull { len: _ } | AppendError::Memory => PairError::Memory,
     }
 }

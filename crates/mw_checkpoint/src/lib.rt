@@ -2,16 +2,24 @@
 //! the one that counts.
 #![tactic(auto)]
 
+mod appending;
 mod choosing;
 mod copying;
 mod creating;
 mod error;
 mod files;
 mod keys;
+mod prepared;
+mod preparing;
+mod reading;
+mod switching;
 mod thinning;
 
 pub use choosing::chosen;
 pub use creating::create_pair;
 pub use error::PairError;
 pub use files::Files;
+pub use prepared::Prepared;
+pub use preparing::prepare;
+pub use switching::{Kept, switch};
 pub use thinning::thin;
