@@ -2,7 +2,8 @@
 # Prints the time (passed, and of the processor) and memory of `drive` on a seed file of about 17 MB with a script of 2,000 checks over two slots, and on one of about 60 MB;
 # then on one of 64 slots with 3,125 locations each, with 20,000 checks over all slots and with 200,000, and a take after each twentieth. The sessions are silent,
 # but in one run more of 20,000 checks, in which each of the 64 sessions hears of each item that is sent. Last come 2,000 and 20,000 Sets on 100 keys, each of which ten of
-# 64 sessions watch, with a take after each twentieth. A run is stopped after 120 s.
+# 64 sessions watch, with a take after each twentieth, and 12 Bounces of 524,288 bytes each, which nobody hears. A run is stopped after 120 s.
+# Where valgrind is installed, it counts the instructions of a check and of an open too, by the differences of scripts.
 # Run after `rt run` in crates/mw_cli, which leaves the program.
 set -eu
 cd "$(dirname "$0")/.."
@@ -61,6 +62,22 @@ def write_sets(name, slots, keys, watchers, sets, pace):
     with open(folder + "/" + name, "w") as f:
         f.write("\n".join(lines) + "\n")
 
+def write_bounces(name, item, many):
+    """A script in which a slot connects and sends so many Bounces of as many bytes as a message may have, filled with this value; no session plays the slot that they name."""
+    front, back = '[{"cmd":"Bounce","slots":[2],"data":[', "]}]"
+    items = ",".join([item] * ((524288 - len(front + back)) // (len(item) + 1)))
+    message = front + items + " " * (524288 - len(front + items + back)) + back
+    lines = ["open", "text 1 " + connect % (1, '["NoText"]')] + ["text 1 " + message] * many
+    with open(folder + "/" + name, "w") as f:
+        f.write("\n".join(lines) + "\n")
+
+write_bounces("objects.txt", '{"cause":"fell into a pit","source":"Ann","time":1712345678.250}', 12)
+write_bounces("words.txt", '"what a player says who likes to talk, and who goes on and on and on about it"', 12)
+write_bounces("wholes.txt", "12345", 12)
+write_bounces("numerals.txt", "1.250", 12)
+write_script("none.txt", 64, 0, 20)
+with open(folder + "/none.txt") as f, open(folder + "/one_more.txt", "w") as more:
+    more.write(f.read() + "open\n")
 write_sets("sets.txt", 64, 100, 10, 2000, 20)
 write_sets("most_sets.txt", 64, 100, 10, 20000, 20)
 write_script("few.txt", 2, 2000, 2001)
@@ -84,6 +101,10 @@ runs = [
     ("many_slots_seed.json", "200,000 checks over 64 slots", "most.txt"),
     ("small_seed.json", "2,000 Sets on 100 watched keys", "sets.txt"),
     ("small_seed.json", "20,000 Sets on 100 watched keys", "most_sets.txt"),
+    ("small_seed.json", "12 Bounces of 524,288 bytes with objects", "objects.txt"),
+    ("small_seed.json", "the same with words", "words.txt"),
+    ("small_seed.json", "the same with whole numbers", "wholes.txt"),
+    ("small_seed.json", "the same with fractions", "numerals.txt"),
 ]
 for seed, name, script in runs:
     begin = time.time()
@@ -98,3 +119,9 @@ for seed, name, script in runs:
     spent, before = usage.ru_utime + usage.ru_stime - before, usage.ru_utime + usage.ru_stime
     print("%s, %s: %s (processor %.2f s), %d MB at most so far, %s" % (seed, name, end, spent, usage.ru_maxrss // 1024, out))
 PY
+command -v valgrind > /dev/null || exit 0
+count() {
+  valgrind --tool=callgrind --callgrind-out-file=/dev/null "$program" drive "$room/many_slots_seed.json" < "$room/$1" 2>&1 > /dev/null | awk '/Collected/ {print $NF}'
+}
+none=$(count none.txt)
+echo "instructions: $(( ($(count many.txt) - none) / 20000 )) a check of 20,000 over 64 slots, $(( $(count one_more.txt) - none )) an open"
