@@ -190,10 +190,17 @@ fn journal_of_another_seed(rt: HostRuntime) -> Result<(), Fail> {
 }
 
 /// A folder of Room A and its empty journal, on a disk whose calls of these numbers fail.
-fn folder_on(alloc: Global, plan: List<(u64, DiskError)>) -> Result<MemoryFolder, Fail> {
+pub(crate) fn folder_on(alloc: Global, plan: List<(u64, DiskError)>) -> Result<MemoryFolder, Fail> {
     let name = Text::of(alloc, "J")?;
     let folder = folder_with(alloc, ROOM_A, &[0])?;
     Ok(folder.with_failing_disk(name, plan)?)
+}
+
+/// The call of this number fails.
+pub(crate) fn plan_of(alloc: Global, failing: u64) -> Result<List<(u64, DiskError)>, Fail> {
+    let mut plan = List::new(alloc);
+    plan.push((failing, DiskError::Failed))?;
+    Ok(plan)
 }
 
 /// The same folder, with a disk that doesn't fail.
@@ -222,9 +229,7 @@ fn keeps_what_it_shows<R: Threads + Wait + Sync>(
     alloc: Global,
     failing: u64,
 ) -> Result<bool, Fail> {
-    let mut plan = List::new(alloc);
-    plan.push((failing, DiskError::Failed))?;
-    let mut folder = folder_on(alloc, plan)?;
+    let mut folder = folder_on(alloc, plan_of(alloc, failing)?)?;
     let shown = told(rt, alloc, &mut folder, "drive A J", ANN_TAKES, "")?;
     let mut folder = mended(alloc, folder)?;
     let next = told(rt, alloc, &mut folder, "drive A J", BOB_CONNECTS, "")?;

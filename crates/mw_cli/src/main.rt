@@ -59,6 +59,8 @@ mod chat_tests;
 #[cfg(test)]
 mod connect_tests;
 #[cfg(test)]
+mod fault_tests;
+#[cfg(test)]
 mod generate_tests;
 #[cfg(test)]
 mod harness;
