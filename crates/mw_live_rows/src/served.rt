@@ -19,13 +19,13 @@ use std::test::Fail;
 use std::thread::Threads;
 
 /// What Ann's client sends first, and then that she checked her first location.
-const ANN: [&str; 2] = [
+pub(crate) const ANN: [&str; 2] = [
     r#"[{"cmd":"Connect","game":"G","items_handling":7,"name":"Ann","tags":["NoText"],"version":{"build":0,"major":0,"minor":5}}]"#,
     r#"[{"cmd":"LocationChecks","locations":[101]}]"#,
 ];
 
 /// A new room of Room A on a disk without bytes.
-fn new_room<D: Disk + Drop>(alloc: Global, disk: D) -> Result<KeptRoom<D>, Fail>
+pub(crate) fn new_room<D: Disk + Drop>(alloc: Global, disk: D) -> Result<KeptRoom<D>, Fail>
     ensures fresh { IfOk result (λ room. HasLived D.may_leave D.told D.faults room []) }
 {
     let journal = create(alloc, disk, &digest(ROOM_A.as_bytes())).ok();
@@ -37,7 +37,7 @@ fn new_room<D: Disk + Drop>(alloc: Global, disk: D) -> Result<KeptRoom<D>, Fail>
 }
 
 /// The texts that come over a link.
-fn coming(alloc: Global, texts: &[&str]) -> Result<VecDeque<Heard>, Fail> {
+pub(crate) fn coming(alloc: Global, texts: &[&str]) -> Result<VecDeque<Heard>, Fail> {
     let mut list = VecDeque::new(alloc);
     for text in texts {
         list.push_back(Heard::Words(Text::of(alloc, text)?))?;
