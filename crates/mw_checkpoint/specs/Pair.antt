@@ -24,8 +24,8 @@ journal_at named files = pick named files.zero files.one
 abbrev pub journal_place : ℕ → ℕ
 journal_place named = pick named 1 2
 
--- the image of CHOICE stands for a text of bytes 0 and 1, and the image of the journal that the last
--- one names, or of the journal 0, stands for the records
+-- the image of CHOICE stands for a text of bytes 0 and 1, and the image of the journal that the
+-- last one names, or of the journal 0, stands for the records
 pub record PairStands (choice first second digest : List ℕ) (records : List Record) : Type 0 where
   pub text : List ℕ
   pub names : Stands choice digest text

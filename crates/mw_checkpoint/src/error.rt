@@ -94,8 +94,8 @@ pub(crate) fn choice_error(error: AppendError) -> PairError
     }
 }
 
-/// The error of a pair room for one of an append to the journal at a place. A journal's records have
-/// room in one batch of another one, so none is full.
+/// The error of a pair room for one of an append to the journal at a place. A journal's records
+/// have room in one batch of another one, so none is full.
 pub(crate) fn append_error(place: u8, error: AppendError) -> PairError
     ensures { result ≡ append_error_of place error }
 {

@@ -4,7 +4,8 @@ ghost use Rattle.mw_checkpoint.specs.Pair.{journal_at, other_of};
 /// The three files of a pair room.
 #[derive(Drop)]
 pub struct Files<D> {
-    /// The file CHOICE: a journal of bytes 0 and 1, of which the last names the journal that counts.
+    /// The file CHOICE: a journal of bytes 0 and 1, of which the last names the journal that
+    /// counts.
     pub choice: D,
     /// The journal 0, which counts where CHOICE names none.
     pub zero: D,

@@ -1,5 +1,5 @@
-//! Checkpoints: what still counts of a room's journal goes into a second one, and a third file names
-//! the one that counts.
+//! Checkpoints: what still counts of a room's journal goes into a second one, and a third file
+//! names the one that counts.
 #![tactic(auto)]
 
 mod appending;

@@ -93,7 +93,8 @@ fn thin_bytes(alloc: Global, records: &List<Record>) -> Result<(u64, Bytes), Mem
     Ok((kept.len() as u64, bytes))
 }
 
-/// Makes the journal at a place anew, with these bytes as its one batch, or none where they are none.
+/// Makes the journal at a place anew, with these bytes as its one batch, or none where they are
+/// none.
 fn write_anew<D: Disk>(
     alloc: Global,
     place: u8,

@@ -47,7 +47,8 @@ fn name<D: Disk>(
         (λ c. IsSettled c digest.now text (number ∷ [])) }
     ensures ok { IfOk result (λ d. (text : List ℕ) → HoldsText D.may_leave digest.now text choice
         → HoldsText D.may_leave digest.now (text ++ number ∷ []) d) }
-    ensures room { OnOk result ((len : ℕ) × (len ≤ 2 ^ 30) × IsLength (D.told choice) digest.now len) }
+    ensures room { OnOk result ((len : ℕ) × (len ≤ 2 ^ 30)
+        × IsLength (D.told choice) digest.now len) }
     ensures refused { IfErr result (λ e. RefusesSwitch (D.told choice) digest.now
         (D.faults choice) (D.faults e.0) e.1) }
     ensures settled { IfErr result (λ e. (f text : List ℕ) → D.told choice ≡ Some f
@@ -75,7 +76,8 @@ fn name<D: Disk>(
 /// those that count; and after Ok for these.
 ///
 /// `ChoiceFull` comes exactly where CHOICE would pass 1,073,741,824 bytes. `DiskFault` comes only
-/// where its disk's count rose. On a disk that tells its bytes there is no other error but `Memory`.
+/// where its disk's count rose. On a disk that tells its bytes there is no other error but
+/// `Memory`.
 pub fn switch<D: Disk>(
     alloc: Global,
     prepared: Prepared<D>,

@@ -1,5 +1,5 @@
-//! What `stress` plays: its world, its players and their seed, what their sessions send, and the lines
-//! that tell what they received.
+//! What `stress` plays: its world, its players and their seed, what their sessions send, and the
+//! lines that tell what they received.
 #![tactic(auto)]
 
 mod lines;

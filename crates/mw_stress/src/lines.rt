@@ -57,7 +57,8 @@ fn last(alloc: Global, numbers: &[i128]) -> Result<String, Memory>
 
 /// Adds the line of a slot.
 fn add_line(alloc: Global, out: &mut String, slot: u32, items: &[i128]) -> Result<(), Memory>
-    ensures { OnOk result (string_bytes out.new ≡ string_bytes out.old ++ slot_line slot items.now) }
+    ensures { OnOk result (string_bytes out.new ≡ string_bytes out.old
+        ++ slot_line slot items.now) }
 {
     let many = items.len();
     let last = last(alloc, items)?;
@@ -96,8 +97,9 @@ fn add_made(out: &mut String, stream: u64, spheres: u64) -> Result<(), Memory>
     Ok(())
 }
 
-/// The text of so many players, 1 to 64, with this seed's number: the try and how many spheres there
-/// are, and for each slot how many items its session received by what was taken, and the last of them.
+/// The text of so many players, 1 to 64, with this seed's number: the try and how many spheres
+/// there are, and for each slot how many items its session received by what was taken, and the last
+/// of them.
 pub fn text(
     alloc: Global,
     many: u32,

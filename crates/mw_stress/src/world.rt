@@ -195,8 +195,8 @@ fn wanted(alloc: Global) -> Result<List<u32>, Memory>
     Ok(wanted)
 }
 
-/// The world that `stress` plays: ten regions in a row, each behind a key of its own, with six spots
-/// in each; nine keys, six gems and three snares; all keys are wanted.
+/// The world that `stress` plays: ten regions in a row, each behind a key of its own, with six
+/// spots in each; nine keys, six gems and three snares; all keys are wanted.
 pub fn stress_world(alloc: Global) -> Result<World, Memory>
     ensures { IfOk result (λ w. w ≡ plain.world) }
 {
