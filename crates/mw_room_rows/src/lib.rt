@@ -42,3 +42,5 @@ mod rooms;
 mod server_packets;
 #[cfg(test)]
 mod storage;
+#[cfg(test)]
+mod storage_numerals;
