@@ -1,17 +1,13 @@
 -- What a text's kept reading is: in range and in order, and it can be written.
-use Rattle.std.proofs.Common.{◌≡◌, ◌≤◌, ℕ, List, Bool, true, false, cond, ◌&&◌, not, Result, Ok, Err, refl, ap₂, subst}
-use Rattle.std.specs.Prelude.{IfOk}
+use Rattle.std.proofs.Common.{◌≡◌, ℕ, List, Bool, true, false, cond, ◌&&◌, not, refl, ap₂, subst}
 use Rattle.std.specs.Str.Parse.{signed_digits_value}
 use Rattle.json.specs.Json as json
 use Rattle.json.specs.Tree as tree
-use Rattle.mw_model.specs.Json.{Json, whole, numeral, Items, Members, no_members, depth, IsWritable, ItemsAreWritable, MembersAreWritable}
+use Rattle.mw_model.specs.Json.{Json, whole, numeral, Items, Members, no_members, IsWritable, ItemsAreWritable, MembersAreWritable}
 use Rattle.mw_numerals.specs.Numerals.{is_number, is_whole}
 use Rattle.mw_numerals.proofs.Numerals.{whole_number, number_from}
 use Rattle.mw_json.specs.KeptReading.{IsKeptReading, kept_value, kept_items, kept_members}
 use Rattle.mw_json.specs.Valid.{IsValid, ItemsAreValid, MembersAreValid}
-use Rattle.mw_json.specs.View.{view}
-use Rattle.mw_json.specs.declared.error.JsonError.{JsonError}
-use Rattle.mw_json.specs.declared.tree.Tree.{Tree}
 use Rattle.mw_json.proofs.KeptAgain.{numeral_is, range_is}
 use Rattle.mw_json.proofs.KeptLemmas.{came, numbers}
 use Rattle.mw_json.proofs.Setting.{set_valid, set_writable}
@@ -51,14 +47,5 @@ mutual
       let one = good j h.0 in
       members_good ms _ h.1 (set_valid k (kept_value j) done one.0 g.0, set_writable k (kept_value j) done one.1 g.1)
 
-kept_good : (text : List ℕ) (j : Json) → IsKeptReading text j → Good j
+pub kept_good : (text : List ℕ) (j : Json) → IsKeptReading text j → Good j
 kept_good text j h = let c = came text j h.is in subst Good c.is (good c.value (numbers 127 text c.value c.tokens_are))
-
--- of each tree that is read
-pub all_valid : (bytes : List ℕ) (n : ℕ) (read : Result Tree JsonError) → IfOk read (λ t. IsKeptReading bytes (view t) × (depth (view t) ≤ n)) → IfOk read (λ t. IsValid (view t))
-all_valid bytes n (Ok t) h = (kept_good bytes (view t) h.0).0
-all_valid bytes n (Err e) h = tt
-
-pub all_writable : (bytes : List ℕ) (n : ℕ) (read : Result Tree JsonError) → IfOk read (λ t. IsKeptReading bytes (view t) × (depth (view t) ≤ n)) → IfOk read (λ t. IsWritable (view t))
-all_writable bytes n (Ok t) h = (kept_good bytes (view t) h.0).1
-all_writable bytes n (Err e) h = tt

@@ -1,8 +1,8 @@
 pub mod Building
+pub mod Entries
 pub mod Files
 pub mod Grammar
 pub mod KeptReading
-pub mod Marked
 pub mod Parts
 pub mod Paths
 pub mod Readers

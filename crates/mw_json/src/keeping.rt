@@ -1,150 +1,209 @@
-ghost use Rattle.std.specs.Prelude.{◌≡◌, ◌≢◌, ◌≤◌, ◌<◌, ◌∷◌, ◌↔◌, false, IfOk, IsSome, IsTrue, None, Some, IsUtf8, MatchOption};
-ghost use Rattle.json.specs.Json.{document};
-ghost use Rattle.serde_json.specs.Data.{Data};
-ghost use Rattle.serde_json.specs.Read.{read};
-ghost use Rattle.serde_json.specs.View.{view as data_view, items_view as data_items, members_view as data_members};
-ghost use Rattle.mw_model.specs.Json.{Json, depth, items_depth, members_depth, IsWritable};
-ghost use Rattle.mw_numerals.specs.Marks.{IsMarked};
-ghost use Rattle.mw_json.specs.KeptReading.{IsKeptReading, kept_reading};
-ghost use Rattle.mw_json.specs.Marked.{begins, of_string, of_name, of_marked, of_marked_items, of_marked_members};
+ghost use Rattle.std.specs.Prelude.{◌≡◌, ◌≢◌, ◌≤◌, ◌<◌, ◌↔◌, length, IfErr, IfOk, IsTrue, IsUtf8, None, OnOk, Some, option_map, string_bytes};
+ghost use Rattle.json.specs.Json.{items, members, parse_map, read_key, value};
+ghost use Rattle.mw_model.specs.Json.{Json, depth, items_depth, members_depth, no_members, IsWritable};
+ghost use Rattle.mw_model.specs.Trees.{set_member};
+ghost use Rattle.mw_json.specs.Entries.{entries_view};
+ghost use Rattle.mw_json.specs.KeptReading.{IsKeptReading, kept_items, kept_members, kept_number, kept_reading, kept_value};
 ghost use Rattle.mw_json.specs.Reading.{max_depth};
 ghost use Rattle.mw_json.specs.Valid.{IsValid};
-ghost use Rattle.mw_json.specs.View.{view, items_view, members_view};
+ghost use Rattle.mw_json.specs.View.{view, items_view, member_view, members_view};
 
 use crate::error::JsonError;
-use crate::read::number_of;
 use crate::tree::{Member, Tree};
-use json::{Scratch, is_valid};
+use json::{Reader, Scratch, Token};
 use mw_base::{List, Memory, Text};
-use mw_numerals::mark;
-use serde_json::{Category, Map, Value};
+use mw_numerals::whole_of;
 use std::alloc::Global;
+use std::collections::BTreeMap;
 
-/// What follows a first ASCII letter.
-fn after<'a>(marked: &'a str, letter: char) -> Option<&'a str>
-    requires { letter < 128 }
-    ensures { MatchOption result (begins letter marked.now ≡ false)
-        (λ rest. marked.now ≡ letter ∷ rest.now) }
+/// The tree of a number with these characters.
+fn number_of_text(alloc: Global, text: &str) -> Result<Tree, Memory>
+    ensures { IfOk result (λ t. view t ≡ kept_number text.now) }
 {
-    marked.strip_prefix(letter)
-}
-
-/// What a string of a marked text stands for.
-fn words_of(alloc: Global, marked: &str) -> Result<Tree, Memory>
-    ensures { IfOk result (λ t. view t ≡ of_string marked.now) }
-{
-    if let Some(text) = after(marked, 's') {
-        return Ok(Tree::Words(Text::of(alloc, text)?));
+    match whole_of(text) {
+        Some(number) => Ok(Tree::Whole(number)),
+        None => Ok(Tree::Numeral(Text::of(alloc, text)?)),
     }
-    if let Some(text) = after(marked, 'n') {
-        return Ok(Tree::Numeral(Text::of(alloc, text)?));
+}
+
+/// The next name of an object, none at its end.
+fn next_name<'a>(reader: &mut Reader<'a>) -> Result<Option<&'a str>, JsonError>
+    ensures ok { IfOk result
+        (λ name. read_key reader.old ≡ Some (option_map (λ s. s.now) name, reader.new)) }
+    ensures no_json { IfErr result
+        (λ e. (e ≡ JsonError.NoJson) × (read_key reader.old ≡ None)) }
+{
+    match reader.next_key() {
+        Ok(name) => Ok(name),
+        Err(_) => Err(JsonError::NoJson),
     }
-    Ok(Tree::Words(Text::of(alloc, marked)?))
 }
 
-/// What a name of a marked text stands for.
-fn name_of(alloc: Global, marked: &str) -> Result<Text, Memory>
-    ensures { IfOk result (λ t. t ≡ of_name marked.now) }
+/// The members that a map holds, in its order.
+fn members_of(alloc: Global, found: BTreeMap<String, Tree>) -> Result<List<Member>, Memory>
+    ensures { IfOk result (λ ms. members_view ms ≡ entries_view found.entries) }
 {
-    Text::of(alloc, after(marked, 's').unwrap_or(marked))
+    let mut members = List::with_capacity(alloc, found.len())?;
+    for (name, value) in found {
+        let name = Text::from_string(name);
+        members.push(Member { name, value })?;
+    }
+    Ok(members)
 }
 
-/// The tree of a marked text's value. Each part of the value is freed as its tree is made.
-#[cycle(kept_tree)]
-fn kept_tree(alloc: Global, value: Value, room: usize) -> Result<Tree, JsonError>
-    ensures ok { IfOk result (λ t. (view t ≡ of_marked (data_view value))
-        × (depth (view t) ≤ room)) }
-    ensures too_deep { result ≡ Err JsonError.TooDeep
-        → room < depth (of_marked (data_view value)) }
-    ensures json { result ≢ Err JsonError.NoJson }
+/// Puts a member into a map, in the place of one with its name.
+fn put(found: &mut BTreeMap<String, Tree>, name: String, value: Tree) -> Result<(), Memory>
+    ensures { OnOk result (entries_view found.new.entries
+        ≡ set_member (string_bytes name) (view value) (entries_view found.old.entries)) }
 {
-    match value {
-        Value::Null => Ok(Tree::Null),
-        Value::Bool(b) => Ok(Tree::Flag(b)),
-        Value::Number(n) => Ok(number_of(&n)),
-        Value::String(s) => Ok(words_of(alloc, s.as_str())?),
-        Value::Array(items) => {
-            if room == 0 {
-                return Err(JsonError::TooDeep);
+    match found.insert(name, value) {
+        Ok(_) => Ok(()),
+        Err(_) => Err(Memory),
+    }
+}
+
+/// The tree of the next value, in which lists and objects nest no deeper than this.
+#[cycle(read_value)]
+fn read_value(alloc: Global, reader: &mut Reader<'_>, levels: usize) -> Result<Tree, JsonError>
+    ensures ok { IfOk result (λ t. parse_map kept_value (value levels reader.old)
+        ≡ Some (view t, reader.new)) }
+    ensures shorter { OnOk result (length reader.new < length reader.old) }
+    ensures no_json { result ≡ Err JsonError.NoJson → value levels reader.old ≡ None }
+    ensures deep { result ≢ Err JsonError.TooDeep }
+{
+    let token = reader.next().ok_or(JsonError::NoJson)?;
+    match token {
+        Token::String(text) => Ok(Tree::Words(Text::of(alloc, text)?)),
+        Token::Number(text) => Ok(number_of_text(alloc, text)?),
+        Token::Bool(flag) => Ok(Tree::Flag(flag)),
+        Token::Null => Ok(Tree::Null),
+        Token::EndObject | Token::EndArray | Token::Key(_) | Token::Bad => Err(JsonError::NoJson),
+        Token::BeginArray => {
+            if levels == 0 {
+                return Err(JsonError::NoJson);
             }
-            Ok(Tree::Many(kept_items(alloc, items, room - 1)?))
+            Ok(Tree::Many(read_items(alloc, reader, levels - 1)?))
         }
-        Value::Object(members) => {
-            if room == 0 {
-                return Err(JsonError::TooDeep);
+        Token::BeginObject => {
+            if levels == 0 {
+                return Err(JsonError::NoJson);
             }
-            Ok(Tree::Members(kept_members(alloc, members, room - 1)?))
+            let found = read_members(alloc, reader, levels - 1)?;
+            Ok(Tree::Members(members_of(alloc, found)?))
         }
     }
 }
 
-#[cycle(kept_tree)]
-fn kept_items(alloc: Global, items: Vec<Value>, room: usize) -> Result<List<Tree>, JsonError>
-    ensures ok { IfOk result (λ ts. (items_view ts ≡ of_marked_items (data_items items.items))
-        × (items_depth (items_view ts) ≤ room)) }
-    ensures too_deep { result ≡ Err JsonError.TooDeep
-        → room < items_depth (of_marked_items (data_items items.items)) }
-    ensures json { result ≢ Err JsonError.NoJson }
-{
-    let mut found = List::with_capacity(alloc, items.len())?;
-    for item in items {
-        found.push(kept_tree(alloc, item, room)?)?;
-    }
-    Ok(found)
-}
-
-#[cycle(kept_tree)]
-fn kept_members(
+/// The trees of a list's elements.
+#[cycle(read_value)]
+fn read_items(
     alloc: Global,
-    members: Map<String, Value>,
-    room: usize,
-) -> Result<List<Member>, JsonError>
-    ensures ok { IfOk result (λ ms.
-        (members_view ms ≡ of_marked_members (data_members members.entries))
-        × (members_depth (members_view ms) ≤ room)) }
-    ensures too_deep { result ≡ Err JsonError.TooDeep
-        → room < members_depth (of_marked_members (data_members members.entries)) }
-    ensures json { result ≢ Err JsonError.NoJson }
+    reader: &mut Reader<'_>,
+    levels: usize,
+) -> Result<List<Tree>, JsonError>
+    ensures ok { IfOk result (λ ts.
+        parse_map kept_items (items (value levels) (length reader.old) reader.old)
+        ≡ Some (items_view ts, reader.new)) }
+    ensures shorter { OnOk result (length reader.new < length reader.old) }
+    ensures no_json { result ≡ Err JsonError.NoJson
+        → items (value levels) (length reader.old) reader.old ≡ None }
+    ensures deep { result ≢ Err JsonError.TooDeep }
 {
-    let mut found = List::with_capacity(alloc, members.len())?;
-    for (key, member) in members {
-        let name = name_of(alloc, key.as_str())?;
-        let value = kept_tree(alloc, member, room)?;
-        found.push(Member { name, value })?;
+    let mut found = List::new(alloc);
+    'items: while !reader.take_end_array() {
+        let item = read_value(alloc, reader, levels)?;
+        found.push(item)?;
     }
     Ok(found)
 }
 
-/// Whether a text is JSON.
-fn is_json(alloc: Global, text: &str) -> Result<bool, Memory>
-    ensures { IfOk result (λ b. IsTrue b ↔ IsSome (document text.now)) }
+/// The members of an object, by their names: of several with one name the last.
+#[cycle(read_value)]
+fn read_members(
+    alloc: Global,
+    reader: &mut Reader<'_>,
+    levels: usize,
+) -> Result<BTreeMap<String, Tree>, JsonError>
+    ensures ok { IfOk result (λ m. parse_map (λ ms. kept_members ms no_members)
+        (members (value levels) (length reader.old) reader.old)
+        ≡ Some (entries_view m.entries, reader.new)) }
+    ensures shorter { OnOk result (length reader.new < length reader.old) }
+    ensures no_json { result ≡ Err JsonError.NoJson
+        → members (value levels) (length reader.old) reader.old ≡ None }
+    ensures deep { result ≢ Err JsonError.TooDeep }
+{
+    let mut found = BTreeMap::new(alloc);
+    'members: while let Some(name) = next_name(reader)? {
+        let name = Text::of(alloc, name)?.into_string();
+        let value = read_value(alloc, reader, levels)?;
+        put(&mut found, name, value)?;
+    }
+    Ok(found)
+}
+
+/// Whether a tree nests no deeper than this.
+#[cycle(nests_within)]
+fn nests_within(tree: &Tree, room: usize) -> bool
+    ensures { IsTrue result ↔ (depth (view tree.now) ≤ room) }
+{
+    match tree {
+        Tree::Null
+        | Tree::Flag(_)
+        | Tree::Whole(_)
+        | Tree::NotWhole
+        | Tree::Numeral(_)
+        | Tree::Words(_) => true,
+        Tree::Many(items) => room != 0 && items_nest_within(items.as_slice(), room - 1),
+        Tree::Members(members) => room != 0 && members_nest_within(members.as_slice(), room - 1),
+    }
+}
+
+#[cycle(nests_within)]
+fn items_nest_within(items: &[Tree], room: usize) -> bool
+    ensures { IsTrue result ↔ (items_depth (items_view items.now) ≤ room) }
+{
+    for item in items {
+        if !nests_within(item, room) {
+            return false;
+        }
+    }
+    true
+}
+
+#[cycle(nests_within)]
+fn member_nests_within(member: &Member, room: usize) -> bool
+    ensures { IsTrue result ↔ (depth (member_view member.now).1 ≤ room) }
+{
+    nests_within(&member.value, room)
+}
+
+#[cycle(nests_within)]
+fn members_nest_within(members: &[Member], room: usize) -> bool
+    ensures { IsTrue result ↔ (members_depth (members_view members.now) ≤ room) }
+{
+    for member in members {
+        if !member_nests_within(member, room) {
+            return false;
+        }
+    }
+    true
+}
+
+/// The tree of a whole text, however deep it is.
+fn read_whole(alloc: Global, text: &str) -> Result<Tree, JsonError>
+    ensures ok { IfOk result (λ t. kept_reading text.now ≡ Some (view t)) }
+    ensures no_json { result ≡ Err JsonError.NoJson → kept_reading text.now ≡ None }
+    ensures deep { result ≢ Err JsonError.TooDeep }
 {
     let mut scratch = Scratch::new(alloc);
-    Ok(is_valid(text, &mut scratch)?)
-}
-
-fn marked_of(alloc: Global, bytes: &[u8]) -> Result<Vec<u8>, Memory>
-    ensures { IfOk result (λ m. IsMarked bytes.now m.items) }
-{
-    Ok(mark(alloc, bytes)?)
-}
-
-/// The tree of a marked text.
-fn read_marked(alloc: Global, marked: &[u8]) -> Result<Tree, JsonError>
-    ensures ok { IfOk result (λ t. (d : Data) × (read marked.now ≡ Some d)
-        × (view t ≡ of_marked d) × (depth (view t) ≤ max_depth)) }
-    ensures no_json { result ≡ Err JsonError.NoJson → IsUtf8 marked.now
-        → read marked.now ≡ None }
-    ensures too_deep { result ≡ Err JsonError.TooDeep
-        → (d : Data) × (read marked.now ≡ Some d) × (max_depth < depth (of_marked d)) }
-{
-    match Value::from_slice(alloc, marked) {
-        Ok(value) => kept_tree(alloc, value, 64),
-        Err(e) => match e.classify() {
-            Category::Memory => Err(JsonError::Memory),
-            _ => Err(JsonError::NoJson),
-        },
+    let Ok(mut reader) = Reader::new(text, &mut scratch) else {
+        return Err(JsonError::Memory);
+    };
+    let tree = read_value(alloc, &mut reader, 127)?;
+    if reader.next().is_some() {
+        return Err(JsonError::NoJson);
     }
+    Ok(tree)
 }
 
 /// Reads a text with its numerals: each that is no plain whole number, or lies outside -2^63 to
@@ -162,9 +221,9 @@ pub fn read_kept(alloc: Global, bytes: &[u8]) -> Result<Tree, JsonError>
     let Ok(text) = std::str::from_utf8(bytes) else {
         return Err(JsonError::NoJson);
     };
-    if !is_json(alloc, text)? {
-        return Err(JsonError::NoJson);
+    let tree = read_whole(alloc, text)?;
+    if !nests_within(&tree, 64) {
+        return Err(JsonError::TooDeep);
     }
-    let marked = marked_of(alloc, bytes)?;
-    read_marked(alloc, marked.as_slice())
+    Ok(tree)
 }

@@ -10,5 +10,5 @@ mod unmarking;
 
 pub use laws::{marks_are_read, marks_are_undone, numerals_are_told};
 pub use marking::mark;
-pub use numeral::is_kept;
+pub use numeral::{is_kept, whole_of};
 pub use unmarking::unmark;

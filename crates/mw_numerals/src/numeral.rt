@@ -1,4 +1,5 @@
-ghost use Rattle.std.specs.Prelude.{◌≡◌, true};
+ghost use Rattle.std.specs.Prelude.{◌≡◌, MatchOption, false, true};
+ghost use Rattle.std.specs.Str.Parse.{signed_digits_value};
 ghost use Rattle.std.specs.List.{list_all};
 ghost use Rattle.mw_numerals.specs.Numerals.{is_numeral_byte as is_numeral_byte_lem, is_in_range as is_in_range_lem, is_written as is_written_lem, is_whole as is_whole_lem, is_kept as is_kept_lem};
 
@@ -30,14 +31,23 @@ fn is_written(number: i128, text: &str) -> bool
     is_in_range(number) && Buffer::new().format(number) == text
 }
 
+/// The whole number from -2^63 to 2^64 - 1 that is written like this, if one is.
+pub fn whole_of(text: &str) -> Option<i128>
+    ensures { MatchOption result (is_whole_lem text.now ≡ false)
+        (λ z. (is_whole_lem text.now ≡ true) × (z ≡ signed_digits_value 10 text.now)) }
+{
+    match text.parse::<i128>() {
+        Ok(number) if is_written(number, text) => Some(number),
+        Ok(_) => None,
+        Err(_) => None,
+    }
+}
+
 /// Whether a whole number from -2^63 to 2^64 - 1 is written like this.
 fn is_whole(text: &str) -> bool
     ensures { result ≡ is_whole_lem text.now }
 {
-    match text.parse::<i128>() {
-        Ok(number) => is_written(number, text),
-        Err(_) => false,
-    }
+    whole_of(text).is_some()
 }
 
 /// Whether a text is a numeral of JSON that no whole number from -2^63 to 2^64 - 1 is written as:

@@ -1,5 +1,5 @@
 -- A value's text: when it is the compact text of its own kept reading.
-use Rattle.std.proofs.Common.{◌≡◌, ◌<◌, ◌≤◌, ◌^◌, ◌&&◌, ◌↔◌, ℕ, pos, negsuc, List, length, Bool, true, false, Some, None, Ok, refl, sym, subst, arith}
+use Rattle.std.proofs.Common.{◌≡◌, ◌<◌, ◌^◌, ◌&&◌, ◌↔◌, ℕ, pos, negsuc, List, length, Bool, true, false, Some, None, refl, sym, arith}
 use Rattle.std.specs.Prelude.{IsTrue, IsUtf8, bytes_eq, nat_le, if◌then◌else◌}
 use Rattle.std.specs.Str.{is_utf8}
 use Rattle.std.proofs.lemmas.Bool.{ltb-true, le-leb, leb-true}
@@ -11,10 +11,8 @@ use Rattle.mw_protocol.specs.Spelled.{IsValue}
 use Rattle.mw_json.specs.KeptReading.{kept_reading, IsKeptReading}
 use Rattle.mw_json.specs.Reading.{max_depth}
 use Rattle.mw_json.specs.Valid.{IsValid, ItemsAreValid, MembersAreValid}
-use Rattle.mw_json.specs.TreeCode.{written, stands_for_it}
-use Rattle.mw_json.specs.View.{view}
 use Rattle.mw_json.proofs.KeptAgain.{is_kept_one, numeral_is}
-use Rattle.mw_json.proofs.KeptGood.{all_valid}
+use Rattle.mw_json.proofs.KeptGood.{kept_good}
 use Rattle.mw_records.specs.Reading.{IsRead, is_writable, items_are_writable, members_are_writable, is_compact, compact_value, value_of}
 
 -- ---- tests
@@ -124,11 +122,9 @@ mutual
   members_ordered no_members h = tt
   members_ordered (member k j ms) h = (ordered j h.0, h.1, members_ordered ms h.2)
 
--- what a text is read as is valid, as the tree that is read of it is
+-- what a text is read as is valid
 pub kept_valid : (text : List ℕ) (j : Json) → IsKeptReading text j → IsValid j
-kept_valid text j h =
-    let tree : view (written j) ≡ j = stands_for_it j in
-    subst IsValid tree (all_valid text (depth j) (Ok (written j)) (subst (λ i. IsKeptReading text i × (depth i ≤ depth j)) (sym tree) (h, omega arith)))
+kept_valid text j h = (kept_good text j h).0
 
 -- ---- a value's text
 

@@ -1,5 +1,0 @@
-use Rattle.mw_numerals.proofs.Numerals.{not_whole}
-use Rattle.mw_numerals.proofs.numeral.is_whole.Goals as goal
-
-pub returns-in-Err : goal.returns-in-Err
-returns-in-Err c = not_whole c.args.text.now c.in-Err.ensures.value.0
