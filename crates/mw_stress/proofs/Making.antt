@@ -1,10 +1,12 @@
 -- What is made of the joint.
-use Rattle.std.proofs.Common.{◌≡◌, ◌∙◌, ℕ, List, [], ◌∷◌, Ok, length, sym, subst, ap₂}
+use Rattle.std.proofs.Common.{◌≡◌, ◌∙◌, ℕ, List, [], ◌∷◌, Ok, Err, length, refl, sym, subst, ap₂}
 use Rattle.mw_model.specs.Seed.{Seed, Spot}
 use Rattle.mw_multi.specs.World.{World}
 use Rattle.mw_multi.specs.Players.{Players}
 use Rattle.mw_multi.specs.Joint.{Joint}
-use Rattle.mw_multi.specs.JointOf.{joint_of}
+use Rattle.mw_multi.specs.JointOf.{Gives, joint_of}
+use Rattle.mw_multi.specs.declared.refusal.JointRefusal.{JointRefusal}
+use Rattle.mw_multi.specs.declared.refusal.JointRefusal.TheVariants.{GameTwice, UnknownName, TooManyPlaces, TooMuchText, Memory}
 use Rattle.mw_multi.specs.Placement.{Put}
 use Rattle.mw_fill.specs.Generated.{CanBeTried, IsFirst, AreStuck, IsRefused}
 use Rattle.mw_fill.specs.declared.seed.GenerateError.TheVariants.{NotBeatable, TooManyItems}
@@ -48,3 +50,15 @@ module _ (many seed : ℕ) (worlds : List World) (played : Players) (joint : Joi
 
     pub always_roomy : (have room : ℕ) → IsRefused joint seed 100 (TooManyItems have room) → ⊥
     always_roomy have room refused = roomy many seed have room (subst (λ j. IsRefused j seed 100 (TooManyItems have room)) joint_so refused)
+
+-- a refusal of the tables is want of memory, for they can be joined
+module _ (many : ℕ) (worlds : List World) (played : Players) (worlds_are : worlds ≡ plain.world ∷ []) (played_are : played ≡ plain.players many) (crowd : IsCrowd many) where
+  never : (refusal : JointRefusal) → joint_of worlds played ≡ Err refusal → ⊥
+  never refusal is = let same : Ok (stress_joint many) ≡ Err refusal = sym (joined many crowd) ∙ sym (ap₂ joint_of worlds_are played_are) ∙ is in cc
+
+  pub only_memory : (refusal : JointRefusal) → Gives (Err refusal) (joint_of worlds played) → refusal ≡ Memory
+  only_memory Memory gives = refl
+  only_memory (GameTwice index) gives = absurd (never (GameTwice index) (gives (λ e. cc)))
+  only_memory (UnknownName slot option index) gives = absurd (never (UnknownName slot option index) (gives (λ e. cc)))
+  only_memory (TooManyPlaces have) gives = absurd (never (TooManyPlaces have) (gives (λ e. cc)))
+  only_memory (TooMuchText have) gives = absurd (never (TooMuchText have) (gives (λ e. cc)))

@@ -14,7 +14,7 @@ use crate::players::stress_players;
 use crate::world::stress_world;
 use mw_base::{List, Memory};
 use mw_fill::{GenerateError, Seed, generate};
-use mw_multi::{Joint, Players, World};
+use mw_multi::{Joint, JointRefusal, Players, World};
 use mw_multidata::Multidata;
 use mw_seeds::seed_file;
 use mw_spheres::spheres;
@@ -84,6 +84,19 @@ fn seed_of(
     })
 }
 
+/// The want of memory that a refusal is: the tables can be joined, by the law below.
+fn want_of_memory(refusal: JointRefusal) -> Memory
+    requires { refusal ≡ JointRefusal.Memory }
+{
+    match refusal {
+        JointRefusal::Memory => Memory,
+        JointRefusal::GameTwice { .. }
+        | JointRefusal::UnknownName { .. }
+        | JointRefusal::TooManyPlaces { .. }
+        | JointRefusal::TooMuchText { .. } => unreachable!(),
+    }
+}
+
 /// The seed of the world and its players.
 #[tactic(auto, using(crate::proofs::Files::one_world, crate::proofs::Making::made_so, crate::proofs::Making::stuck_so))]
 fn made_from(
@@ -99,9 +112,9 @@ fn made_from(
     ensures ok { IfOk result (λ s. IsStressSeed many seed s.stream s.spheres s.multidata) }
     ensures err { IfErr result (IsUnmade many seed) }
 {
-    // The tables can be joined, by the law below, so that memory alone may be wanting.
-    let Ok(joint) = Joint::build(alloc, worlds, players) else {
-        return Err(StressError::Memory);
+    let joint = match Joint::build(alloc, worlds, players) {
+        Ok(joint) => joint,
+        Err(refusal) => return Err(StressError::from(want_of_memory(refusal))),
     };
     match generate(alloc, &joint, seed, 100) {
         Ok(found) => Ok(seed_of(alloc, players, &joint, seed, &found)?),
