@@ -233,24 +233,30 @@ fn a_torn_gate_is_shut(rt: HostRuntime) -> Result<(), Fail> {
     holds(rt.alloc(), &case)
 }
 
-/// How many bytes a journal of one record is cut to, and where it isn't one then.
-const CUT_CASES: &str = "0 | 0
-7 | 7
-8 | 8
-39 | 39
-40 | 40
-41 | 41
-44 | 41
-45 | 45
-60 | 45
-61 | 61";
+/// To how many bytes a journal of one record is cut, at least and at most, and where it isn't one
+/// then: at its end where no place stands.
+const CUT_CASES: &str = "0 | 40
+41 | 44 | 41
+45 | 60 | 45
+61 | 61 | 61";
 
-/// Whether a case of a cut is so.
+/// Whether a journal that is cut to so many bytes isn't one at this place.
+fn is_none_at(alloc: Global, count: usize, at: u64) -> Result<bool, Memory> {
+    let error = refusal(alloc, &ONE[..count.min(62)], &EMPTY, false)?;
+    Ok(error == Some(OpenError::NotJournal { at }))
+}
+
+/// Whether a case of cuts is so.
 fn is_cut_case(alloc: Global, case: &str) -> Result<bool, Fail> {
-    let count = part(case, 0).parse::<usize>()?;
-    let at = part(case, 1).parse::<u64>()?;
-    let error = refusal(alloc, &ONE[..count.min(62)], &EMPTY, false);
-    Ok(error == Ok(Some(OpenError::NotJournal { at })))
+    let low = part(case, 0).parse::<usize>()?;
+    let high = part(case, 1).parse::<usize>()?;
+    let place = part(case, 2).parse::<u64>().ok();
+    for count in low..=high {
+        if !is_none_at(alloc, count, place.unwrap_or(count as u64))? {
+            return Ok(false);
+        }
+    }
+    Ok(true)
 }
 
 #[test]
