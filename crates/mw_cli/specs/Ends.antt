@@ -8,9 +8,10 @@ use Rattle.mw_offline.specs.Generating.{GenerateEnds}
 use Rattle.mw_offline.specs.Checking.{CheckEnds}
 use Rattle.mw_offline.specs.FilesAround.{FilesAround}
 use Rattle.mw_offline.specs.NewRooms.{NewRoomEnds}
+use Rattle.mw_offline.specs.Stressing.{StressEnds}
 use Rattle.mw_words.specs.declared.command_line.CommandLine.{CommandLine}
 use Rattle.mw_words.specs.declared.command_line.ServeWords.{ServeWords}
-use Rattle.mw_words.specs.declared.command_line.CommandLine.TheVariants.{Generate, Check, Reach, NewRoom, Drive, Serve}
+use Rattle.mw_words.specs.declared.command_line.CommandLine.TheVariants.{Generate, Check, Reach, NewRoom, Drive, Serve, Stress}
 
 -- what the folder's files were and are and what a crash may leave of them, the input before and
 -- after with what it tells is left, what the out sink held before and after and how often it failed,
@@ -49,3 +50,4 @@ LineEnds (NewRoom w) status a = NewRoomEnds status a.files w a.out a.told
 LineEnds (Drive w) status a =
     DriveEnds a.left status a.files w a.input a.input_after a.out a.told
 LineEnds (Serve w) status a = a.serves status w
+LineEnds (Stress w) status a = StressEnds status w a.out a.told

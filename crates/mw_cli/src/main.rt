@@ -85,6 +85,8 @@ mod session_tests;
 #[cfg(test)]
 mod storage_tests;
 #[cfg(test)]
+mod stress_tests;
+#[cfg(test)]
 mod team_tests;
 #[cfg(test)]
 mod tests;

@@ -13,7 +13,9 @@ ghost use Rattle.mw_offline.specs.Checking.{CheckEnds};
 ghost use Rattle.mw_offline.specs.FilesAround.{files_around};
 ghost use Rattle.mw_offline.specs.NewRooms.{NewRoomEnds};
 ghost use Rattle.mw_words.specs.declared.command_line.ServeWords.{ServeWords};
-ghost use Rattle.mw_words.specs.Words.{IsGenerate, IsCheck, IsReach, IsNewRoom, IsDrive, IsServe};
+ghost use Rattle.mw_words.specs.declared.command_line.StressWords.{StressWords};
+ghost use Rattle.mw_offline.specs.Stressing.{StressEnds};
+ghost use Rattle.mw_words.specs.Words.{IsGenerate, IsCheck, IsReach, IsNewRoom, IsDrive, IsServe, IsStress};
 ghost use Rattle.mw_words.specs.Lines.{IsNoCommand, HasRanges, HasTries};
 ghost use Rattle.mw_session.specs.Desks.{AreAll, IsWithin};
 ghost use Rattle.mw_session.specs.Numbers.{all_numbers, NoneTwice};
@@ -26,7 +28,7 @@ use mw_base::{List, Text};
 use mw_causes::{end_without_memory, tell};
 use mw_edges::{Folder, Sink, Source};
 use mw_link::Gate;
-use mw_offline::{cmd_check, cmd_drive, cmd_generate, cmd_new_room, cmd_reach};
+use mw_offline::{cmd_check, cmd_drive, cmd_generate, cmd_new_room, cmd_reach, cmd_stress};
 use mw_serve::cmd_serve;
 use mw_session::Served;
 use mw_words::{CommandLine, WordsError, read_words};
@@ -124,6 +126,9 @@ where
             )
         }
         CommandLine::Serve(words) => cmd_serve(rt, alloc, words, folder, gate, out, err),
+        CommandLine::Stress(words) => {
+            (cmd_stress(alloc, words, out, err), gate, List::new(alloc))
+        }
     }
 }
 
@@ -144,7 +149,7 @@ where
 /// byte stands in it and the seed file is accepted. `drive` and `serve` change one, the journal that
 /// their words name, and not where the seed file is refused. The others change none. `drive` alone
 /// reads the input, and not where the seed file is refused, or the journal as the run begins.
-/// `serve` alone uses the gate.
+/// `serve` alone uses the gate. `stress` touches neither files nor input.
 ///
 /// Whatever the status of `drive` is, what a crash may then leave of its journal is settled for a
 /// life that goes on from the one for which it was settled before; each ReceivedItems that was put
@@ -183,6 +188,9 @@ where
         → DriveEnds S.left result.0
         (files_around F.holds F.images F.is_open F.may_fail F.faults folder.old folder.new) files
         input.old input.new (told_by O.held O.faults out.old out.new)
+        (told_by E.held E.refusals err.old err.new) }
+    ensures stress { (asked : StressWords) → IsStress words.now asked
+        → StressEnds result.0 asked (told_by O.held O.faults out.old out.new)
         (told_by E.held E.refusals err.old err.new) }
     ensures serve { (room : ServeWords) → IsServe words.now room
         → ServeEnds G.Line.heard G.Line.sent G.Line.faults G.Line.opened G.Line.is_shut

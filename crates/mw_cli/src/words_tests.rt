@@ -17,6 +17,7 @@ fn names_of(line: &CommandLine) -> (&'static str, &str, Option<&str>) {
             None => ("drive", w.multidata.as_str(), None),
         },
         CommandLine::Serve(w) => ("serve", w.multidata.as_str(), Some(w.journal.as_str())),
+        CommandLine::Stress(_) => ("stress", "", None),
     }
 }
 
@@ -48,6 +49,7 @@ fn told_line(alloc: Global, line: &CommandLine) -> Result<String, Fail> {
             Ok(format!(in alloc; "{names} {} {}", w.seed, w.tries)?)
         }
         CommandLine::Serve(w) => told_terms(alloc, names.as_str(), w),
+        CommandLine::Stress(w) => Ok(format!(in alloc; "stress {} {}", w.players, w.seed)?),
         _ => Ok(names),
     }
 }
@@ -132,7 +134,15 @@ serve A J --bind h:1 | serve <A> <J> <h:1> 32
 serve A J --bind h:1 --workers 64 --accept 3 | serve <A> <J> <h:1> 64 3
 serve A J --bind h:1 --workers 0 | bad words
 serve A J --bind h:1 --workers 65 | bad words
-serve A J --bind h:1 --accept 0 | bad words";
+serve A J --bind h:1 --accept 0 | bad words
+stress 1 0 | stress 1 0
+stress 64 18446744073709551615 | stress 64 18446744073709551615
+stress 0 1 | bad words
+stress 65 1 | bad words
+stress 1 | bad words
+stress 1 2 3 | bad words
+stress 01 2 | bad words
+stress 1 --seed 2 | bad words";
 
 #[test]
 fn each_row_asks_for_this(rt: HostRuntime) -> Result<(), Fail> {

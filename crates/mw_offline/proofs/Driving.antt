@@ -174,7 +174,7 @@ if_err_two (Err e) p q f = f e p q
 -- ---- a new journal on a disk in memory
 
 module _ (f : List ℕ) (images : List ℕ → Type 0) (here : images f) (digest : List ℕ) (seed : Seed) (shut : AllShut images digest [] 40) where
-  new_found : (journal : List Record) (place : ℕ) → IsFound (Some f) images digest seed journal place → IsNewJournal journal place
+  pub new_found : (journal : List Record) (place : ℕ) → IsFound (Some f) images digest seed journal place → IsNewJournal journal place
   new_found journal place found = (
     one_journal f digest [] journal 40 place (found.one f [] [] refl tt tt (settled_of images digest [] [] 40 shut)),
     one_place f digest [] journal 40 place (records_bytes journal) 0 (found.stands f refl) (0, shut f here),

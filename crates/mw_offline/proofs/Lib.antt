@@ -6,3 +6,5 @@ pub mod NewRooms
 pub mod Checked
 pub mod OneRun
 pub mod WholeLives
+pub mod Sessions
+pub mod NeverFull

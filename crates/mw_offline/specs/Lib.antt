@@ -6,3 +6,4 @@ pub mod FilesAround
 pub mod NewRooms
 pub mod Laws
 pub mod WholeLives
+pub mod Stressing

@@ -9,6 +9,9 @@ mod laws;
 mod new_room;
 mod reach;
 mod reaching;
+mod stress_calls;
+mod stress_command;
+mod stress_room;
 
 pub use check_command::cmd_check;
 pub use drive_command::cmd_drive;
@@ -18,6 +21,7 @@ pub use mw_causes::{
     CheckCause, DriveCause, GenerateCause, RoomCause, SeedCause, Stop, TableCause,
 };
 pub use mw_seeds::seed_file;
-pub use mw_words::{CheckWords, DriveWords, GenerateWords, NewRoomWords, ReachWords};
+pub use mw_words::{CheckWords, DriveWords, GenerateWords, NewRoomWords, ReachWords, StressWords};
 pub use new_room::cmd_new_room;
 pub use reach::cmd_reach;
+pub use stress_command::cmd_stress;

@@ -5,7 +5,7 @@ use Rattle.std.proofs.lemmas.Slice.Eq.{bytes_eq-Decides}
 use Rattle.std.specs.Str.{bytes_eq}
 use Rattle.std.specs.Borrow.{Bor}
 use Rattle.clap.specs.Walk.{texts}
-use Rattle.mw_words.specs.Words.{IsGenerate, IsCheck, IsNewRoom, IsDrive, IsServe}
+use Rattle.mw_words.specs.Words.{IsGenerate, IsCheck, IsNewRoom, IsDrive, IsServe, IsStress}
 use Rattle.mw_words.specs.Numbers.{spelt}
 use Rattle.mw_words.specs.Lines.{AsksFor, HasOneMeaning, HasRanges, HasTries}
 use Rattle.mw_words.specs.declared.command_line.CommandLine.{CommandLine}
@@ -14,7 +14,8 @@ use Rattle.mw_words.specs.declared.command_line.CheckWords.{CheckWords}
 use Rattle.mw_words.specs.declared.command_line.NewRoomWords.{NewRoomWords}
 use Rattle.mw_words.specs.declared.command_line.DriveWords.{DriveWords}
 use Rattle.mw_words.specs.declared.command_line.ServeWords.{ServeWords}
-use Rattle.mw_words.specs.declared.command_line.CommandLine.TheVariants.{Generate, Check, Reach, NewRoom, Drive, Serve}
+use Rattle.mw_words.specs.declared.command_line.StressWords.{StressWords}
+use Rattle.mw_words.specs.declared.command_line.CommandLine.TheVariants.{Generate, Check, Reach, NewRoom, Drive, Serve, Stress}
 
 -- the first of borrowed words
 pub first_text : (words : List (Bor (List ℕ))) (word : Bor (List ℕ)) (name : List ℕ) → Some word ≡ slice_get words 0 → word.now ≡ name → slice_get (texts words) 0 ≡ Some name
@@ -32,6 +33,7 @@ name_of (Reach w) = codes "reach"
 name_of (NewRoom w) = codes "new-room"
 name_of (Drive w) = codes "drive"
 name_of (Serve w) = codes "serve"
+name_of (Stress w) = codes "stress"
 
 named : (words : List (List ℕ)) (line : CommandLine) → AsksFor words line → slice_get words 0 ≡ Some (name_of line)
 named words (Generate w) h = h.taken.named
@@ -40,6 +42,7 @@ named words (Reach w) h = h.taken.named
 named words (NewRoom w) h = h.taken.named
 named words (Drive w) h = h.taken.named
 named words (Serve w) h = h.taken.named
+named words (Stress w) h = h.taken.named
 
 -- what is given is one
 given_one : (o : Option (List ℕ)) (a b : List ℕ) → o ≡ Some a → o ≡ Some b → a ≡ b
@@ -74,6 +77,11 @@ only_drive words line first none asks = apart (slice_get words 0) (codes "drive"
 pub only_serve : (words : List (List ℕ)) (line : CommandLine) → slice_get words 0 ≡ Some (codes "serve") → ((room : ServeWords) → IsServe words room → ⊥) → AsksFor words line → ⊥
 only_serve words (Serve w) first none asks = none _ asks
 only_serve words line first none asks = apart (slice_get words 0) (codes "serve") (name_of line) refl first (named words line asks)
+
+-- the same of `stress`
+pub only_stress : (words : List (List ℕ)) (line : CommandLine) → slice_get words 0 ≡ Some (codes "stress") → ((asked : StressWords) → IsStress words asked → ⊥) → AsksFor words line → ⊥
+only_stress words (Stress w) first none asks = none _ asks
+only_stress words line first none asks = apart (slice_get words 0) (codes "stress") (name_of line) refl first (named words line asks)
 
 number_one : (o : Option (List ℕ)) (m n : ℕ) → m < 2 ^ 64 → n < 2 ^ 64 → o ≡ Some (decimal m) → o ≡ Some (decimal n) → m ≡ n
 number_one o m n m_small n_small first second = decimal_injective m n m_small n_small (given_one o (decimal m) (decimal n) first second)
@@ -113,6 +121,10 @@ asks_one words (Serve v) (Serve w) p q =
     let workers = number_one _ v.workers w.workers (omega arith) (omega arith) p.workers q.workers in
     let accept = spelt_one v.accept w.accept p.accept_range q.accept_range (sym p.accept ∙ q.accept) in
     λ i. Serve (record { multidata = multidata i; journal = journal i; bind = bind i; workers = workers i; accept = accept i })
+asks_one words (Stress v) (Stress w) p q =
+    let players = number_one _ v.players w.players (omega arith) (omega arith) p.players q.players in
+    let seed = number_one _ v.seed w.seed p.seed_range q.seed_range p.seed q.seed in
+    λ i. Stress (record { players = players i; seed = seed i })
 asks_one words a b p q =
     absurd (apart (slice_get words 0) (name_of a) (name_of b) refl (named words a p) (named words b q))
 
@@ -124,6 +136,7 @@ has_tries words (Reach w) asks = tt
 has_tries words (NewRoom w) asks = tt
 has_tries words (Drive w) asks = tt
 has_tries words (Serve w) asks = tt
+has_tries words (Stress w) asks = tt
 
 -- and its workers and connections
 pub has_ranges : (words : List (List ℕ)) (line : CommandLine) → AsksFor words line → HasRanges line
@@ -133,3 +146,4 @@ has_ranges words (Reach w) asks = tt
 has_ranges words (NewRoom w) asks = tt
 has_ranges words (Drive w) asks = tt
 has_ranges words (Serve w) asks = (asks.workers_range, asks.accept_range)
+has_ranges words (Stress w) asks = asks.players_range

@@ -7,6 +7,7 @@ use Rattle.mw_words.specs.declared.command_line.CheckWords.{CheckWords}
 use Rattle.mw_words.specs.declared.command_line.NewRoomWords.{NewRoomWords}
 use Rattle.mw_words.specs.declared.command_line.DriveWords.{DriveWords}
 use Rattle.mw_words.specs.declared.command_line.ServeWords.{ServeWords}
+use Rattle.mw_words.specs.declared.command_line.StressWords.{StressWords}
 use Rattle.mw_words.specs.Numbers.{spelt}
 
 -- ---- the commands, as clap reads their words
@@ -87,6 +88,11 @@ serve_app =
     (word_rule (codes "multidata") ∷ word_rule (codes "journal") ∷ bind_rule ∷ workers_rule
     ∷ accept_rule ∷ [])
 
+-- `stress N SEED`
+abbrev pub stress_app : App
+stress_app =
+    command_app (codes "stress") (word_rule (codes "players") ∷ word_rule (codes "seed") ∷ [])
+
 -- ---- what words ask for
 
 -- what clap finds at fault in the words after the first
@@ -146,3 +152,11 @@ pub record IsServe (words : List (List ℕ)) (room : ServeWords) : Type 0 where
   pub workers_range : (1 ≤ room.workers) × (room.workers ≤ 64)
   pub accept : given serve_app words (codes "accept") ≡ spelt room.accept
   pub accept_range : IfSome room.accept (λ n. (1 ≤ n) × (n ≤ 4294967295))
+
+-- `stress` with a number of players and a seed's number
+pub record IsStress (words : List (List ℕ)) (asked : StressWords) : Type 0 where
+  pub taken : IsTaken stress_app words
+  pub players : given stress_app words (codes "players") ≡ Some (decimal asked.players)
+  pub players_range : (1 ≤ asked.players) × (asked.players ≤ 64)
+  pub seed : given stress_app words (codes "seed") ≡ Some (decimal asked.seed)
+  pub seed_range : asked.seed < 2 ^ 64

@@ -63,6 +63,15 @@ pub struct ServeWords {
     pub accept: Option<u64>,
 }
 
+/// The words of `stress`.
+#[derive(Drop)]
+pub struct StressWords {
+    /// How many players there are, 1 to 64.
+    pub players: u32,
+    /// The seed's number.
+    pub seed: u64,
+}
+
 /// What a command line asks for.
 #[derive(Drop)]
 pub enum CommandLine {
@@ -78,4 +87,6 @@ pub enum CommandLine {
     Drive(DriveWords),
     /// A room is to be hosted.
     Serve(ServeWords),
+    /// A world that many play is to be driven through generator and room.
+    Stress(StressWords),
 }

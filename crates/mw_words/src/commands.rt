@@ -2,7 +2,7 @@
 ghost use Rattle.std.specs.Prelude.{◌≡◌, [], ◌∷◌, IfOk, false, true};
 ghost use Rattle.clap.specs.Words.{app_of, new_rule, rule_of};
 ghost use Rattle.mw_words.specs.Words.{command_app, word_rule, option_rule, seed_rule, tries_rule, generate_app, check_app, reach_app, new_room_app, drive_app};
-ghost use Rattle.mw_words.specs.Words.{last_rule, bind_rule, workers_rule, accept_rule, room_app, serve_app};
+ghost use Rattle.mw_words.specs.Words.{last_rule, bind_rule, workers_rule, accept_rule, room_app, serve_app, stress_app};
 
 use clap::{Arg, Command};
 use std::alloc::{AllocError, Global};
@@ -140,4 +140,13 @@ pub(crate) fn serve_command<'a>(alloc: Global) -> Result<Command<'a>, AllocError
         .arg(bind_option(alloc))?
         .arg(workers_option(alloc))?
         .arg(accept_option(alloc))
+}
+
+/// `stress N SEED`
+pub(crate) fn stress_command<'a>(alloc: Global) -> Result<Command<'a>, AllocError>
+    ensures { IfOk result (λ c. app_of c ≡ stress_app) }
+{
+    bare_command(alloc, "stress")
+        .arg(word(alloc, "players"))?
+        .arg(word(alloc, "seed"))
 }

@@ -5,15 +5,18 @@ ghost use Rattle.mw_words.specs.declared.command_line.CheckWords.{CheckWords};
 ghost use Rattle.mw_words.specs.declared.command_line.NewRoomWords.{NewRoomWords};
 ghost use Rattle.mw_words.specs.declared.command_line.DriveWords.{DriveWords};
 ghost use Rattle.mw_words.specs.declared.command_line.ServeWords.{ServeWords};
-ghost use Rattle.mw_words.specs.Words.{IsGenerate, IsCheck, IsReach, IsNewRoom, IsDrive, IsServe};
+ghost use Rattle.mw_words.specs.declared.command_line.StressWords.{StressWords};
+ghost use Rattle.mw_words.specs.Words.{IsGenerate, IsCheck, IsReach, IsNewRoom, IsDrive, IsServe, IsStress};
 ghost use Rattle.mw_words.specs.Lines.{AsksFor, IsNoCommand, HasOneMeaning};
 
 use crate::arguments::{number, number_or_none, parse, text, text_or_none};
 use crate::command_line::{
     CheckWords, CommandLine, DriveWords, GenerateWords, NewRoomWords, ReachWords, ServeWords,
+    StressWords,
 };
 use crate::commands::{
     check_command, drive_command, generate_command, new_room_command, reach_command, serve_command,
+    stress_command,
 };
 use crate::error::WordsError;
 use mw_base::Text;
@@ -118,6 +121,20 @@ fn read_serve(alloc: Global, words: &[&str]) -> Result<ServeWords, WordsError>
     })
 }
 
+/// The words of `stress`.
+fn read_stress(alloc: Global, words: &[&str]) -> Result<StressWords, WordsError>
+    requires { slice_get (texts words.now) 0 ≡ Some (codes "stress") }
+    ensures ok { IfOk result (IsStress (texts words.now)) }
+    ensures bad { result ≡ Err WordsError.BadWords → (asked : StressWords)
+        → IsStress (texts words.now) asked → ⊥ }
+{
+    let matches = parse(stress_command(alloc)?, words)?;
+    Ok(StressWords {
+        players: number(&matches, "players", 1, 64)? as u32,
+        seed: number(&matches, "seed", 0, u64::MAX)?,
+    })
+}
+
 /// What words ask for, by the first of them.
 fn read_command(alloc: Global, words: &[&str]) -> Result<CommandLine, WordsError>
     ensures ok { IfOk result (AsksFor (texts words.now)) }
@@ -133,6 +150,7 @@ fn read_command(alloc: Global, words: &[&str]) -> Result<CommandLine, WordsError
         "new-room" => Ok(CommandLine::NewRoom(read_new_room(alloc, words)?)),
         "drive" => Ok(CommandLine::Drive(read_drive(alloc, words)?)),
         "serve" => Ok(CommandLine::Serve(read_serve(alloc, words)?)),
+        "stress" => Ok(CommandLine::Stress(read_stress(alloc, words)?)),
         _ => Err(WordsError::BadWords),
     }
 }

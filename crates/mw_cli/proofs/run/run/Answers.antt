@@ -2,7 +2,7 @@ use Rattle.std.proofs.Common.{Err, ap, arith, refl, subst, inl, inr}
 use Rattle.std.proofs.KnownBytes.{Keeps-refl}
 use Rattle.mw_causes.specs.declared.stop.Stop.TheVariants.{Memory}
 use Rattle.mw_words.specs.Lines.{AsksFor}
-use Rattle.mw_words.specs.declared.command_line.CommandLine.TheVariants.{Generate, Check, Reach, NewRoom, Drive, Serve}
+use Rattle.mw_words.specs.declared.command_line.CommandLine.TheVariants.{Generate, Check, Reach, NewRoom, Drive, Serve, Stress}
 use Rattle.mw_offline.proofs.Driving.{unstarted}
 use Rattle.mw_serve.proofs.Starting.{unstarted_serve}
 use Rattle.mw_words.proofs.Asking.{asks_one}
@@ -100,3 +100,13 @@ returns-in-Err-BadWords-clause-listened g c = λ room is. absurd (c.in-Err-BadWo
 
 pub returns-in-Err-Memory-clause-listened : goal.returns-in-Err-Memory-clause-listened
 returns-in-Err-Memory-clause-listened g c = λ room _. inl (refl, λ zero. let six = c.end_without_memory.ensures.status in omega (arith, six, zero))
+
+pub returns-in-Ok-clause-stress : goal.returns-in-Ok-clause-stress
+returns-in-Ok-clause-stress g c = λ asked is. rw (asks_one c.args.words.now c.in-Ok.line (Stress asked) c.in-Ok.ensures.ok is) at c.run_line.ensures.ends
+
+pub returns-in-Err-BadWords-clause-stress : goal.returns-in-Err-BadWords-clause-stress
+returns-in-Err-BadWords-clause-stress g c = λ asked is. absurd (c.in-Err-BadWords.ensures.bad (ap Err c.in-Err-BadWords.field-0-is) (Stress asked) is)
+
+pub returns-in-Err-Memory-clause-stress : goal.returns-in-Err-Memory-clause-stress
+returns-in-Err-Memory-clause-stress g c = λ _ _.
+    inr (Memory, record { is_status = c.end_without_memory.ensures.status; left = inl (Keeps-refl _); line = c.end_without_memory.ensures.line })

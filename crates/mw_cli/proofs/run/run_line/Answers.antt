@@ -41,3 +41,6 @@ returns-in-Serve-clause-gate g c = λ none.
 
 pub returns-in-Serve-clause-ends : goal.returns-in-Serve-clause-ends
 returns-in-Serve-clause-ends g c = rw c.in-Serve.is c.cmd_serve.ensures.ends
+
+pub returns-in-Stress-clause-ends : goal.returns-in-Stress-clause-ends
+returns-in-Stress-clause-ends g c = rw c.in-Stress.is c.cmd_stress.ensures.ends
