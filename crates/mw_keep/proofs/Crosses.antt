@@ -20,6 +20,8 @@ use Rattle.mw_base.specs.contracts.ids.TeamId as team
 use Rattle.mw_base.specs.contracts.ids.SlotId as slot
 use Rattle.mw_base.specs.contracts.ids.LocId as loc
 use Rattle.mw_hints.specs.contracts.kept.Kept as hint
+use Rattle.mw_packets_out.specs.contracts.room.GameSum as game
+use Rattle.mw_packets_out.specs.contracts.room.GameSum.TheInside as game_inside
 use Rattle.mw_effects.specs.contracts.member.Member as member
 use Rattle.mw_effects.specs.contracts.member.Member.TheInside as member_inside
 use Rattle.mw_effects.specs.contracts.standing.Standing as standing
@@ -92,9 +94,14 @@ session_send : IsSend session.the_row
 session_send = recorded_send (session.the_field).row _ _ (session.the_type).to_one
     (struct_send (shape session.the_type) (search sendable depth 20, (search (member_send, sendable) depth 40, (search (text_send, crosses, sendable) depth 40, (search sendable depth 20, (search sendable depth 20, (search sendable depth 20, tt)))))))
 
+game_send : IsSend game.the_row
+game_send = view_send game_inside.the_row _ _ _ _
+    (recorded_send (game_inside.the_field).row _ _ (game_inside.the_type).to_one
+    (struct_send (shape game_inside.the_type) (search (text_send, sendable) depth 40, (search (text_send, sendable) depth 40, tt))))
+
 room_send : IsSend (room.the_field).row
 room_send =
-    struct_send (shape room.the_type) (search sendable depth 20, (standing_send, (search sendable depth 20, (search sendable depth 20, (search (session_send, crosses, sendable) depth 40, tt)))))
+    struct_send (shape room.the_type) (search sendable depth 20, (standing_send, (search (game_send, list_send, sendable) depth 40, (search sendable depth 20, (search sendable depth 20, (search (session_send, crosses, sendable) depth 40, tt))))))
 
 cause_send : IsSend cause.the_row
 cause_send = search sendable depth 40

@@ -1,2 +1,4 @@
+pub mod Receivers
+pub mod Shared
 pub mod Untouched
 pub mod Written

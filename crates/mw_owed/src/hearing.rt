@@ -1,26 +1,15 @@
-ghost use Rattle.std.specs.Prelude.{◌≡◌, ◌++◌, IfOk, map};
+ghost use Rattle.std.specs.Prelude.{◌≡◌, ◌∷◌, [], OnOk, map, string_bytes};
 ghost use Rattle.mw_model.specs.Texts.{has_text as has_text_lem};
 ghost use Rattle.mw_protocol.specs.Heard.{hears as hears_lem, heard, heard_by, wants_no_text as wants_no_text_lem};
 ghost use Rattle.mw_protocol.specs.Messages.{packet_text as packet_text_lem};
 ghost use Rattle.mw_effects.specs.Views.{announced_view, audience_view};
-ghost use Rattle.mw_owed.specs.Written.{AreWritten};
+ghost use Rattle.mw_owed.specs.Written.{all_behind};
 
+use crate::telling::Telling;
 use mw_base::{Memory, Text, has_text};
-use mw_effects::{Announced, Audience, Member, is_named};
+use mw_effects::{Audience, Member, is_named};
 use mw_multidata::Multidata;
-use mw_packets_out::packet_text;
 use std::alloc::Global;
-
-/// The packets as texts: each is written once, whoever hears it.
-pub fn written(alloc: Global, announced: &[Announced]) -> Result<Vec<Text>, Memory>
-    ensures { IfOk result (λ ts. AreWritten ts.items announced.now) }
-{
-    let mut texts = Vec::new(alloc);
-    for one in announced {
-        texts.push(packet_text(alloc, &one.packet)?)?;
-    }
-    Ok(texts)
-}
 
 /// Whether a member hears no print.
 fn wants_no_text(member: &Member) -> bool
@@ -57,45 +46,63 @@ fn hears(seed: &Multidata, audience: &Audience, sends: bool, member: &Member) ->
     }
 }
 
-/// The texts of the packets that a member hears.
-fn texts_for<'a>(
+/// Adds a packet to the text of a member's message, where the member hears it.
+fn put_one(
     alloc: Global,
+    out: &mut String,
     seed: &Multidata,
-    announced: &[Announced],
-    texts: &'a [Text],
+    telling: &mut Telling,
     sends: bool,
     member: &Member,
-) -> Result<Vec<&'a str>, Memory>
-    requires { AreWritten texts.now announced.now }
-    ensures { IfOk result (λ ts. map (λ t. t.now) ts.items
-        ≡ map packet_text_lem
-        (heard seed.now (map announced_view announced.now) sends member.now)) }
+) -> Result<(), Memory>
+    ensures same { telling.new ≡ telling.old }
+    ensures put { OnOk result (string_bytes out.new ≡ all_behind (string_bytes out.old)
+        (map packet_text_lem
+        (heard seed.now (announced_view telling.old ∷ []) sends member.now))) }
 {
-    let mut found = Vec::new(alloc);
-    for (at, one) in announced.iter().enumerate() {
-        if hears(seed, &one.audience, sends, member) {
-            found.push(texts[at].as_str())?;
-        }
+    if hears(seed, telling.audience(), sends, member) {
+        telling.put(alloc, out)?;
     }
-    Ok(found)
+    Ok(())
 }
 
-/// The texts of the packets that a session is owed, which is this member, if it is one.
-pub fn heard_texts<'a>(
+/// Adds the packets that a member hears.
+fn put_for(
     alloc: Global,
+    out: &mut String,
     seed: &Multidata,
-    announced: &[Announced],
-    texts: &'a [Text],
+    tellings: &mut Vec<Telling>,
+    sends: bool,
+    member: &Member,
+) -> Result<(), Memory>
+    ensures same { OnOk result (tellings.new.items ≡ tellings.old.items) }
+    ensures put { OnOk result (string_bytes out.new ≡ all_behind (string_bytes out.old)
+        (map packet_text_lem
+        (heard seed.now (map announced_view tellings.old.items) sends member.now))) }
+{
+    for at in 0..tellings.len() {
+        put_one(alloc, out, seed, &mut tellings[at], sends, member)?;
+    }
+    Ok(())
+}
+
+/// Adds the packets that a session hears, which is this member, if it is one. Each is written when
+/// the first that hears it is met, whoever hears it later.
+pub fn put_heard(
+    alloc: Global,
+    out: &mut String,
+    seed: &Multidata,
+    tellings: &mut Vec<Telling>,
     sends: bool,
     member: &Option<Member>,
-) -> Result<Vec<&'a str>, Memory>
-    requires { AreWritten texts.now announced.now }
-    ensures { IfOk result (λ ts. map (λ t. t.now) ts.items
-        ≡ map packet_text_lem
-        (heard_by seed.now (map announced_view announced.now) sends member.now)) }
+) -> Result<(), Memory>
+    ensures same { OnOk result (tellings.new.items ≡ tellings.old.items) }
+    ensures put { OnOk result (string_bytes out.new ≡ all_behind (string_bytes out.old)
+        (map packet_text_lem
+        (heard_by seed.now (map announced_view tellings.old.items) sends member.now))) }
 {
     match member {
-        Some(member) => texts_for(alloc, seed, announced, texts, sends, member),
-        None => Ok(Vec::new(alloc)),
+        Some(member) => put_for(alloc, out, seed, tellings, sends, member),
+        None => Ok(()),
     }
 }

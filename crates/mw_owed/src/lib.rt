@@ -2,8 +2,17 @@
 //! error that a function here has.
 #![tactic(auto)]
 
+mod concerning;
 mod hearing;
+mod message;
 mod owed;
+mod receivers;
+mod shared;
+mod telling;
 
-pub use hearing::{heard_texts, written};
+pub use concerning::concerns_others;
+pub use hearing::put_heard;
+pub use message::{closed, put_packets};
 pub use owed::{growth_owed, points_of};
+pub use shared::{Shared, shared_of};
+pub use telling::Telling;

@@ -7,8 +7,10 @@ ghost use Rattle.mw_protocol.specs.Standing.{points};
 ghost use Rattle.mw_packets_out.specs.View.{packet_view};
 ghost use Rattle.mw_effects.specs.News.{items_for, view_for, received_in, growth_in, points_before, points_after};
 ghost use Rattle.mw_effects.specs.Parts.{standing_of, grown, news_of, paid_by, IsLogged};
+ghost use Rattle.mw_owed.specs.Receivers.{receivers_in};
 ghost use Rattle.mw_owed.specs.Untouched.{IsUntouched};
 
+use crate::receivers::receives;
 use mw_base::{List, Memory, NetItem};
 use mw_checks::CheckLog;
 use mw_effects::{Effect, Member, Standing, items_for_member, locations_for_member};
@@ -184,7 +186,7 @@ fn add_items_owed(
 
 /// Whether an effect's records may come to something for a slot.
 #[tactic(auto, using(crate::proofs::Untouched::nothing_new))]
-fn may_touch(effect: &Effect) -> bool
+pub(crate) fn may_touch(effect: &Effect) -> bool
     ensures { result ≡ false → (member : plain.Member) → IsUntouched effect.now member }
 {
     if effect.new.len() > 0 {
@@ -195,15 +197,17 @@ fn may_touch(effect: &Effect) -> bool
 
 /// What a member is owed once an effect is done, beside the answer to its own packet and what is
 /// told to several.
-#[tactic(auto, using(crate::proofs::Untouched::nothing_grows))]
+#[tactic(auto, using(crate::proofs::Untouched::nothing_grows, crate::proofs::Received::only_update))]
 fn growth_of(
     alloc: Global,
     standing: &Standing,
     effect: &Effect,
+    receivers: &[u16],
     whole: bool,
     member: &Member,
 ) -> Result<List<ServerPacket>, Memory>
-    requires { IsLogged standing.now effect.now }
+    requires logged { IsLogged standing.now effect.now }
+    requires receivers { receivers.now ≡ receivers_in standing.now.log.seed effect.now.new }
     ensures { IfOk result (λ ps. map packet_view ps
         ≡ growth_in whole standing.now effect.now member.now) }
 {
@@ -212,27 +216,32 @@ fn growth_of(
         return Ok(packets);
     }
     add_update(alloc, &mut packets, standing, effect, member)?;
+    if !(whole | receives(receivers, member)) {
+        return Ok(packets);
+    }
     add_items_owed(alloc, &mut packets, &standing.log, effect, whole, member)?;
     Ok(packets)
 }
 
 /// What a session is owed once an effect is done, beside the answer to its own packet and what is
-/// told to several.
+/// told to several. The receivers are those of what its new checks found.
 #[tactic(auto, using(mw_effects::proofs::Grown::growth_is))]
 pub fn growth_owed(
     alloc: Global,
     standing: &Standing,
     effect: &Effect,
+    receivers: &[u16],
     whole: bool,
     member: &Option<Member>,
 ) -> Result<List<ServerPacket>, Memory>
-    requires { IsLogged standing.now effect.now }
+    requires logged { IsLogged standing.now effect.now }
+    requires receivers { receivers.now ≡ receivers_in standing.now.log.seed effect.now.new }
     ensures { IfOk result (λ ps. map packet_view ps
         ≡ growth_owed_lem whole standing.now.log.seed (standing_of standing.now)
         (grown standing.now effect.now) member.now) }
 {
     match member {
-        Some(member) => growth_of(alloc, standing, effect, whole, member),
+        Some(member) => growth_of(alloc, standing, effect, receivers, whole, member),
         None => Ok(List::new(alloc)),
     }
 }

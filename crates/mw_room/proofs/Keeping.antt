@@ -10,6 +10,7 @@ use Rattle.mw_protocol.specs.Players.{room_info_of}
 use Rattle.mw_protocol.specs.Rooms as plain
 use Rattle.mw_protocol.specs.Rooms.{Message, Session, Room, Event, IsSound, AllSound, text_of, untaken, greatest, is_full, session_in, member_in, members_in, or_more, closed, without, taken_among, taken_all, untaken_of, next, taken, effect_in, session_after, new_session, opened, sent, failed, lost}
 use Rattle.mw_protocol.specs.Standing.{Standing, steps, standing}
+use Rattle.mw_owed.specs.Written.{message_of}
 use Rattle.mw_room.specs.Known as kept
 use Rattle.mw_laws.proofs.Journal.{steps-append}
 use Rattle.mw_room.specs.Known.{Shown, shown, known, shown_after, fresh_session, emptied, member_at, members_of, shown_at, texts_at, emptied_among, leaves, known_effect, known_affected, known_next, known_taken, Known}
@@ -45,7 +46,7 @@ owing_shown m s h =
           ]
     ]
 
-pub told_shown : (ps : List ServerPacket) (len : ℕ) (s : Session) → IsSound s → shown (plain.told ps len s) ≡ kept.told (kept.message_of ps) len (shown s)
+pub told_shown : (ps : List ServerPacket) (len : ℕ) (s : Session) → IsSound s → shown (plain.told ps len s) ≡ kept.told (message_of ps) len (shown s)
 told_shown [] len s h = refl
 told_shown (p ∷ ps) len s h = owing_shown record { packets = p ∷ ps; carries = len } s h
 

@@ -5,11 +5,12 @@ use Rattle.mw_protocol.specs.Connecting.{Member}
 use Rattle.mw_protocol.specs.Effect.{Effect, nothing}
 use Rattle.mw_protocol.specs.Effects.{effect_of, bad_effect}
 use Rattle.mw_protocol.specs.Entering.{parting}
-use Rattle.mw_protocol.specs.Messages.{ServerPacket, room_info, message_text}
+use Rattle.mw_protocol.specs.Messages.{room_info}
 use Rattle.mw_protocol.specs.Owed.{owed}
 use Rattle.mw_protocol.specs.Players.{room_info_of}
 use Rattle.mw_protocol.specs.Rooms as plain
 use Rattle.mw_protocol.specs.Standing.{Standing, steps, standing}
+use Rattle.mw_owed.specs.Written.{message_of}
 
 -- the texts of its untaken messages, and the greatest length that they carry
 pub record Shown : Type 0 where
@@ -66,11 +67,6 @@ dropped s = record { number = s.number; member = s.member; texts = []; shows = 0
 abbrev pub owing : List ℕ → ℕ → Shown → Shown
 owing text length s =
     if s.overrun then s else (if plain.is_full s.texts then dropped s else with_text text length s)
-
--- a message's text, where there are packets
-abbrev pub message_of : List ServerPacket → Option (List ℕ)
-message_of [] = None
-message_of (p ∷ ps) = Some (message_text (p ∷ ps))
 
 abbrev pub told : Option (List ℕ) → ℕ → Shown → Shown
 told None length s = s

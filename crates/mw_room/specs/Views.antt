@@ -8,8 +8,9 @@ use Rattle.mw_protocol.specs.Records as recorded
 use Rattle.mw_protocol.specs.Rooms as plain
 use Rattle.mw_protocol.specs.Standing.{steps}
 use Rattle.mw_records.specs.Records.{record_view}
-use Rattle.mw_room.specs.Known.{Shown, Known, message_of, shown_after, told, with_member, leaves}
+use Rattle.mw_room.specs.Known.{Shown, Known, shown_after, told, with_member, leaves}
 use Rattle.mw_effects.specs.Parts.{grown, standing_of}
+use Rattle.mw_owed.specs.Written.{message_of}
 use Rattle.mw_effects.specs.Views.{effect_view}
 use Rattle.mw_effects.specs.declared.effect.Effect.{Effect}
 use Rattle.mw_effects.specs.declared.standing.Standing.{Standing}

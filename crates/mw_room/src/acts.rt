@@ -14,7 +14,7 @@ use crate::changes::changes_for;
 use crate::entering::parting;
 use crate::event::Event;
 use crate::packets::{bad_effect, effect_of};
-use crate::people::room_info;
+use crate::people::{games_of, room_info};
 use crate::plan::Plan;
 use crate::room::Room;
 use crate::session::{Change, Session, more_bytes};
@@ -53,9 +53,12 @@ impl Room {
     pub fn new(alloc: Global, tables: RoomTables) -> Result<Room, Memory>
         ensures { IfOk result (λ room. Represents room (plain.empty_room tables)) }
     {
+        let standing = Standing::new(alloc, tables)?;
+        let games = games_of(alloc, standing.seed())?;
         Ok(Room {
             alloc,
-            standing: Standing::new(alloc, tables)?,
+            standing,
+            games,
             recorded: 0,
             opened: 0,
             sessions: Vec::new(alloc),
@@ -93,8 +96,9 @@ impl Room {
         ensures { IfOk result (λ s. session_view s ≡ greeted (room_view self.now) time) }
     {
         let alloc = self.alloc;
+        let info = room_info(alloc, self.standing.seed(), self.games.as_slice(), time)?;
         let mut packets = List::new(alloc);
-        packets.push(ServerPacket::RoomInfo(room_info(alloc, self.standing.seed(), time)?))?;
+        packets.push(ServerPacket::RoomInfo(info))?;
         let text = write_message(alloc, &packets)?;
         Ok(Session {
             number,

@@ -1,38 +1,20 @@
-ghost use Rattle.std.specs.Prelude.{◌≡◌, ◌++◌, ◌&&◌, ◌==◌, ◌<◌, ◌^◌, ◌+◌, ℕ, IfOk, List, OnOk, option_to_list, map, length};
-ghost use Rattle.mw_protocol.specs.Messages.{ServerPacket as Told, packet_text};
+ghost use Rattle.std.specs.Prelude.{◌≡◌, ◌++◌, ◌&&◌, ◌==◌, ◌<◌, ◌^◌, ◌+◌, ℕ, IfOk, OnOk, option_to_list, map};
 ghost use Rattle.mw_protocol.specs.Owed.{owed, answers_to as answers_to_lem};
 ghost use Rattle.mw_protocol.specs.Rooms.{member_after as member_after_lem};
 ghost use Rattle.mw_packets_out.specs.View.{packet_view};
 ghost use Rattle.mw_room.specs.Fits.{ChangesFit};
-ghost use Rattle.mw_room.specs.Known.{shown_after, message_of};
+ghost use Rattle.mw_room.specs.Known.{shown_after};
 ghost use Rattle.mw_effects.specs.Parts.{IsLogged};
-ghost use Rattle.mw_owed.specs.Written.{AreWritten};
 ghost use Rattle.mw_effects.specs.Views.{effect_view};
+ghost use Rattle.mw_owed.specs.Shared.{IsShared};
 ghost use Rattle.mw_room.specs.Views.{session_view, changed, due_after, due_text, made_for, due_by, IsChange};
 
 use crate::session::{Change, Session};
 use mw_base::{Growth, Memory, Text};
 use mw_effects::{Effect, Member, Standing};
-use mw_owed::{growth_owed, heard_texts, written};
-use mw_packets_out::{ServerPacket, write_with};
+use mw_owed::{Shared, closed, concerns_others, growth_owed, put_heard, put_packets, shared_of};
+use mw_packets_out::ServerPacket;
 use std::alloc::Global;
-
-/// The text of a message of these packets, those, and others that were written, where there are
-/// some.
-pub fn message_text(
-    alloc: Global,
-    answers: &[ServerPacket],
-    others: &[ServerPacket],
-    written: &[&str],
-) -> Result<Option<Text>, Memory>
-    ensures { IfOk result (λ t. (ps : List Told) → map packet_text ps ≡ map (λ p. p.now) written.now
-        → t ≡ message_of (map packet_view answers.now ++ map packet_view others.now ++ ps)) }
-{
-    if answers.len() == 0 && others.len() == 0 && written.len() == 0 {
-        return Ok(None);
-    }
-    Ok(Some(write_with(alloc, answers, others, written)?))
-}
 
 /// The answers to the sender, where this is the sender.
 fn answers_to(effect: &Effect, sends: bool) -> &[ServerPacket]
@@ -46,23 +28,34 @@ fn answers_to(effect: &Effect, sends: bool) -> &[ServerPacket]
 }
 
 /// The text of what a session is owed, where it is owed something.
+#[tactic(auto, using(mw_owed::proofs::Behind::message_is))]
 fn owed_text(
     alloc: Global,
     standing: &Standing,
     effect: &Effect,
-    texts: &[Text],
+    shared: &mut Shared,
     sends: bool,
     member: &Option<Member>,
 ) -> Result<Option<Text>, Memory>
     requires logged { IsLogged standing.now effect.now }
-    requires written { AreWritten texts.now effect.now.announced }
-    ensures { IfOk result (λ t. t ≡ due_text standing.now effect.now sends member.now) }
+    requires shared { IsShared standing.now.log.seed effect.now shared.old }
+    ensures shared { IfOk result (λ _. IsShared standing.now.log.seed effect.now shared.new) }
+    ensures text { IfOk result (λ t. t ≡ due_text standing.now effect.now sends member.now) }
 {
     let whole = effect.whole & sends;
-    let others = growth_owed(alloc, standing, effect, whole, member)?;
-    let announced = effect.announced.as_slice();
-    let heard = heard_texts(alloc, standing.seed(), announced, texts, sends, member)?;
-    let text = message_text(alloc, answers_to(effect, sends), others.as_slice(), &heard)?;
+    let others = growth_owed(alloc, standing, effect, &shared.receivers, whole, member)?;
+    let mut out = String::new(alloc);
+    put_packets(alloc, &mut out, answers_to(effect, sends))?;
+    put_packets(alloc, &mut out, others.as_slice())?;
+    put_heard(
+        alloc,
+        &mut out,
+        standing.seed(),
+        &mut shared.tellings,
+        sends,
+        member,
+    )?;
+    let text = closed(out)?;
     Ok(text)
 }
 
@@ -114,19 +107,23 @@ fn change_of(
     alloc: Global,
     standing: &Standing,
     effect: &Effect,
-    texts: &[Text],
+    shared: &mut Shared,
     sender: u64,
     at: usize,
     session: &Session,
 ) -> Result<Option<Change>, Memory>
     requires logged { IsLogged standing.now effect.now }
-    requires written { AreWritten texts.now effect.now.announced }
-    ensures { IfOk result (λ o. IsChange o at
+    requires shared { IsShared standing.now.log.seed effect.now shared.old }
+    ensures shared { IfOk result (λ _. IsShared standing.now.log.seed effect.now shared.new) }
+    ensures is { IfOk result (λ o. IsChange o at
         (due_after standing.now effect.now sender) session.now) }
 {
     let sends = session.number == sender;
+    if !(sends | concerns_others(effect)) {
+        return Ok(None);
+    }
     let member = member_after(effect, sends, session);
-    let text = owed_text(alloc, standing, effect, texts, sends, member)?;
+    let text = owed_text(alloc, standing, effect, shared, sends, member)?;
     let made = made_of(alloc, effect, sends)?;
     let change = change_by(alloc, at, made, text, session)?;
     Ok(change)
@@ -157,10 +154,10 @@ pub fn changes_for(
         (map session_view sessions.now)) }
     ensures fit { IfOk result (λ cs. ChangesFit 0 sessions.now cs.items) }
 {
-    let texts = written(alloc, effect.announced.as_slice())?;
+    let mut shared = shared_of(alloc, &standing.log, effect)?;
     let mut changes = Vec::new(alloc);
     for (at, session) in sessions.iter().enumerate() {
-        let change = change_of(alloc, standing, effect, &texts, sender, at, session)?;
+        let change = change_of(alloc, standing, effect, &mut shared, sender, at, session)?;
         push_change(&mut changes, change)?;
     }
     Ok(changes)

@@ -35,12 +35,38 @@ fn games_played(alloc: Global, slots: &[Slot], games: &[Game]) -> Result<List<Ga
     Ok(found)
 }
 
-/// What a session is told when it is opened at a time.
-pub fn room_info(alloc: Global, seed: &Multidata, time: u64) -> Result<RoomInfo, Memory>
+/// The games that a slot of a seed plays, each with its checksum.
+pub fn games_of(alloc: Global, seed: &Multidata) -> Result<List<GameSum>, Memory>
+    ensures { IfOk result (λ gs. gs ≡ games_played_lem seed.now.slots seed.now.games) }
+{
+    games_played(alloc, seed.slots.as_slice(), seed.games.as_slice())
+}
+
+/// Copies of games with their checksums.
+fn copied(alloc: Global, games: &[GameSum]) -> Result<List<GameSum>, Memory>
+    ensures { IfOk result (λ gs. gs ≡ games.now) }
+{
+    let mut copies = List::new(alloc);
+    for sum in games {
+        let game = Text::of(alloc, sum.game.as_str())?;
+        let checksum = Text::of(alloc, sum.checksum.as_str())?;
+        copies.push(GameSum { game, checksum })?;
+    }
+    Ok(copies)
+}
+
+/// What a session is told when it is opened at a time, of the games that are played.
+pub fn room_info(
+    alloc: Global,
+    seed: &Multidata,
+    games: &[GameSum],
+    time: u64,
+) -> Result<RoomInfo, Memory>
+    requires { games.now ≡ games_played_lem seed.now.slots seed.now.games }
     ensures { IfOk result (λ r. r ≡ room_info_of seed.now time) }
 {
     let server = &seed.server;
-    let games = games_played(alloc, seed.slots.as_slice(), seed.games.as_slice())?;
+    let games = copied(alloc, games)?;
     let seed_name = Text::of(alloc, seed.seed_name.as_str())?;
     Ok(RoomInfo {
         password: server.password.as_str().len() != 0,
