@@ -124,7 +124,7 @@ module _ (joint : Joint) (copies : List ItemCopy) (puts : List Put) (tables : �
   first_is to table w list = rw (same_table 0 to table w list, same_list 0 to table w list) refl
 
   -- what it costs to go on from one list to the next, by the lists
-  cost_is : (from to next till : ℕ) (table other : Placed) (w later : List Bool) (more : List ℕ) → IsListFor joint copies puts from to other w → IsListFor joint copies puts next till table later
+  pub cost_is : (from to next till : ℕ) (table other : Placed) (w later : List Bool) (more : List ℕ) → IsListFor joint copies puts from to other w → IsListFor joint copies puts next till table later
       → asks_more joint table more w later ≡ asks_naming (steps_of joint) more + asks_at (steps_of joint) (tables next) (new_in (lists from to) (lists next till))
   cost_is from to next till table other w later more list there = rw (same_table next till table later there, same_list from to other w list, same_list next till table later there) refl
 
@@ -152,26 +152,19 @@ module _ (joint : Joint) (copies : List ItemCopy) (puts : List Put) (tables : �
           mul-add below (asked_for from middle) (asked_for middle to),
         )
 
-    module _ (levels : ℕ) (long : from + 2 ≤ to) (few : to ≤ from + 2 ^ levels) (table : Placed) (w first : List Bool) (whole : IsListFor joint copies puts from to table w) (begun : IsListFor joint copies puts from middle table first)
-        (before held then : ℕ) (holding : held ≤ before + asks_more joint table (numbers_between copies middle to) w first) where
+    module _ (levels : ℕ) (long : from + 2 ≤ to) (few : to ≤ from + 2 ^ levels) (before then : ℕ)
+        (first : (below : ℕ) → middle ≤ from + 2 ^ below → then ≤ before + (asked_for middle to + new_there from middle) + asks_of_range joint copies tables lists below from middle) where
       room : (below : ℕ) × IsHalved from middle to levels below
       room = rw half (halved from to levels long few)
 
-      first_cost : asks_more joint table (numbers_between copies middle to) w first ≡ asked_for middle to + new_there from middle
-      first_cost = cost_is from to from middle table table w first (numbers_between copies middle to) whole begun
-
       -- where the fill ended in the first half
-      pub first_counted : ((below : ℕ) → middle ≤ from + 2 ^ below → then ≤ held + asks_of_range joint copies tables lists below from middle) → then ≤ before + asks_of_range joint copies tables lists levels from to
-      first_counted putting = rw room.1.one_less (omega (arith, splits room.0, first_cost, holding, putting room.0 room.1.first))
+      pub first_counted : then ≤ before + asks_of_range joint copies tables lists levels from to
+      first_counted = rw room.1.one_less (omega (arith, splits room.0, first room.0 room.1.first))
 
       -- where it went on
-      pub both_counted : (second : List Bool) (other : Placed) (found last : ℕ) → IsListFor joint copies puts middle to other second
-          → found ≤ then + asks_more joint other (numbers_between copies from middle) w second
-          → ((below : ℕ) → middle ≤ from + 2 ^ below → then ≤ held + asks_of_range joint copies tables lists below from middle)
-          → ((below : ℕ) → to ≤ middle + 2 ^ below → last ≤ found + asks_of_range joint copies tables lists below middle to) → last ≤ before + asks_of_range joint copies tables lists levels from to
-      both_counted second other found last there finding putting ending =
-          let second_cost = cost_is from to middle to other table w second (numbers_between copies from middle) whole there in
-          rw room.1.one_less (omega (arith, splits room.0, first_cost, second_cost, holding, putting room.0 room.1.first, finding, ending room.0 room.1.second))
+      pub both_counted : (last : ℕ) → ((below : ℕ) → to ≤ middle + 2 ^ below → last ≤ then + (asked_for from middle + new_there middle to) + asks_of_range joint copies tables lists below middle to)
+          → last ≤ before + asks_of_range joint copies tables lists levels from to
+      both_counted last second = rw room.1.one_less (omega (arith, splits room.0, first room.0 room.1.first, second room.0 room.1.second))
 
 -- the list of what was put so far
 pub list_there : (joint : Joint) (copies : List ItemCopy) (puts : List Put) (laid : List Laid) (from to : ℕ) (table : Placed) (w : List Bool) → from ≡ length laid → take (length laid) puts ≡ puts_of laid

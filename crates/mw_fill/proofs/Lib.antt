@@ -17,3 +17,4 @@ pub mod Beaten
 pub mod Determined
 pub mod Existing
 pub mod Asked
+pub mod Sure

@@ -1,17 +1,17 @@
 -- For proofs alone: the copies that were put, in the order of the run.
-use Rattle.std.specs.Prelude.{ℕ, ◌≡◌, ◌<◌, ◌≤◌, ◌+◌, ◌-◌, ◌*◌, ◌^◌, ◌++◌, List, [], ◌∷◌, Option, Bool, All, drop, filter, length, map, take}
+use Rattle.std.specs.Prelude.{ℕ, ◌≡◌, ◌<◌, ◌≤◌, ◌+◌, ◌-◌, ◌*◌, ◌^◌, ◌++◌, ◌&&◌, List, [], ◌∷◌, Option, Some, Bool, true, All, drop, filter, find, length, map, slice_index_or, take}
 use Rattle.mw_rules.specs.Holds.{Places}
 use Rattle.mw_multi.specs.Joint.{Slot, Joint, place_total, item_total}
 use Rattle.mw_multi.specs.Steps.{steps_of}
 use Rattle.mw_multi.specs.Placement.{Put, put_numbers, IsPlaced}
 use Rattle.mw_multi.specs.Events.{events_of}
-use Rattle.mw_reach.specs.Reach.{Placed}
+use Rattle.mw_reach.specs.Reach.{Placed, IsLeast}
 use Rattle.mw_reach.specs.Bound.{asks_naming, asks_at, new_in}
 use Rattle.mw_fill.specs.Copies.{ItemCopy}
-use Rattle.mw_fill.specs.Openings.{Opening}
-use Rattle.mw_fill.specs.Fill.{Outcome, is_reached, FillRun}
+use Rattle.mw_fill.specs.Openings.{Opening, accepts}
+use Rattle.mw_fill.specs.Fill.{Outcome, first_fit, in_hand, is_reached, FillRun}
 use Rattle.mw_fill.specs.Asks.{AreLists, asks_of_levels}
-use Rattle.mw_fill.specs.Kept.{CopyKept, IsCounted, OpeningKept, IsHeldFor, AreTaken}
+use Rattle.mw_fill.specs.Kept.{CopyKept, IsCounted, OpeningKept, IsHeldFor, AreTaken, is_open_in}
 use Rattle.mw_fill.specs.declared.laid.Laid.{Laid}
 use Rattle.mw_fill.specs.declared.laying.Laying.{Laying}
 
@@ -76,6 +76,22 @@ pub record IsPast (openings : List Opening) (laying : Laying) : Type 0 where
   pub within : laying.from ≤ length openings
   pub taken : AreTaken laying.held.items openings laying.from
 
+-- the first location that is free and accepts the next copy is in the list
+abbrev pub IsSure : List Opening → List ItemCopy → List Laid → List (Option Put) → Places → Type 0
+IsSure openings copies laid held places =
+    (copy : ItemCopy) → copy ≡ slice_index_or copies (length laid) copy
+    → (opening : Opening) × (find (is_open_in (accepts copy) held) openings ≡ Some opening)
+    × (places opening.place ≡ true)
+
+-- the next copy finds the same location by this list as by its own
+abbrev pub FindsAlike : Joint → List Opening → List ItemCopy → List Laid → Placed → Places → Type 0
+FindsAlike joint openings copies laid table places =
+    (w : Places)
+    × IsLeast (steps_of joint) (in_hand joint (drop (length laid + 1) copies)) table w
+    × ((copy : ItemCopy) → copy ≡ slice_index_or copies (length laid) copy
+    → first_fit (λ s. accepts copy s && w s.place) (puts_of laid) openings
+    ≡ first_fit (λ s. accepts copy s && places s.place) (puts_of laid) openings)
+
 -- ---- asks
 
 -- the numbers over all slots of the copies from one to another
@@ -101,3 +117,23 @@ RangeWithin joint copies laid from to before after =
     → to ≤ from + 2 ^ levels → take (length laid) puts ≡ puts_of laid
     → AreLists joint copies puts tables lists
     → after ≤ before + asks_of_range joint copies tables lists levels from to
+
+-- the asks within the first half of a range, with those for its list; the whole's list was there
+abbrev pub FirstWithin : Joint → List ItemCopy → List Laid → ℕ → ℕ → ℕ → ℕ → ℕ → Type 0
+FirstWithin joint copies laid from middle to before after =
+    (levels : ℕ) (puts : List Put) (tables : ℕ → Placed) (lists : ℕ → ℕ → List Bool)
+    → middle ≤ from + 2 ^ levels → take (length laid) puts ≡ puts_of laid
+    → AreLists joint copies puts tables lists
+    → after ≤ before + (asks_naming (steps_of joint) (numbers_between copies middle to)
+    + asks_at (steps_of joint) (tables from) (new_in (lists from to) (lists from middle)))
+    + asks_of_range joint copies tables lists levels from middle
+
+-- the same of the second half
+abbrev pub SecondWithin : Joint → List ItemCopy → List Laid → ℕ → ℕ → ℕ → ℕ → ℕ → Type 0
+SecondWithin joint copies laid from middle to before after =
+    (levels : ℕ) (puts : List Put) (tables : ℕ → Placed) (lists : ℕ → ℕ → List Bool)
+    → to ≤ middle + 2 ^ levels → take (length laid) puts ≡ puts_of laid
+    → AreLists joint copies puts tables lists
+    → after ≤ before + (asks_naming (steps_of joint) (numbers_between copies from middle)
+    + asks_at (steps_of joint) (tables middle) (new_in (lists from to) (lists middle to)))
+    + asks_of_range joint copies tables lists levels middle to

@@ -13,7 +13,7 @@ use crate::taken::past_taken;
 use mw_multi::Put;
 
 /// The first of the locations that is free and accepts the copy. The first so many are taken.
-fn first_accepting(
+pub(crate) fn first_accepting(
     copy: &ItemCopy,
     openings: &[Opening],
     from: usize,

@@ -1,11 +1,14 @@
-ghost use Rattle.std.specs.Prelude.{◌≡◌, ◌≤◌, [], List, All, IfOk, IfErr, OnOk, MatchResult, drop, length, map, take};
+ghost use Rattle.std.specs.Prelude.{◌≡◌, ◌<◌, ◌≤◌, ◌++◌, [], List, All, IfOk, IfErr, OnOk, MatchResult, drop, length, map, take};
 ghost use Rattle.mw_multi.specs.Placement as plain;
+ghost use Rattle.mw_multi.specs.Placement.{IsPlaced};
 ghost use Rattle.mw_multi.specs.Steps.{rule_list};
-ghost use Rattle.mw_reach.specs.Reached.{IsMadeFor, HasLeast};
+ghost use Rattle.mw_multi.specs.Events.{events_of};
+ghost use Rattle.mw_reach.specs.Reach.{Placed};
+ghost use Rattle.mw_reach.specs.Reached.{IsMadeFor, HasLeast, counts_in, flags_in};
 ghost use Rattle.mw_fill.specs.Fill.{filled, stuck, in_hand, is_reached, FillRun};
 ghost use Rattle.mw_fill.specs.Asks.{AsksWithin, FindsNone};
 ghost use Rattle.mw_fill.specs.Kept.{CopyKept, IsCounted, OpeningKept, IsHeldFor};
-ghost use Rattle.mw_fill.specs.Laying.{copy_number, IsLaid, RunsOn, AreOrdered, IsLaying, IsPast, RangeWithin, puts_of};
+ghost use Rattle.mw_fill.specs.Laying.{copy_number, IsLaid, RunsOn, AreOrdered, IsLaying, IsPast, RangeWithin, FirstWithin, SecondWithin, puts_of};
 ghost use Rattle.mw_fill.specs.Answer.{OnStuck};
 
 use crate::error::FillError;
@@ -19,11 +22,122 @@ use mw_rules::{Ruling, Steps};
 use std::alloc::Global;
 use std::sync::ledger::Ledger;
 
+/// Puts the copies up to the middle one, which isn't put, as `place_range` does, with those from there on in hand as well.
+/// `reached` has the list with the copies from `to` on in hand and with those that were put, and has it again in the end.
+///
+/// Where only one copy is left, it is put without a list of its own if its location is known by the smaller one.
+#[cycle(place_range)]
+fn place_first<R: Ruling, L: Ledger>(
+    alloc: Global,
+    joint: &Joint,
+    rules: &R,
+    order: &Order,
+    middle: usize,
+    to: usize,
+    laying: &mut Laying,
+    reached: &mut Reached,
+    steps: &mut Steps<L>,
+) -> Result<(), FillError>
+    requires rules { R.stands_for rules.now (rule_list joint.now) }
+    requires order { AreOrdered joint.now.slots order.now.copies.now order.now.numbers.now
+        order.now.openings.now }
+    requires range { (length laying.old.laid < middle) × (middle ≤ to)
+        × (to ≤ length order.now.copies.now) }
+    requires laid { IsLaying joint.now order.now.openings.now order.now.copies.now laying.old }
+    requires past { IsPast order.now.openings.now laying.old }
+    requires made { IsMadeFor joint.now reached.old }
+    requires least { HasLeast joint.now (in_hand joint.now (drop to order.now.copies.now))
+        laying.old.placed reached.old }
+    ensures made { IsMadeFor joint.now reached.new }
+    ensures again { OnOk result ((flags_in reached.new ≡ flags_in reached.old)
+        × (counts_in reached.new ≡ counts_in reached.old)) }
+    ensures front { take (length laying.old.laid) laying.new.laid ≡ laying.old.laid }
+    ensures each { All (IsLaid joint.now.slots) laying.new.laid }
+    ensures runs { RunsOn joint.now order.now.openings.now order.now.copies.now
+        laying.new.laid }
+    ensures more { OnOk result (length laying.new.laid ≡ middle) }
+    ensures past { OnOk result (IsPast order.now.openings.now laying.new) }
+    ensures answer { MatchResult result
+        (λ _. IsLaying joint.now order.now.openings.now order.now.copies.now laying.new)
+        (λ e. OnStuck e (λ slot item. FillRun is_reached joint.now order.now.openings.now
+        order.now.copies.now [] (stuck slot item))) }
+    ensures none { IfErr result (λ e. OnStuck e (λ slot item. FindsNone joint.now
+        order.now.openings.now (drop (length laying.new.laid) order.now.copies.now)
+        (puts_of laying.new.laid))) }
+    ensures steps { FirstWithin joint.now order.now.copies.now laying.new.laid
+        (length laying.old.laid) middle to steps.old steps.new }
+{
+    // Reading the joint makes known what its type keeps.
+    let _ = &joint.slots;
+    if laying.is_sure(order, middle, reached) {
+        return laying.put_next(joint, order, reached);
+    }
+    let mark = reached.mark(alloc)?;
+    laying.hold_more(joint, rules, order, middle, to, reached, steps);
+    place_range(alloc, joint, rules, order, middle, laying, reached, steps)?;
+    reached.go_back(&mark);
+    Ok(())
+}
+
+/// Puts the other copies up to this one, which isn't put, as `place_range` does. `reached` has the list with the copies from
+/// there on in hand and with those that were put before `from`.
+#[cycle(place_range)]
+fn place_second<R: Ruling, L: Ledger>(
+    alloc: Global,
+    joint: &Joint,
+    rules: &R,
+    order: &Order,
+    from: usize,
+    to: usize,
+    laying: &mut Laying,
+    reached: &mut Reached,
+    steps: &mut Steps<L>,
+) -> Result<(), FillError>
+    requires rules { R.stands_for rules.now (rule_list joint.now) }
+    requires order { AreOrdered joint.now.slots order.now.copies.now order.now.numbers.now
+        order.now.openings.now }
+    requires range { (from ≤ length laying.old.laid) × (length laying.old.laid < to)
+        × (to ≤ length order.now.copies.now) }
+    requires laid { IsLaying joint.now order.now.openings.now order.now.copies.now laying.old }
+    requires past { IsPast order.now.openings.now laying.old }
+    requires made { IsMadeFor joint.now reached.old }
+    requires least { (before : Placed)
+        × IsPlaced joint.now.slots
+        (events_of joint.now ++ puts_of (take from laying.old.laid)) before
+        × HasLeast joint.now (in_hand joint.now (drop to order.now.copies.now)) before
+        reached.old }
+    ensures made { IsMadeFor joint.now reached.new }
+    ensures front { take (length laying.old.laid) laying.new.laid ≡ laying.old.laid }
+    ensures each { All (IsLaid joint.now.slots) laying.new.laid }
+    ensures runs { RunsOn joint.now order.now.openings.now order.now.copies.now
+        laying.new.laid }
+    ensures more { OnOk result (length laying.new.laid ≡ to) }
+    ensures past { OnOk result (IsPast order.now.openings.now laying.new) }
+    ensures answer { MatchResult result
+        (λ _. IsLaying joint.now order.now.openings.now order.now.copies.now laying.new)
+        (λ e. OnStuck e (λ slot item. FillRun is_reached joint.now order.now.openings.now
+        order.now.copies.now [] (stuck slot item))) }
+    ensures none { IfErr result (λ e. OnStuck e (λ slot item. FindsNone joint.now
+        order.now.openings.now (drop (length laying.new.laid) order.now.copies.now)
+        (puts_of laying.new.laid))) }
+    ensures steps { SecondWithin joint.now order.now.copies.now laying.new.laid from
+        (length laying.old.laid) to steps.old steps.new }
+{
+    // Reading the joint makes known what its type keeps.
+    let _ = &joint.slots;
+    if laying.is_sure(order, to, reached) {
+        return laying.put_next(joint, order, reached);
+    }
+    laying.find_from(alloc, joint, rules, from, reached, steps)?;
+    place_range(alloc, joint, rules, order, to, laying, reached, steps)
+}
+
 /// Puts the copies up to this one, which isn't put, each by the least list with the copies after it in hand. `reached` has
 /// the list with the copies from there on in hand and with those that were put.
 ///
 /// The first half begins with the second half in hand as well, and the second half with the first half where it was put. So
 /// each list goes on from a smaller one, and a rule is asked but a few times for each halving.
+#[cycle(place_range)]
 fn place_range<R: Ruling, L: Ledger>(
     alloc: Global,
     joint: &Joint,
@@ -70,12 +184,8 @@ fn place_range<R: Ruling, L: Ledger>(
         return laying.put_next(joint, order, reached);
     }
     let middle = from + (to - from) / 2;
-    let mark = reached.mark(alloc)?;
-    laying.hold_more(joint, rules, order, middle, to, reached, steps);
-    place_range(alloc, joint, rules, order, middle, laying, reached, steps)?;
-    reached.go_back(&mark);
-    laying.find_from(alloc, joint, rules, from, reached, steps)?;
-    place_range(alloc, joint, rules, order, to, laying, reached, steps)
+    place_first(alloc, joint, rules, order, middle, to, laying, reached, steps)?;
+    place_second(alloc, joint, rules, order, from, to, laying, reached, steps)
 }
 
 /// The copies' numbers over all slots.

@@ -3,6 +3,7 @@ ghost use Rattle.mw_reach.specs.Reached.{places_in};
 ghost use Rattle.mw_fill.specs.Openings.{accepts};
 ghost use Rattle.mw_fill.specs.Kept.{IsHeldFor, AreTaken, is_open_in};
 
+use crate::anywhere::first_accepting;
 use crate::error::FillError;
 use crate::item_copy::ItemCopy;
 use crate::laid::Laid;
@@ -81,13 +82,13 @@ fn nothing_held(alloc: Global, joint: &Joint) -> Result<Vec<Option<Put>>, Memory
 }
 
 impl Laying {
-    ghost use Rattle.std.specs.Prelude.{◌≡◌, ◌+◌, ◌<◌, List, All, IfOk, IfErr, OnOk, MatchResult, [], drop, length, take};
-    ghost use Rattle.mw_reach.specs.Reached.{HasLeast};
+    ghost use Rattle.std.specs.Prelude.{◌≡◌, ◌+◌, ◌<◌, List, All, IfOk, IfErr, OnOk, MatchResult, [], drop, length, take, true};
+    ghost use Rattle.mw_reach.specs.Reached.{places_in};
     ghost use Rattle.mw_fill.specs.Copies.{ItemCopy};
     ghost use Rattle.mw_fill.specs.Openings.{Opening};
-    ghost use Rattle.mw_fill.specs.Fill.{stuck, in_hand, is_reached, FillRun};
+    ghost use Rattle.mw_fill.specs.Fill.{stuck, is_reached, FillRun};
     ghost use Rattle.mw_fill.specs.Asks.{FindsNone};
-    ghost use Rattle.mw_fill.specs.Laying.{puts_of, IsLaid, RunsOn, AreOrdered, IsLaying, IsPast};
+    ghost use Rattle.mw_fill.specs.Laying.{puts_of, IsLaid, RunsOn, AreOrdered, IsLaying, IsPast, IsSure, FindsAlike};
     ghost use Rattle.mw_fill.specs.Answer.{OnStuck};
 
     /// The events alone; `Memory` where memory ran out.
@@ -108,7 +109,28 @@ impl Laying {
         })
     }
 
-    /// Puts the next copy at the first of the locations that is free, accepts it and is reached.
+    /// Whether only the copy before `to` is left, and the first of the locations that is free and accepts it is reached. Then
+    /// it is the first one by each greater list too, so none has to be made.
+    pub(crate) fn is_sure(&self, order: &Order, to: usize, reached: &Reached) -> bool
+        requires next { length self.now.laid < length order.now.copies.now }
+        requires within { All (λ s. s.place < length self.now.held.items) order.now.openings.now }
+        requires past { IsPast order.now.openings.now self.now }
+        ensures last { result ≡ true → to ≡ length self.now.laid + 1 }
+        ensures sure { result ≡ true → IsSure order.now.openings.now order.now.copies.now
+            self.now.laid self.now.held.items (places_in reached.now) }
+    {
+        if to != self.laid.len() + 1 {
+            return false;
+        }
+        let copy = &order.copies[self.laid.len()];
+        match first_accepting(copy, order.openings, self.from, self.held.as_slice()) {
+            Some(opening) => reached.has(opening.place),
+            None => false,
+        }
+    }
+
+    /// Puts the next copy at the first of the locations that is free, accepts it and is reached. The list may be a smaller
+    /// one than the copy's own where both find the same location.
     pub(crate) fn put_next(
         &mut self,
         joint: &Joint,
@@ -120,9 +142,8 @@ impl Laying {
         requires next { length self.old.laid < length order.now.copies.now }
         requires laid { IsLaying joint.now order.now.openings.now order.now.copies.now self.old }
         requires past { IsPast order.now.openings.now self.old }
-        requires least { HasLeast joint.now
-            (in_hand joint.now (drop (length self.old.laid + 1) order.now.copies.now))
-            self.old.placed reached.now }
+        requires found { FindsAlike joint.now order.now.openings.now order.now.copies.now
+            self.old.laid self.old.placed (places_in reached.now) }
         ensures front { take (length self.old.laid) self.new.laid ≡ self.old.laid }
         ensures each { All (IsLaid joint.now.slots) self.new.laid }
         ensures runs { RunsOn joint.now order.now.openings.now order.now.copies.now

@@ -1,23 +1,41 @@
-use Rattle.std.proofs.Common.{◌≡◌, ◌≤◌, ◌+◌, ◌-◌, length, drop, refl, sym, ap, subst, ◌∙◌, arith, rules}
+use Rattle.std.proofs.Common.{◌≡◌, ◌≤◌, ◌+◌, ◌-◌, ◌++◌, length, drop, take, refl, sym, ap, subst, ◌∙◌, arith, rules}
 use Rattle.std.specs.Prelude.{◌/◌}
-use Rattle.std.proofs.lemmas.List.{length-map}
+use Rattle.std.proofs.lemmas.List.{length-map, length-take, take_all}
 use Rattle.mw_multi.specs.Joint.{IsJoint}
-use Rattle.mw_reach.specs.Reached.{counts_in, flags_in}
+use Rattle.mw_multi.specs.Placement.{IsPlaced}
+use Rattle.mw_multi.specs.Events.{events_of}
+use Rattle.mw_multi.specs.Steps.{steps_of}
+use Rattle.mw_reach.specs.Bound.{asks_naming, asks_at, new_in}
+use Rattle.mw_reach.specs.Reach.{IsLeast}
+use Rattle.mw_reach.specs.Reached.{counts_in, flags_in, places_in}
 use Rattle.mw_fill.specs.Fill.{in_hand}
-use Rattle.mw_fill.specs.Laying.{laid_put, puts_of, asks_of_range}
-use Rattle.mw_fill.proofs.Asked.{front_puts, half_numbers, list_there, first_counted, both_counted}
-use Rattle.mw_fill.proofs.Runs.{table_few, counts_few, placed_here, half_least}
+use Rattle.mw_fill.specs.Laying.{laid_put, puts_of, numbers_between, asks_of_range}
+use Rattle.mw_fill.proofs.Asked.{front_puts, half_numbers, list_there, cost_is, first_counted, both_counted}
+use Rattle.mw_fill.proofs.Runs.{table_few, counts_few, placed_here}
+use Rattle.mw_fill.proofs.Sure.{sure_alike, own_alike, since_at}
 use Rattle.mw_fill.proofs.assumed.+place_range.Goals as goal
 
-pub hold_more-requires-clause-placed : goal.hold_more-requires-clause-placed
-hold_more-requires-clause-placed g t c =
+-- ---- the first half
+
+pub place_first-put_next-requires-clause-found : goal.place_first-put_next-requires-clause-found
+place_first-put_next-requires-clause-found g t c =
+    let a = c.args in
+    let joint = a.joint.now in
+    let laying = a.laying.now in
+    let laid = laying.laid in
+    let whole = subst (λ ls. IsPlaced joint.slots (events_of joint ++ puts_of ls) laying.placed) (sym (take_all (length laid) laid (omega arith))) c.requires.laid.table_is in
+    sure_alike joint a.order.now.copies.now laid (length laid) a.to laying.placed laying.placed (places_in a.reached.now) a.order.now.openings.now laying.held.items a.reached.now.work c.requires.made c.requires.laid.each whole
+    c.requires.laid.table_is c.requires.laid.held_is.entries (omega (arith, c.requires.range.0, c.requires.range.1)) c.requires.least.least (c.is_sure.ensures.sure c.if-is_sure.true)
+
+pub place_first-hold_more-requires-clause-placed : goal.place_first-hold_more-requires-clause-placed
+place_first-hold_more-requires-clause-placed g t c =
     let a = c.args in
     let order = a.order.now in
     let laying = a.laying.now in
     placed_here a.joint.now (subst IsJoint c.joint.view_is c.joint.invariant) order.openings.now order.copies.now laying.laid laying.held.items laying.placed c.requires.laid
 
-pub hold_more-requires-clause-few : goal.hold_more-requires-clause-few
-hold_more-requires-clause-few g t c i =
+pub place_first-hold_more-requires-clause-few : goal.place_first-hold_more-requires-clause-few
+place_first-hold_more-requires-clause-few g t c i =
     let a = c.args in
     let laying = a.laying.now in
     let kept : IsJoint a.joint.now = subst IsJoint c.joint.view_is c.joint.invariant in
@@ -30,97 +48,136 @@ hold_more-requires-clause-few g t c i =
       c.requires.order.few,
       c.requires.range.0,
       c.requires.range.1,
+      c.requires.range.2,
     )
 
-pub find_from-requires-clause-placed : goal.find_from-requires-clause-placed
-find_from-requires-clause-placed g t c =
+pub place_first-returns-in_err-place_range-clause-steps : goal.place_first-returns-in_err-place_range-clause-steps
+place_first-returns-in_err-place_range-clause-steps g t c levels puts tables lists few same are =
     let a = c.args in
-    let half = c.place_range.new.laying in
-    placed_here a.joint.now (subst IsJoint c.joint.view_is c.joint.invariant) a.order.now.openings.now a.order.now.copies.now half.laid half.held.items half.placed c.in_ok-place_range.ensures.answer
+    let joint = a.joint.now in
+    let copies = a.order.now.copies.now in
+    let laid = a.laying.now.laid in
+    let table = a.laying.now.placed in
+    let front = front_puts laid c.place_range.new.laying.laid puts c.place_range.ensures.front same in
+    let cost = cost_is joint copies puts tables lists are (length laid) a.to (length laid) a.middle table table (flags_in a.reached.now) (flags_in c.hold_more.new.reached) (numbers_between copies a.middle a.to)
+    (list_there joint copies puts laid (length laid) a.to table (flags_in a.reached.now) refl front c.requires.laid.table_is c.requires.made.tally.done c.requires.least.least)
+    (list_there joint copies puts laid (length laid) a.middle table (flags_in c.hold_more.new.reached) refl front c.requires.laid.table_is c.hold_more.ensures.made.tally.done c.hold_more.ensures.least.least) in
+    omega (arith, c.hold_more.ensures.steps, cost, c.place_range.ensures.steps levels puts tables lists few same are)
 
-pub find_from-requires-clause-few : goal.find_from-requires-clause-few
-find_from-requires-clause-few g t c i =
+pub place_first-returns-clause-steps : goal.place_first-returns-clause-steps
+place_first-returns-clause-steps g t c levels puts tables lists few same are =
+    let a = c.args in
+    let joint = a.joint.now in
+    let copies = a.order.now.copies.now in
+    let laid = a.laying.now.laid in
+    let table = a.laying.now.placed in
+    let front = front_puts laid c.place_range.new.laying.laid puts c.place_range.ensures.front same in
+    let cost = cost_is joint copies puts tables lists are (length laid) a.to (length laid) a.middle table table (flags_in a.reached.now) (flags_in c.hold_more.new.reached) (numbers_between copies a.middle a.to)
+    (list_there joint copies puts laid (length laid) a.to table (flags_in a.reached.now) refl front c.requires.laid.table_is c.requires.made.tally.done c.requires.least.least)
+    (list_there joint copies puts laid (length laid) a.middle table (flags_in c.hold_more.new.reached) refl front c.requires.laid.table_is c.hold_more.ensures.made.tally.done c.hold_more.ensures.least.least) in
+    omega (arith, c.hold_more.ensures.steps, cost, c.place_range.ensures.steps levels puts tables lists few same are)
+
+-- ---- the second half
+
+pub place_second-put_next-requires-clause-found : goal.place_second-put_next-requires-clause-found
+place_second-put_next-requires-clause-found g t c =
     let a = c.args in
     let laying = a.laying.now in
-    let half = c.place_range.new.laying in
+    let was = c.requires.least in
+    sure_alike a.joint.now a.order.now.copies.now laying.laid a.from a.to was.0 laying.placed (places_in a.reached.now) a.order.now.openings.now laying.held.items a.reached.now.work c.requires.made c.requires.laid.each was.1
+    c.requires.laid.table_is c.requires.laid.held_is.entries (omega (arith, c.requires.range.1)) was.2.least (c.is_sure.ensures.sure c.if-is_sure.true)
+
+pub place_second-find_from-requires-clause-placed : goal.place_second-find_from-requires-clause-placed
+place_second-find_from-requires-clause-placed g t c =
+    let a = c.args in
+    let order = a.order.now in
+    let laying = a.laying.now in
+    placed_here a.joint.now (subst IsJoint c.joint.view_is c.joint.invariant) order.openings.now order.copies.now laying.laid laying.held.items laying.placed c.requires.laid
+
+pub place_second-find_from-requires-clause-few : goal.place_second-find_from-requires-clause-few
+place_second-find_from-requires-clause-few g t c i =
+    let a = c.args in
+    let laying = a.laying.now in
     let kept : IsJoint a.joint.now = subst IsJoint c.joint.view_is c.joint.invariant in
-    let counts : counts_in c.go_back.new.self ≡ counts_in a.reached.now = sym c.go_back.ensures.back.counts ∙ c.in_ok-mark.ensures.counts in
-    rw counts
-    (omega (
+    let was = c.requires.least in
+    let front = take a.from laying.laid in
+    omega (
       arith,
-      counts_few a.joint.now kept (puts_of laying.laid) laying.placed c.requires.laid.table_is a.order.now.copies.now a.to (flags_in a.reached.now) (counts_in a.reached.now) c.requires.least i,
-      table_few a.joint.now kept (puts_of half.laid) half.placed c.in_ok-place_range.ensures.answer.table_is,
+      counts_few a.joint.now kept (puts_of front) was.0 was.1 a.order.now.copies.now a.to (flags_in a.reached.now) (counts_in a.reached.now) was.2 i,
+      table_few a.joint.now kept (puts_of laying.laid) laying.placed c.requires.laid.table_is,
       length-map laying.laid laid_put,
-      length-map half.laid laid_put,
-      c.in_ok-place_range.ensures.more,
+      length-map front laid_put,
+      length-take a.from laying.laid,
       c.requires.order.few,
       c.requires.range.0,
       c.requires.range.1,
-    ))
-
-pub place_range-requires-2 : goal.place_range-requires-2
-place_range-requires-2 g t c κs within =
-    let a = c.args in
-    let laid = a.laying.now.laid in
-    let half = c.place_range.new.laying in
-    let counts = sym c.in_ok-mark.ensures.counts ∙ c.go_back.ensures.back.counts in
-    let flags = sym c.in_ok-mark.ensures.done ∙ c.go_back.ensures.back.done in
-    let rest = ap (λ k. drop k half.laid) c.len-from.ensures in
-    let least = half_least a.joint.now (in_hand a.joint.now (drop a.to a.order.now.copies.now)) laid half.laid _ a.laying.now.placed half.placed _ _ _ _ _ _ c.in_ok-place_range.ensures.front rest flags counts
-    c.requires.laid.table_is c.in_ok-place_range.ensures.answer.table_is c.requires.least c.in_ok-find_from.ensures.least in
-    let middle = c.in_ok-place_range.ensures.more in (
-      omega (arith, middle, c.decreases, c.len-from.ensures, c.requires.range.0),
-      (search rules, (search rules, (c.requires.rules, (c.requires.order, ((omega (arith, middle, c.len-from.ensures, c.requires.range.0), c.requires.range.1), (c.in_ok-place_range.ensures.answer, (c.in_ok-place_range.ensures.past, (c.in_ok-find_from.ensures.made, least)))))))),
+      c.requires.range.2,
     )
 
-pub returns-in_err-place_range-clause-steps : goal.returns-in_err-place_range-clause-steps
-returns-in_err-place_range-clause-steps g t c levels puts tables lists few same are =
+pub place_second-place_range-requires : goal.place_second-place_range-requires
+place_second-place_range-requires g t c κs within =
     let a = c.args in
     let joint = a.joint.now in
-    let copies = a.order.now.copies.now in
     let laid = a.laying.now.laid in
-    let middle = c.len-from.result + (a.to - c.len-from.result) / 2 in
-    let front = front_puts laid c.place_range.new.laying.laid puts c.place_range.ensures.front same in
-    first_counted joint copies puts tables lists are (length laid) middle a.to (omega arith) (omega arith) (omega arith) levels (omega arith) few a.laying.now.placed (flags_in a.reached.now) (flags_in c.hold_more.new.reached)
-    (list_there joint copies puts laid (length laid) a.to a.laying.now.placed (flags_in a.reached.now) refl front c.requires.laid.table_is c.requires.made.tally.done c.requires.least.least)
-    (list_there joint copies puts laid (length laid) middle a.laying.now.placed (flags_in c.hold_more.new.reached) refl front c.requires.laid.table_is c.hold_more.ensures.made.tally.done c.hold_more.ensures.least.least)
-    _ _ _ c.hold_more.ensures.steps (λ below fits. c.place_range.ensures.steps below puts tables lists fits same are)
+    let was = c.requires.least in
+    let least = c.in_ok-find_from.ensures.least (in_hand joint (drop a.to a.order.now.copies.now)) (events_of joint ++ puts_of (take a.from laid)) was.0 was.1 (since_at joint laid a.from a.laying.now.placed c.requires.laid.table_is) was.2 in (
+      omega (arith, c.decreases),
+      (search rules, (search rules, (c.requires.rules, (c.requires.order, ((omega (arith, c.requires.range.1), c.requires.range.2), (c.requires.laid, (c.requires.past, (c.in_ok-find_from.ensures.made, least)))))))),
+    )
 
-pub returns-in_err-find_from-clause-steps : goal.returns-in_err-find_from-clause-steps
-returns-in_err-find_from-clause-steps g t c levels puts tables lists few same are =
+pub place_second-returns-clause-steps : goal.place_second-returns-clause-steps
+place_second-returns-clause-steps g t c levels puts tables lists few same are =
     let a = c.args in
     let joint = a.joint.now in
     let copies = a.order.now.copies.now in
     let laid = a.laying.now.laid in
-    let middle = c.len-from.result + (a.to - c.len-from.result) / 2 in
-    let front = front_puts laid c.place_range.new.laying.laid puts c.in_ok-place_range.ensures.front same in
-    first_counted joint copies puts tables lists are (length laid) middle a.to (omega arith) (omega arith) (omega arith) levels (omega arith) few a.laying.now.placed (flags_in a.reached.now) (flags_in c.hold_more.new.reached)
-    (list_there joint copies puts laid (length laid) a.to a.laying.now.placed (flags_in a.reached.now) refl front c.requires.laid.table_is c.requires.made.tally.done c.requires.least.least)
-    (list_there joint copies puts laid (length laid) middle a.laying.now.placed (flags_in c.hold_more.new.reached) refl front c.requires.laid.table_is c.hold_more.ensures.made.tally.done c.hold_more.ensures.least.least)
-    _ _ _ c.hold_more.ensures.steps (λ below fits. omega (arith, c.in_err-find_from.ensures.unasked, c.in_ok-place_range.ensures.steps below puts tables lists fits same are))
+    let table = a.laying.now.placed in
+    let was = c.requires.least in
+    let front = take a.from laid in
+    let long : a.from ≡ length front = omega (arith, length-take a.from laid, c.requires.range.0) in
+    let all_puts = front_puts laid c.place_range.new.laying.laid puts c.place_range.ensures.front same in
+    let least = c.in_ok-find_from.ensures.least (in_hand joint (drop a.to copies)) (events_of joint ++ puts_of front) was.0 was.1 (since_at joint laid a.from table c.requires.laid.table_is) was.2 in
+    let numbers = half_numbers copies laid a.from (length laid) c.requires.range.0 refl c.requires.laid.numbers in
+    let cost = cost_is joint copies puts tables lists are a.from a.to (length laid) a.to table was.0 (flags_in a.reached.now) (flags_in c.find_from.new.reached) (numbers_between copies a.from (length laid))
+    (list_there joint copies puts front a.from a.to was.0 (flags_in a.reached.now) long (front_puts front laid puts (ap (λ k. take k laid) (sym long)) all_puts) was.1 c.requires.made.tally.done was.2.least)
+    (list_there joint copies puts laid (length laid) a.to table (flags_in c.find_from.new.reached) refl all_puts c.requires.laid.table_is c.in_ok-find_from.ensures.made.tally.done least.least) in
+    omega (arith, rw numbers at c.in_ok-find_from.ensures.steps, cost, c.place_range.ensures.steps levels puts tables lists few same are)
 
-pub returns-clause-steps : goal.returns-clause-steps
-returns-clause-steps g t c levels puts tables lists few same are =
+-- ---- the whole
+
+pub place_range-put_next-requires-clause-found : goal.place_range-put_next-requires-clause-found
+place_range-put_next-requires-clause-found g t c =
+    let a = c.args in
+    let joint = a.joint.now in
+    let copies = a.order.now.copies.now in
+    let laying = a.laying.now in
+    let next : a.to ≡ length laying.laid + 1 = omega (arith, c.len-from.ensures, c.if-to-from-eq1.true) in
+    own_alike joint a.order.now.openings.now copies laying.laid laying.placed (places_in a.reached.now)
+    (subst (λ k. IsLeast (steps_of joint) (in_hand joint (drop k copies)) laying.placed (places_in a.reached.now)) next c.requires.least.least)
+
+pub place_range-returns-in_err-place_first-clause-steps : goal.place_range-returns-in_err-place_first-clause-steps
+place_range-returns-in_err-place_first-clause-steps g t c levels puts tables lists few same are =
+    let a = c.args in
+    let laid = a.laying.now.laid in
+    let middle = c.len-from.result + (a.to - c.len-from.result) / 2 in
+    first_counted a.joint.now a.order.now.copies.now puts tables lists are (length laid) middle a.to (omega arith) (omega arith) (omega arith) levels (omega arith) few a.steps.now c.place_first.new.steps
+    (λ below fits. c.place_first.ensures.steps below puts tables lists fits same are)
+
+pub place_range-returns-clause-steps : goal.place_range-returns-clause-steps
+place_range-returns-clause-steps g t c levels puts tables lists few same are =
     let a = c.args in
     let joint = a.joint.now in
     let copies = a.order.now.copies.now in
     let laid = a.laying.now.laid in
-    let half = c.place_range.new.laying in
+    let half = c.place_first.new.laying in
     let middle = c.len-from.result + (a.to - c.len-from.result) / 2 in
-    let more = c.in_ok-place_range.ensures.more in
-    let half_puts = front_puts half.laid c.place_range-2.new.laying.laid puts c.place_range-2.ensures.front same in
-    let front = front_puts laid half.laid puts c.in_ok-place_range.ensures.front half_puts in
-    let counts = sym c.in_ok-mark.ensures.counts ∙ c.go_back.ensures.back.counts in
-    let flags = sym c.in_ok-mark.ensures.done ∙ c.go_back.ensures.back.done in
-    let rest = ap (λ k. drop k half.laid) c.len-from.ensures in
-    let least = half_least joint (in_hand joint (drop a.to copies)) laid half.laid _ a.laying.now.placed half.placed _ _ _ _ _ _ c.in_ok-place_range.ensures.front rest flags counts
-    c.requires.laid.table_is c.in_ok-place_range.ensures.answer.table_is c.requires.least c.in_ok-find_from.ensures.least in
-    let numbers = half_numbers copies half.laid (length laid) middle (omega arith) more c.in_ok-place_range.ensures.answer.numbers in
-    both_counted joint copies puts tables lists are (length laid) middle a.to (omega arith) (omega arith) (omega arith) levels (omega arith) few a.laying.now.placed (flags_in a.reached.now) (flags_in c.hold_more.new.reached)
-    (list_there joint copies puts laid (length laid) a.to a.laying.now.placed (flags_in a.reached.now) refl front c.requires.laid.table_is c.requires.made.tally.done c.requires.least.least)
-    (list_there joint copies puts laid (length laid) middle a.laying.now.placed (flags_in c.hold_more.new.reached) refl front c.requires.laid.table_is c.hold_more.ensures.made.tally.done c.hold_more.ensures.least.least)
-    _ _ _ c.hold_more.ensures.steps (flags_in c.find_from.new.reached) half.placed _ _
-    (list_there joint copies puts half.laid middle a.to half.placed (flags_in c.find_from.new.reached) (sym more) half_puts c.in_ok-place_range.ensures.answer.table_is c.in_ok-find_from.ensures.made.tally.done least.least)
-    (rw (rest, numbers, ← flags) at c.in_ok-find_from.ensures.steps)
-    (λ below fits. c.in_ok-place_range.ensures.steps below puts tables lists fits half_puts are)
-    (λ below fits. subst (λ k. c.place_range-2.new.steps ≤ c.find_from.new.steps + asks_of_range joint copies tables lists below k a.to) more (c.place_range-2.ensures.steps below puts tables lists (omega (arith, fits, more)) same are))
+    let more = c.in_ok-place_first.ensures.more in
+    let half_puts = front_puts half.laid c.place_second.new.laying.laid puts c.place_second.ensures.front same in
+    both_counted joint copies puts tables lists are (length laid) middle a.to (omega arith) (omega arith) (omega arith) levels (omega arith) few a.steps.now c.place_first.new.steps
+    (λ below fits. c.place_first.ensures.steps below puts tables lists fits half_puts are) c.place_second.new.steps
+    (λ below fits.
+        subst (λ k. c.place_second.new.steps ≤ c.place_first.new.steps + (asks_naming (steps_of joint) (numbers_between copies k middle) + asks_at (steps_of joint) (tables middle) (new_in (lists k a.to) (lists middle a.to))) + asks_of_range joint copies tables lists below middle a.to)
+        c.len-from.ensures
+        (subst (λ m. c.place_second.new.steps ≤ c.place_first.new.steps + (asks_naming (steps_of joint) (numbers_between copies c.len-from.result m) + asks_at (steps_of joint) (tables m) (new_in (lists c.len-from.result a.to) (lists m a.to))) + asks_of_range joint copies tables lists below m a.to)
+        more
+        (c.place_second.ensures.steps below puts tables lists (omega (arith, fits, more)) same are)))

@@ -54,11 +54,12 @@ returns-in-None-clause-answer c =
     let laid = a.self.now.laid in
     let copy = c.index-copies-len.result in
     let is : copy ≡ get_or a.order.now.copies.now (length laid) copy = c.index-copies-len.is ∙ ap (λ k. get_or a.order.now.copies.now k copy) c.len.ensures in
-    let w = places_in a.reached.now in
+    let w = c.requires.found.0 in
+    let seen = places_in a.reached.now in
     let none : first_fit (λ s. accepts copy s && w s.place) (puts_of laid) a.order.now.openings.now ≡ None =
-    sym (held_first (λ s. accepts copy s && w s.place) (puts_of laid) a.self.now.held.items a.order.now.openings.now c.requires.laid.held_is.entries) ∙ ap (λ h. find (is_open_in (λ s. accepts copy s && w s.place) h) a.order.now.openings.now) (sym c.as_slice-2.ensures.value) ∙ sym c.first_after.ensures ∙ c.in-None.is in
+    c.requires.found.2 copy is ∙ sym (held_first (λ s. accepts copy s && seen s.place) (puts_of laid) a.self.now.held.items a.order.now.openings.now c.requires.laid.held_is.entries) ∙ ap (λ h. find (is_open_in (λ s. accepts copy s && seen s.place) h) a.order.now.openings.now) (sym c.as_slice-2.ensures.value) ∙ sym c.first_after.ensures ∙ c.in-None.is in
     subst (λ e. OnStuck e (λ slot item. FillRun is_reached joint a.order.now.openings.now a.order.now.copies.now [] (stuck slot item))) (sym c.stuck.ensures)
-    (stuck_here joint kept a.order.now.openings.now a.order.now.copies.now laid a.self.now.held.items a.self.now.placed c.requires.laid copy c.requires.next is w c.requires.least.least none)
+    (stuck_here joint kept a.order.now.openings.now a.order.now.copies.now laid a.self.now.held.items a.self.now.placed c.requires.laid copy c.requires.next is w c.requires.found.1 none)
 
 pub returns-in-None-clause-none : goal.returns-in-None-clause-none
 returns-in-None-clause-none c =
@@ -68,11 +69,12 @@ returns-in-None-clause-none c =
     let laid = a.self.now.laid in
     let copy = c.index-copies-len.result in
     let is : copy ≡ get_or a.order.now.copies.now (length laid) copy = c.index-copies-len.is ∙ ap (λ k. get_or a.order.now.copies.now k copy) c.len.ensures in
-    let w = places_in a.reached.now in
+    let w = c.requires.found.0 in
+    let seen = places_in a.reached.now in
     let none : first_fit (λ s. accepts copy s && w s.place) (puts_of laid) a.order.now.openings.now ≡ None =
-    sym (held_first (λ s. accepts copy s && w s.place) (puts_of laid) a.self.now.held.items a.order.now.openings.now c.requires.laid.held_is.entries) ∙ ap (λ h. find (is_open_in (λ s. accepts copy s && w s.place) h) a.order.now.openings.now) (sym c.as_slice-2.ensures.value) ∙ sym c.first_after.ensures ∙ c.in-None.is in
+    c.requires.found.2 copy is ∙ sym (held_first (λ s. accepts copy s && seen s.place) (puts_of laid) a.self.now.held.items a.order.now.openings.now c.requires.laid.held_is.entries) ∙ ap (λ h. find (is_open_in (λ s. accepts copy s && seen s.place) h) a.order.now.openings.now) (sym c.as_slice-2.ensures.value) ∙ sym c.first_after.ensures ∙ c.in-None.is in
     subst (λ e. OnStuck e (λ slot item. FindsNone joint a.order.now.openings.now (drop (length laid) a.order.now.copies.now) (puts_of laid))) (sym c.stuck.ensures)
-    (none_here joint kept a.order.now.openings.now a.order.now.copies.now laid a.self.now.held.items a.self.now.placed c.requires.laid copy c.requires.next is w c.requires.least.least none)
+    (none_here joint kept a.order.now.openings.now a.order.now.copies.now laid a.self.now.held.items a.self.now.placed c.requires.laid copy c.requires.next is w c.requires.found.1 none)
 
 pub returns-in_ok-push-in-Some-clause-answer : goal.returns-in_ok-push-in-Some-clause-answer
 returns-in_ok-push-in-Some-clause-answer c =
@@ -85,13 +87,14 @@ returns-in_ok-push-in-Some-clause-answer c =
     let copy_kept : CopyKept joint.slots copy = subst (CopyKept joint.slots) (sym is) (c.requires.order.copies_kept (length laid) copy c.requires.next) in
     let counted : IsCounted joint.slots copy = subst (IsCounted joint.slots) (sym is) (c.requires.order.counted (length laid) copy c.requires.next) in
     let opening = c.in-Some.opening in
-    let w = places_in a.reached.now in
+    let w = c.requires.found.0 in
+    let seen = places_in a.reached.now in
     let found : first_fit (λ s. accepts copy s && w s.place) (puts_of laid) a.order.now.openings.now ≡ Some opening =
-    sym (held_first (λ s. accepts copy s && w s.place) (puts_of laid) a.self.now.held.items a.order.now.openings.now c.requires.laid.held_is.entries) ∙ ap (λ h. find (is_open_in (λ s. accepts copy s && w s.place) h) a.order.now.openings.now) (sym c.as_slice-2.ensures.value) ∙ sym c.first_after.ensures ∙ c.in-Some.is in
+    c.requires.found.2 copy is ∙ sym (held_first (λ s. accepts copy s && seen s.place) (puts_of laid) a.self.now.held.items a.order.now.openings.now c.requires.laid.held_is.entries) ∙ ap (λ h. find (is_open_in (λ s. accepts copy s && seen s.place) h) a.order.now.openings.now) (sym c.as_slice-2.ensures.value) ∙ sym c.first_after.ensures ∙ c.in-Some.is in
     let put = c.put_at-put.ensures in
     let placed : IsPlaced joint.slots ((events_of joint ++ puts_of laid) ++ put_of copy opening ∷ []) c.put.new.self =
     subst (λ p. IsPlaced joint.slots ((events_of joint ++ puts_of laid) ++ p ∷ []) c.put.new.self) put (c.in_ok-put-in-Some.ensures.ok (events_of joint ++ puts_of laid) c.requires.laid.table_is) in
-    let next = one_placed joint kept a.order.now.openings.now a.order.now.copies.now laid a.self.now.held.items a.self.now.placed c.requires.laid copy c.requires.next is w c.requires.least.least copy_kept counted c.requires.order.openings_kept opening c.put.new.self found placed in
+    let next = one_placed joint kept a.order.now.openings.now a.order.now.copies.now laid a.self.now.held.items a.self.now.placed c.requires.laid copy c.requires.next is w c.requires.found.1 copy_kept counted c.requires.order.openings_kept opening c.put.new.self found placed in
     let entry : set a.self.now.held.items opening.place (Some (put_of copy opening)) ≡ set a.self.now.held.items c.opening.inside.place (Some c.put_at-put.result) = sym (ap₂ (λ n p. set a.self.now.held.items n (Some p)) (ap (λ (s : Opening). s.place) c.opening.view_is) put) in
     let last : laid ++ record { put = put_of copy opening; number = copy.number } ∷ [] ≡ c.push.new.self =
     sym (c.in_ok-push-in-Some.ensures.ok ∙ ap₂ (λ (p : Put) n. laid ++ record { put = p; number = n } ∷ []) put (ap (λ (i : ItemCopy). i.number) c.copy.view_is)) in
