@@ -17,7 +17,7 @@ use Rattle.mw_reach.specs.GoingOn.{IsFinished}
 use Rattle.mw_reach.specs.Reached.{IsPlacedFor}
 use Rattle.mw_reach.proofs.Found.{found-le}
 use Rattle.mw_reach.proofs.Placing.{placed_for, placed-le}
-use Rattle.mw_reach.proofs.Settling.{settled_alike, settled_moved}
+use Rattle.mw_reach.proofs.Settling.{settled_alike}
 use Rattle.mw_fill.specs.Copies.{ItemCopy, has_number}
 use Rattle.mw_fill.specs.Openings.{Opening, accepts}
 use Rattle.mw_fill.specs.Fill.{filled, stuck_with, put_of, first_fit, in_hand, is_reached, FillRun}
@@ -115,24 +115,12 @@ module _ (joint : Joint) (kept : IsJoint joint) (openings : List Opening) (copie
 
 -- ---- one half after the other
 
--- those that were put since
-pub since : (joint : Joint) (laid later : List Laid) (table : Placed) → take (length laid) later ≡ laid → IsPlaced joint.slots (events_of joint ++ puts_of later) table
-    → IsPlaced joint.slots ((events_of joint ++ puts_of laid) ++ puts_of (drop (length laid) later)) table
-since joint laid later table same placed =
-    let whole : later ≡ laid ++ drop (length laid) later = sym (take-append-drop (length laid) later) ∙ ap (λ front. front ++ drop (length laid) later) same in
-    let puts : puts_of later ≡ puts_of laid ++ puts_of (drop (length laid) later) = ap puts_of whole ∙ map-append laid_put laid (drop (length laid) later) in
-    subst (λ ps. IsPlaced joint.slots ps table) (sym (append_assoc (events_of joint) (puts_of laid) (puts_of (drop (length laid) later)))) (subst (λ ps. IsPlaced joint.slots (events_of joint ++ ps) table) puts placed)
+-- those that were put since a number
+pub since_at : (joint : Joint) (laid : List Laid) (n : ℕ) (table : Placed) → IsPlaced joint.slots (events_of joint ++ puts_of laid) table
+    → IsPlaced joint.slots ((events_of joint ++ puts_of (take n laid)) ++ puts_of (drop n laid)) table
+since_at joint laid n table placed =
+    let puts : puts_of laid ≡ puts_of (take n laid) ++ puts_of (drop n laid) = ap puts_of (sym (take-append-drop n laid)) ∙ map-append laid_put (take n laid) (drop n laid) in
+    subst (λ ps. IsPlaced joint.slots ps table) (sym (append_assoc (events_of joint) (puts_of (take n laid)) (puts_of (drop n laid)))) (subst (λ ps. IsPlaced joint.slots (events_of joint ++ ps) table) puts placed)
 
 pub rest_of : (later slice : List Laid) (k from : ℕ) → slice ≡ later → from ≡ k → take (length slice - from) (drop from slice) ≡ drop k later
 rest_of later slice k from same at = rw (same, at) (take_all (length later - k) (drop k later) (omega (arith, length-drop k later)))
-
--- the list of the second half: where it is one for the copies after it once more is put, it is one after what was put since
-pub half_least : (joint : Joint) (base : Bag) (laid later slice : List Laid) (placed after : Placed) (old back new : List Bool) (old_counts back_counts new_counts : List ℕ)
-    → take (length laid) later ≡ laid → slice ≡ drop (length laid) later → old ≡ back → old_counts ≡ back_counts
-    → IsPlaced joint.slots (events_of joint ++ puts_of laid) placed → IsPlaced joint.slots (events_of joint ++ puts_of later) after → IsFinished (steps_of joint) base placed old old_counts
-    → ((base : Bag) (puts : List Put) (before : Placed) → IsPlaced joint.slots puts before → IsPlaced joint.slots (puts ++ puts_of slice) after → IsFinished (steps_of joint) base before back back_counts → IsFinished (steps_of joint) base after new new_counts)
-    → IsFinished (steps_of joint) base after new new_counts
-half_least joint base laid later slice placed after old back new old_counts back_counts new_counts front rest flags counts first then settled go_on =
-    go_on base (events_of joint ++ puts_of laid) placed first
-    (subst (λ ls. IsPlaced joint.slots ((events_of joint ++ puts_of laid) ++ puts_of ls) after) (sym rest) (since joint laid later after front then))
-    (settled_moved (steps_of joint) base placed old back old_counts back_counts flags counts settled)

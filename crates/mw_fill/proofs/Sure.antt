@@ -1,8 +1,7 @@
 -- A copy whose location is known by a smaller list than its own.
-use Rattle.std.proofs.Common.{◌≡◌, ℕ, ◌+◌, ◌≤◌, ◌&&◌, Bool, true, List, [], ◌∷◌, ◌++◌, Option, Some, None, All, length, get_or, take, drop, refl, sym, ap, subst, ◌∙◌, inl, inr, arith, true≢false, append_assoc, take-append-drop}
+use Rattle.std.proofs.Common.{◌≡◌, ℕ, ◌+◌, ◌≤◌, ◌&&◌, Bool, true, List, [], ◌∷◌, ◌++◌, Option, Some, None, All, length, get_or, take, drop, refl, sym, subst, ◌∙◌, inl, inr, arith, true≢false}
 use Rattle.std.specs.Prelude.{find, is_none}
 use Rattle.std.proofs.lemmas.Bool.{cases_Bool, and_parts, and_from, cond-true, cond-false}
-use Rattle.std.proofs.lemmas.List.{map-append}
 use Rattle.std.proofs.lemmas.List.Elements.{All-drop}
 use Rattle.mw_rules.specs.Holds.{Places, places_of}
 use Rattle.mw_rules.specs.Laws.{IsPartOf}
@@ -18,12 +17,13 @@ use Rattle.mw_fill.specs.Copies.{ItemCopy}
 use Rattle.mw_fill.specs.Openings.{Opening, accepts}
 use Rattle.mw_fill.specs.Fill.{in_hand, first_fit}
 use Rattle.mw_fill.specs.Kept.{is_open_in}
-use Rattle.mw_fill.specs.Laying.{laid_put, puts_of, IsLaid, IsSure, FindsAlike}
+use Rattle.mw_fill.specs.Laying.{puts_of, IsLaid, IsSure, FindsAlike}
 use Rattle.mw_fill.specs.declared.laid.Laid.{Laid}
 use Rattle.mw_fill.proofs.Fitting.{find_passes, held_first}
 use Rattle.mw_fill.proofs.Hands.{in_hand_more}
 use Rattle.mw_fill.proofs.Finding.{found_laid}
 use Rattle.mw_fill.proofs.Existing.{least_list, steps_fit}
+use Rattle.mw_fill.proofs.Runs.{since_at}
 
 -- the first element that passes one test is the first that passes a narrower one, where it passes that
 find_narrower : {X : Type 0} (f g : X → Bool) (xs : List X) (x : X) → ((y : X) → g y ≡ true → f y ≡ true) → find f xs ≡ Some x → g x ≡ true → find g xs ≡ Some x
@@ -50,13 +50,6 @@ found_by copy held openings opening first w there =
     find_narrower (is_open_in (accepts copy) held) (is_open_in (λ s. accepts copy s && w s.place) held) openings opening
     (λ s e. let parts = and_parts (free s) (accepts copy s && w s.place) e in and_from (free s) (accepts copy s) parts.0 (and_parts (accepts copy s) (w s.place) parts.1).0)
     first (and_from (free opening) (accepts copy opening && w opening.place) here.0 (and_from (accepts copy opening) (w opening.place) here.1 there))
-
--- those that were put since a number
-pub since_at : (joint : Joint) (laid : List Laid) (n : ℕ) (table : Placed) → IsPlaced joint.slots (events_of joint ++ puts_of laid) table
-    → IsPlaced joint.slots ((events_of joint ++ puts_of (take n laid)) ++ puts_of (drop n laid)) table
-since_at joint laid n table placed =
-    let puts : puts_of laid ≡ puts_of (take n laid) ++ puts_of (drop n laid) = ap puts_of (sym (take-append-drop n laid)) ∙ map-append laid_put (take n laid) (drop n laid) in
-    subst (λ ps. IsPlaced joint.slots ps table) (sym (append_assoc (events_of joint) (puts_of (take n laid)) (puts_of (drop n laid)))) (subst (λ ps. IsPlaced joint.slots (events_of joint ++ ps) table) puts placed)
 
 module _ (joint : Joint) (copies : List ItemCopy) (laid : List Laid) (n to : ℕ) (before table : Placed) (places : Places) where
   -- the list with fewer copies in hand, and with the first ones alone where they were put, is part of the next copy's

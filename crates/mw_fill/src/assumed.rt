@@ -184,7 +184,9 @@ fn place_range<R: Ruling, L: Ledger>(
         return laying.put_next(joint, order, reached);
     }
     let middle = from + (to - from) / 2;
-    place_first(alloc, joint, rules, order, middle, to, laying, reached, steps)?;
+    place_first(
+        alloc, joint, rules, order, middle, to, laying, reached, steps,
+    )?;
     place_second(alloc, joint, rules, order, from, to, laying, reached, steps)
 }
 

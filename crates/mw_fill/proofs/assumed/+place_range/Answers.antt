@@ -11,8 +11,8 @@ use Rattle.mw_reach.specs.Reached.{counts_in, flags_in, places_in}
 use Rattle.mw_fill.specs.Fill.{in_hand}
 use Rattle.mw_fill.specs.Laying.{laid_put, puts_of, numbers_between, asks_of_range}
 use Rattle.mw_fill.proofs.Asked.{front_puts, half_numbers, list_there, cost_is, first_counted, both_counted}
-use Rattle.mw_fill.proofs.Runs.{table_few, counts_few, placed_here}
-use Rattle.mw_fill.proofs.Sure.{sure_alike, own_alike, since_at}
+use Rattle.mw_fill.proofs.Runs.{table_few, counts_few, placed_here, since_at}
+use Rattle.mw_fill.proofs.Sure.{sure_alike, own_alike}
 use Rattle.mw_fill.proofs.assumed.+place_range.Goals as goal
 
 -- ---- the first half
@@ -176,8 +176,8 @@ place_range-returns-clause-steps g t c levels puts tables lists few same are =
     both_counted joint copies puts tables lists are (length laid) middle a.to (omega arith) (omega arith) (omega arith) levels (omega arith) few a.steps.now c.place_first.new.steps
     (λ below fits. c.place_first.ensures.steps below puts tables lists fits half_puts are) c.place_second.new.steps
     (λ below fits.
-        subst (λ k. c.place_second.new.steps ≤ c.place_first.new.steps + (asks_naming (steps_of joint) (numbers_between copies k middle) + asks_at (steps_of joint) (tables middle) (new_in (lists k a.to) (lists middle a.to))) + asks_of_range joint copies tables lists below middle a.to)
-        c.len-from.ensures
-        (subst (λ m. c.place_second.new.steps ≤ c.place_first.new.steps + (asks_naming (steps_of joint) (numbers_between copies c.len-from.result m) + asks_at (steps_of joint) (tables m) (new_in (lists c.len-from.result a.to) (lists m a.to))) + asks_of_range joint copies tables lists below m a.to)
-        more
-        (c.place_second.ensures.steps below puts tables lists (omega (arith, fits, more)) same are)))
+    subst (λ k. c.place_second.new.steps ≤ c.place_first.new.steps + (asks_naming (steps_of joint) (numbers_between copies k middle) + asks_at (steps_of joint) (tables middle) (new_in (lists k a.to) (lists middle a.to))) + asks_of_range joint copies tables lists below middle a.to)
+    c.len-from.ensures
+    (subst (λ m. c.place_second.new.steps ≤ c.place_first.new.steps + (asks_naming (steps_of joint) (numbers_between copies c.len-from.result m) + asks_at (steps_of joint) (tables m) (new_in (lists c.len-from.result a.to) (lists m a.to))) + asks_of_range joint copies tables lists below m a.to)
+    more
+    (c.place_second.ensures.steps below puts tables lists (omega (arith, fits, more)) same are)))
