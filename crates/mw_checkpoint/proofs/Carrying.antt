@@ -6,7 +6,7 @@ use Rattle.mw_protocol.specs.Spelled.{records_bytes}
 use Rattle.mw_journal.specs.Settled.{IsSettled, AllSettled}
 use Rattle.mw_checkpoint.specs.Choices.{AreChoices, named_in}
 use Rattle.mw_checkpoint.specs.Pair.{HoldsText, IsPrepared, PairStands, journal_at, other_of, pick}
-use Rattle.mw_checkpoint.specs.Thinning.{thinned}
+use Rattle.mw_thinning.specs.Thinning.{thinned}
 use Rattle.mw_checkpoint.specs.Whole.{AreRecords}
 use Rattle.mw_checkpoint.specs.declared.files.Files.{Files}
 use Rattle.mw_checkpoint.proofs.Pairing.{chosen_either}

@@ -4,3 +4,4 @@ pub mod MetKeys
 pub mod Naming
 pub mod Pairing
 pub mod Spelt
+pub mod WholeCheckpoints

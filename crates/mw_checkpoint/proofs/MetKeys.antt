@@ -4,7 +4,7 @@ use Rattle.std.specs.Prelude.{bytes_eq, not, if◌then◌else◌}
 use Rattle.std.specs.List.{list_any}
 use Rattle.std.proofs.lemmas.List.{drop_more, map-append, reverse-append}
 use Rattle.mw_protocol.specs.Records.{Record}
-use Rattle.mw_checkpoint.specs.Thinning.{is_outdone, thinned}
+use Rattle.mw_thinning.specs.Thinning.{is_outdone, thinned}
 use Rattle.mw_checkpoint.specs.Keys.{has_key, with_key}
 
 pub any_of_borrowed : (p : List ℕ → Bool) (ks : List (Bor (List ℕ))) → list_any p (map (λ k. k.now) ks) ≡ list_any (λ k. p k.now) ks

@@ -4,7 +4,7 @@ use Rattle.std.specs.Prelude.{◌==◌, if◌then◌else◌}
 use Rattle.std.proofs.Math.Seq.{get_or-append_seam}
 use Rattle.mw_protocol.specs.Records.{Record}
 use Rattle.mw_protocol.specs.Spelled.{records_bytes}
-use Rattle.mw_checkpoint.specs.Thinning.{thinned}
+use Rattle.mw_thinning.specs.Thinning.{thinned}
 use Rattle.mw_journal.specs.Image.{Stands}
 use Rattle.mw_journal.specs.Settled.{IsSettled}
 use Rattle.mw_checkpoint.specs.Choices.{AreChoices, named_in}
@@ -15,7 +15,7 @@ use Rattle.mw_checkpoint.proofs.Naming.{choices_joined}
 use Rattle.mw_checkpoint.proofs.Spelt.{bytes_joined}
 
 -- of two images, the one of the disk that a number names
-picked : {D : Type 0} (may_leave : D → List ℕ → Type 0) (named : ℕ) (files : Files D) (first second : List ℕ)
+pub picked : {D : Type 0} (may_leave : D → List ℕ → Type 0) (named : ℕ) (files : Files D) (first second : List ℕ)
     → may_leave files.zero first → may_leave files.one second → may_leave (journal_at named files) (pick named first second)
 picked may_leave named files first second left right = by_test (named == 0)
   where

@@ -1,11 +1,12 @@
 -- How the records of a text are read, one after another.
-use Rattle.std.proofs.Common.{◌≡◌, ◌≤◌, ◌<◌, ◌++◌, ◌∷◌, [], ℕ, List, length, drop, refl, sym, ap, subst, ◌∙◌, arith, append_assoc, length-append, length-drop}
+use Rattle.std.proofs.Common.{◌≡◌, ◌≤◌, ◌<◌, ◌++◌, ◌∷◌, [], ℕ, List, length, drop, refl, sym, ap, ap₂, subst, ◌∙◌, arith, append_assoc, length-append, length-drop}
 use Rattle.std.proofs.lemmas.List.{append-nil}
 use Rattle.std.proofs.lemmas.List.Concat.{flat_map-append}
 use Rattle.mw_protocol.specs.Records.{Record, checks, release, collect, status, hint, hint_status, store}
 use Rattle.mw_protocol.specs.Spelled.{Begins, Spells, record_bytes, records_bytes}
 use Rattle.mw_records.specs.declared.error.RecordError.{RecordError}
 use Rattle.mw_records.specs.declared.error.RecordError.TheVariants.{BadRecord, Memory}
+use Rattle.mw_records.proofs.Taken.{one_spelling}
 use Rattle.mw_checkpoint.specs.Whole.{AreRecords, IsBadText, RefusesWhole}
 
 pub some_bytes : (r : Record) → 1 ≤ length (record_bytes r)
@@ -20,9 +21,22 @@ some_bytes (store key value) = omega arith
 pub bytes_joined : (xs ys : List Record) → records_bytes (xs ++ ys) ≡ records_bytes xs ++ records_bytes ys
 bytes_joined xs ys = flat_map-append record_bytes xs ys
 
-both_records : (xs ys : List Record) → AreRecords xs → AreRecords ys → AreRecords (xs ++ ys)
+pub both_records : (xs ys : List Record) → AreRecords xs → AreRecords ys → AreRecords (xs ++ ys)
 both_records [] ys left right = right
 both_records (x ∷ xs) ys left right = (left.0, both_records xs ys left.1 right)
+
+-- one text is that of one list of records
+pub one_parse : (xs ys : List Record) → AreRecords xs → AreRecords ys → records_bytes xs ≡ records_bytes ys → xs ≡ ys
+one_parse [] [] left right is = refl
+one_parse [] (y ∷ ys) left right is =
+    let none : length (records_bytes (y ∷ ys)) ≡ 0 = ap length (sym is) in
+    absurd (omega (arith, none, some_bytes y, length-append (record_bytes y) (records_bytes ys)))
+one_parse (x ∷ xs) [] left right is =
+    let none : length (records_bytes (x ∷ xs)) ≡ 0 = ap length is in
+    absurd (omega (arith, none, some_bytes x, length-append (record_bytes x) (records_bytes xs)))
+one_parse (x ∷ xs) (y ∷ ys) left right is =
+    let one = one_spelling x y (records_bytes xs) (records_bytes ys) left.0 right.0 is in
+    ap₂ (λ r rs. r ∷ rs) one.0 (one_parse xs ys left.1 right.1 one.1)
 
 -- the bytes of a text up to a place spell records
 pub record HasRead (text : List ℕ) (at : ℕ) (records : List Record) : Type 0 where

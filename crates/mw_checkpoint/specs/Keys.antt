@@ -2,7 +2,7 @@
 use Rattle.std.specs.Prelude.{◌≡◌, ℕ, List, [], ◌∷◌, ◌++◌, Bool, bytes_eq, if◌then◌else◌}
 use Rattle.std.specs.List.{list_any}
 use Rattle.mw_protocol.specs.Records.{Record}
-use Rattle.mw_checkpoint.specs.Thinning.{is_stored}
+use Rattle.mw_thinning.specs.Thinning.{is_stored}
 
 -- a key is among some
 abbrev pub has_key : List (List ℕ) → List ℕ → Bool

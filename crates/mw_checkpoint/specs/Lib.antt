@@ -1,3 +1,4 @@
+pub mod Checkpointing
 pub mod Choices
 pub mod Chosen
 pub mod Created
@@ -7,5 +8,4 @@ pub mod Pair
 pub mod Preparing
 pub mod Refused
 pub mod Switching
-pub mod Thinning
 pub mod Whole

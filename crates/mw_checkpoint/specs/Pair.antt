@@ -2,7 +2,7 @@
 use Rattle.std.specs.Prelude.{◌≡◌, ℕ, List, length, ◌==◌, if◌then◌else◌, Result, Ok, Err}
 use Rattle.mw_protocol.specs.Records.{Record}
 use Rattle.mw_protocol.specs.Spelled.{records_bytes}
-use Rattle.mw_checkpoint.specs.Thinning.{thinned}
+use Rattle.mw_thinning.specs.Thinning.{thinned}
 use Rattle.mw_journal.specs.Image.{Stands}
 use Rattle.mw_journal.specs.Settled.{AllShut}
 use Rattle.mw_checkpoint.specs.Choices.{AreChoices, named_in}

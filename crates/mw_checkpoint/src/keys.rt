@@ -1,7 +1,7 @@
 ghost use Rattle.std.specs.Prelude.{◌≡◌, ◌∷◌, [], List, IfOk, OnOk, not};
 ghost use Rattle.mw_protocol.specs.Records as plain;
 ghost use Rattle.mw_records.specs.Records.{record_view};
-ghost use Rattle.mw_checkpoint.specs.Thinning.{is_outdone};
+ghost use Rattle.mw_thinning.specs.Thinning.{is_outdone};
 ghost use Rattle.mw_checkpoint.specs.Keys.{AreKeysOf, has_key, with_key};
 
 use indexmap::IndexSet;

@@ -3,6 +3,7 @@
 #![tactic(auto)]
 
 mod appending;
+mod checkpointing;
 mod choosing;
 mod copying;
 mod creating;
@@ -15,6 +16,7 @@ mod reading;
 mod switching;
 mod thinning;
 
+pub use checkpointing::checkpoint;
 pub use choosing::chosen;
 pub use creating::create_pair;
 pub use error::PairError;

@@ -6,7 +6,7 @@ ghost use Rattle.mw_journal.specs.Settled.{IsSettled, AllSettled};
 ghost use Rattle.mw_protocol.specs.Records.{Record as PlainRecord};
 ghost use Rattle.mw_protocol.specs.Spelled.{records_bytes};
 ghost use Rattle.mw_records.specs.Records.{record_view};
-ghost use Rattle.mw_checkpoint.specs.Thinning.{thinned};
+ghost use Rattle.mw_thinning.specs.Thinning.{thinned};
 ghost use Rattle.mw_checkpoint.specs.Choices.{AreChoices, named_in};
 ghost use Rattle.mw_checkpoint.specs.Chosen.{IsChosen};
 ghost use Rattle.mw_checkpoint.specs.Pair.{HoldsText, PairStands, files_then, journal_at, journal_place, other_of, pick};

@@ -2,7 +2,7 @@ ghost use Rattle.std.specs.Prelude.{◌≡◌, ◌≤◌, ◌^◌, ◌++◌, ◌
 ghost use Rattle.mw_disk.specs.Crash.{LeavesOnly};
 ghost use Rattle.mw_journal.specs.Settled.{IsSettled, AllSettled};
 ghost use Rattle.mw_protocol.specs.Records.{Record as PlainRecord};
-ghost use Rattle.mw_checkpoint.specs.Thinning.{thinned};
+ghost use Rattle.mw_thinning.specs.Thinning.{thinned};
 ghost use Rattle.mw_checkpoint.specs.Chosen.{files_left};
 ghost use Rattle.mw_checkpoint.specs.Disks.{disk_then};
 ghost use Rattle.mw_checkpoint.specs.Pair.{HasPrepared, HoldsText, IsPrepared, PairStands};

@@ -1,6 +1,6 @@
 ghost use Rattle.std.specs.Prelude.{◌≡◌, IfOk, map};
 ghost use Rattle.mw_records.specs.Records.{record_view};
-ghost use Rattle.mw_checkpoint.specs.Thinning.{thinned};
+ghost use Rattle.mw_thinning.specs.Thinning.{thinned};
 
 use crate::copying::copy_record;
 use crate::keys::Keys;

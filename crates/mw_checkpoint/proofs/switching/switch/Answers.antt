@@ -2,7 +2,7 @@ use Rattle.std.proofs.Common.{ℕ, List, [], ◌∷◌, ◌++◌, ◌≡◌, ◌
 use Rattle.mw_disk.specs.Crash.{LeavesOnly}
 use Rattle.mw_journal.specs.Settled.{IsSettled}
 use Rattle.mw_protocol.specs.Records.{Record}
-use Rattle.mw_checkpoint.specs.Thinning.{thinned}
+use Rattle.mw_thinning.specs.Thinning.{thinned}
 use Rattle.mw_checkpoint.specs.Pair.{HoldsText, IsPrepared, PairStands}
 use Rattle.mw_checkpoint.specs.Switching.{IsLength, IsOutsideOrFull, RefusesSwitch}
 use Rattle.mw_checkpoint.proofs.Pairing.{names_either, names_thin}

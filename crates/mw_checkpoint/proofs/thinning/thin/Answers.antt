@@ -2,7 +2,7 @@ use Rattle.std.proofs.Common.{◌≡◌, ◌∙◌, ◌-◌, ◌++◌, ◌∷◌
 use Rattle.std.specs.Prelude.{not}
 use Rattle.std.proofs.lemmas.List.{map-append, reverse-reverse}
 use Rattle.mw_records.specs.Records.{record_view}
-use Rattle.mw_checkpoint.specs.Thinning.{is_outdone, is_stored, thinned}
+use Rattle.mw_thinning.specs.Thinning.{is_outdone, is_stored, thinned}
 use Rattle.mw_checkpoint.proofs.MetKeys.{kept_more, map_reverse, one_before, reverse_first}
 use Rattle.mw_checkpoint.proofs.thinning.thin.Goals as goal
 

@@ -1,6 +1,6 @@
 use Rattle.std.proofs.Common.{◌≡◌, ◌≤◌, drop, length, map, reverse}
 use Rattle.mw_records.specs.Records.{record_view}
-use Rattle.mw_checkpoint.specs.Thinning.{thinned}
+use Rattle.mw_thinning.specs.Thinning.{thinned}
 use Rattle.mw_checkpoint.specs.Keys.{AreKeysOf}
 use Rattle.mw_checkpoint.proofs.thinning.thin.Given as goal
 
