@@ -9,6 +9,7 @@ use Rattle.std.specs.declared.io.Write.{Ghosts as WriteGhosts}
 use Rattle.tungstenite.specs.contracts.protocol.WebSocket as web
 use Rattle.tungstenite.specs.contracts.NoMask as mask
 use Rattle.mw_link.specs.contracts.log.Log as log
+use Rattle.mw_link.specs.contracts.side.Accepted as accepted
 use Rattle.mw_link.specs.contracts.polled.PolledStream as polled
 use Rattle.mw_link.specs.contracts.socket.Stage as stage
 use Rattle.mw_link.specs.contracts.socket.SocketLink as socket
@@ -26,8 +27,8 @@ talk_send : (S : RattleType) → IsSend S → IsSend (web.the_row S mask.the_row
 talk_send S s = search (sendable, crosses) depth 60 fits 20000
 
 module _ (S : RattleType) (g : ReadGhosts S.Denot) (h : WriteGhosts S.Denot) where
-  stage_send : IsSend S → IsSend (stage.the_row S)
+  stage_send : IsSend S → IsSend (stage.the_row S accepted.the_row mask.the_row)
   stage_send s = let t = talk_send (polled.the_row S) (polled_send S s) in search (sendable, crosses) depth 40
 
-  pub socket_send : IsSend S → IsSend (socket.the_row S g h)
+  pub socket_send : IsSend S → IsSend (socket.the_row S accepted.the_row mask.the_row g h)
   socket_send s = let st = stage_send s in search (sendable, crosses, log_send) depth 80 fits 20000

@@ -1,3 +1,4 @@
+pub mod Dials
 pub mod Logs
 pub mod Memory
 pub mod Sockets

@@ -1,9 +1,10 @@
-ghost use Rattle.std.specs.Prelude.{◌≡◌, ◌++◌, ◌∷◌, [], true, false};
-ghost use Rattle.mw_link.specs.Sockets.{counted, SocketLine};
+ghost use Rattle.std.specs.Prelude.{◌≡◌, ◌<◌, ◌↔◌, ◌++◌, ◌∷◌, [], true, IsTrue};
+ghost use Rattle.mw_link.specs.Sockets.{counted, new_socket};
 
-use crate::frames::{Talk, heard_of, part_with, ping, shake};
+use crate::frames::{Talk, heard_of, part_with, put_frame};
 use crate::link::{Heard, Link, LinkError};
 use crate::log::Log;
+use crate::side::{Accepted, Side};
 use mw_base::Text;
 use mw_edges::Tally;
 use std::alloc::Global;
@@ -11,7 +12,7 @@ use std::io::{Read, Write};
 use std::marker::Model;
 use std::mem;
 use std::net::OpenStream;
-use tungstenite::{Error, Message};
+use tungstenite::{Error, MaskKeys, Message};
 
 /// The longest text that a session takes, in bytes.
 pub const LONGEST_TEXT: usize = 524_288;
@@ -28,25 +29,26 @@ const GONE_AFTER: u32 = 2_000;
 
 /// How far a connection has come.
 #[derive(Drop)]
-enum Stage<S: Read + Write + OpenStream + Drop> {
-    Fresh(S),
-    Open(Talk<S>),
+enum Stage<S: Read + Write + OpenStream + Drop, D: Side + Drop> {
+    Fresh(S, D),
+    Open(Talk<S, D::Keys>),
     Over,
 }
 
-/// A link over a stream of the network, as RFC 6455 says, for a server. It makes the handshake at
-/// the first call.
+/// A link over a stream of the network, as RFC 6455 says, for the side that accepted the connection
+/// or for the one that dialled. It makes the handshake at the first call.
 ///
 /// A read of the stream must wait for twenty milliseconds at most, and then give `WouldBlock`; a
 /// write must give up so after thirty seconds. The link has no other clock. `recv` is `Failed`
-/// where the stream or the peer's framing fails, where a message is longer than 1,048,576 bytes,
-/// and where nothing came for twenty seconds and nothing for twenty more after it asked for a sign
-/// of life; `send` where the stream takes nothing for thirty seconds; the first call where the
-/// handshake isn't done within ten. Extensions that a client offers are declined. Pings, pongs,
-/// fragments and close frames are its own matter.
-pub struct SocketLink<S: Read + Write + OpenStream + Drop> {
+/// where the stream or the peer's framing fails, where a message is longer than its side takes (an
+/// accepted link 1,048,576 bytes, a dialled one any), and where nothing came for twenty seconds and
+/// nothing for twenty more after it asked for a sign of life; `send` where the stream takes nothing
+/// for thirty seconds; the first call where the handshake isn't done within ten. Extensions that a
+/// client offers are declined, and none are offered. Pings, pongs, fragments and close frames are
+/// its own matter.
+pub struct SocketLink<S: Read + Write + OpenStream + Drop, D: Side + Drop = Accepted> {
     alloc: Global,
-    stage: Stage<S>,
+    stage: Stage<S, D>,
     heard: Log<Heard>,
     sent: Log<Text>,
     failed: Tally,
@@ -59,7 +61,7 @@ pub struct SocketLink<S: Read + Write + OpenStream + Drop> {
 }
 
 /// By hand, so that whoever lets it go calls this, and what it frees is listed once.
-impl<S: Read + Write + OpenStream + Drop> Drop for SocketLink<S> {
+impl<S: Read + Write + OpenStream + Drop, D: Side + Drop> Drop for SocketLink<S, D> {
     fn drop(self) {
         let SocketLink {
             alloc: _,
@@ -75,7 +77,7 @@ impl<S: Read + Write + OpenStream + Drop> Drop for SocketLink<S> {
     }
 }
 
-impl<S: Read + Write + OpenStream + Drop> Model for SocketLink<S> {
+impl<S: Read + Write + OpenStream + Drop, D: Side + Drop> Model for SocketLink<S, D> {
     ghost use Rattle.mw_link.specs.Sockets.{SocketLine};
 
     ghost Value = { SocketLine };
@@ -90,39 +92,43 @@ impl<S: Read + Write + OpenStream + Drop> Model for SocketLink<S> {
 }
 
 /// The talk over a connection, whose handshake is made where it wasn't yet.
-fn open<S: Read + Write + OpenStream + Drop>(
+fn open<S: Read + Write + OpenStream + Drop, D: Side + Drop>(
     alloc: Global,
-    stage: Stage<S>,
-) -> Result<Talk<S>, LinkError> {
+    stage: Stage<S, D>,
+) -> Result<Talk<S, D::Keys>, LinkError> {
     match stage {
-        Stage::Fresh(stream) => shake(alloc, stream),
+        Stage::Fresh(stream, side) => side.shake(alloc, stream),
         Stage::Open(talk) => Ok(talk),
         Stage::Over => Err(LinkError::Failed),
     }
 }
 
 /// What stands for a message that hasn't come: where the peer was silent for long, it is asked for
-/// a sign of life, and then taken for gone.
-fn wait_on<S: Read + Write + OpenStream + Drop>(talk: &mut Talk<S>) -> Result<Heard, LinkError> {
+/// a sign of life by this frame, and then taken for gone.
+fn wait_on<S: Read + Write + OpenStream + Drop, K: MaskKeys + Drop>(
+    talk: &mut Talk<S, K>,
+    ping: &[u8],
+) -> Result<Heard, LinkError> {
     let quiet = talk.get_ref().quiet();
     if quiet >= GONE_AFTER {
         return Err(LinkError::Failed);
     }
-    if quiet == ASKED_AFTER && ping(talk).is_err() {
+    if quiet == ASKED_AFTER && put_frame(talk, ping).is_err() {
         return Err(LinkError::Failed);
     }
     Ok(Heard::NotYet)
 }
 
 /// Reads what came.
-fn read_once<S: Read + Write + OpenStream + Drop>(
+fn read_once<S: Read + Write + OpenStream + Drop, K: MaskKeys + Drop>(
     alloc: Global,
-    talk: &mut Talk<S>,
+    talk: &mut Talk<S, K>,
+    ping: &[u8],
 ) -> Result<Heard, LinkError> {
     talk.get_mut().allow(READS);
     let read = talk.read();
     match heard_of(alloc, read)? {
-        Heard::NotYet => wait_on(talk),
+        Heard::NotYet => wait_on(talk, ping),
         Heard::End => {
             let _ = talk.flush();
             Ok(Heard::End)
@@ -132,9 +138,9 @@ fn read_once<S: Read + Write + OpenStream + Drop>(
 }
 
 /// Sends a text.
-fn send_once<S: Read + Write + OpenStream + Drop>(
+fn send_once<S: Read + Write + OpenStream + Drop, K: MaskKeys + Drop>(
     alloc: Global,
-    talk: &mut Talk<S>,
+    talk: &mut Talk<S, K>,
     text: &str,
 ) -> Result<(), LinkError> {
     let Ok(message) = Message::text(alloc, text) else {
@@ -148,13 +154,13 @@ fn send_once<S: Read + Write + OpenStream + Drop>(
 }
 
 /// Receives, after the handshake where it wasn't made yet.
-fn recv_over<S: Read + Write + OpenStream + Drop>(
+fn recv_over<S: Read + Write + OpenStream + Drop, D: Side + Drop>(
     alloc: Global,
-    stage: Stage<S>,
-) -> (Stage<S>, Result<Heard, LinkError>) {
+    stage: Stage<S, D>,
+) -> (Stage<S, D>, Result<Heard, LinkError>) {
     match open(alloc, stage) {
         Ok(mut talk) => {
-            let result = read_once(alloc, &mut talk);
+            let result = read_once(alloc, &mut talk, D::ping());
             (Stage::Open(talk), result)
         }
         Err(error) => (Stage::Over, Err(error)),
@@ -162,11 +168,11 @@ fn recv_over<S: Read + Write + OpenStream + Drop>(
 }
 
 /// Sends, after the handshake where it wasn't made yet.
-fn send_over<S: Read + Write + OpenStream + Drop>(
+fn send_over<S: Read + Write + OpenStream + Drop, D: Side + Drop>(
     alloc: Global,
-    stage: Stage<S>,
+    stage: Stage<S, D>,
     text: &str,
-) -> (Stage<S>, Result<(), LinkError>) {
+) -> (Stage<S, D>, Result<(), LinkError>) {
     match open(alloc, stage) {
         Ok(mut talk) => {
             let result = send_once(alloc, &mut talk, text);
@@ -179,17 +185,20 @@ fn send_over<S: Read + Write + OpenStream + Drop>(
 impl<S: Read + Write + OpenStream + Drop> SocketLink<S> {
     /// A link over a stream that was accepted at this second.
     pub fn new(alloc: Global, stream: S, opened: u64) -> SocketLink<S>
-        ensures { result ≡ record {
-          heard = [];
-          sent = [];
-          faults = 0;
-          opened = opened;
-          shut = false;
-        } }
+        ensures { result ≡ new_socket opened }
+    {
+        SocketLink::on_side(alloc, stream, Accepted, opened)
+    }
+}
+
+impl<S: Read + Write + OpenStream + Drop, D: Side + Drop> SocketLink<S, D> {
+    /// A link over a stream for one side of the connection, accepted at this second.
+    pub(crate) fn on_side(alloc: Global, stream: S, side: D, opened: u64) -> SocketLink<S, D>
+        ensures { result ≡ new_socket opened }
     {
         SocketLink {
             alloc,
-            stage: Stage::Fresh(stream),
+            stage: Stage::Fresh(stream, side),
             heard: Log::new(),
             sent: Log::new(),
             failed: Tally::new(),
@@ -198,6 +207,13 @@ impl<S: Read + Write + OpenStream + Drop> SocketLink<S> {
             ended: false,
             too_long: false,
         }
+    }
+
+    /// Whether it has failed.
+    pub(crate) fn has_failed(&self) -> bool
+        ensures { IsTrue result ↔ (0 < self.now.faults) }
+    {
+        self.failed.has_risen()
     }
 
     /// Counts a fault.
@@ -224,7 +240,7 @@ impl<S: Read + Write + OpenStream + Drop> SocketLink<S> {
     }
 }
 
-impl<S: Read + Write + OpenStream + Drop> Link for SocketLink<S> {
+impl<S: Read + Write + OpenStream + Drop, D: Side + Drop> Link for SocketLink<S, D> {
     ghost heard = { λ l. l.heard };
 
     ghost sent = { λ l. l.sent };
@@ -275,13 +291,13 @@ impl<S: Read + Write + OpenStream + Drop> Link for SocketLink<S> {
         self.opened
     }
 
-    /// Where the peer hasn't ended it, it is told with a close frame: 1009 where its last text was
-    /// longer than a session takes, else 1008. It waits for the peer's end for a second at most,
-    /// and takes no memory.
+    /// Where the peer hasn't ended it, it is told with a close frame: by who accepted it 1009 where
+    /// its last text was longer than a session takes, else 1008; by who dialled 1000. It waits for
+    /// the peer's end for a second at most, and takes no memory.
     fn shut(&mut self) {
         if let Stage::Open(talk) = mem::replace(&mut self.stage, Stage::Over) {
             if !self.ended {
-                let _ = part_with(talk, self.too_long);
+                let _ = part_with(talk, D::close(self.too_long));
             }
         }
         self.shut = true;

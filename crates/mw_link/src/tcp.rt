@@ -58,7 +58,7 @@ fn second<R: Clock>(rt: &R) -> u64 {
 }
 
 /// Sets how long calls on a stream wait, and that small frames leave at once.
-fn prepare(stream: &TcpStream) -> io::Result<()> {
+pub(crate) fn prepare(stream: &TcpStream) -> io::Result<()> {
     stream.set_nodelay(true)?;
     stream.set_read_timeout(Some(Duration::from_millis(READ_WAIT)))?;
     stream.set_write_timeout(Some(Duration::from_secs(WRITE_WAIT)))

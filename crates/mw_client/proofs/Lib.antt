@@ -1,0 +1,6 @@
+pub mod Entered
+pub mod Few
+pub mod Growing
+pub mod Leading
+pub mod Spelling
+pub mod Stepping
