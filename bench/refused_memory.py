@@ -166,6 +166,18 @@ def drive_on_batch():
     each_refusal("drive, no commands on a journal with a check", lambda: write(path("journal"), held), lambda number: run(["drive", ROOM, path("journal")], b"", number), after)
 
 
+def drive_on_torn_gate():
+    torn = bytearray(journal_of(ROOM, checks_of(1, [101])))
+    torn[40] = 7
+
+    def after(number, ended):
+        judged(number, ended, b"")
+        if checked_later(number, b"") != []:
+            say("at allocation", number, "a check is there that was never safe")
+
+    each_refusal("drive, no commands on a journal whose gate is torn", lambda: write(path("journal"), bytes(torn)), lambda number: run(["drive", ROOM, path("journal")], b"", number), after)
+
+
 def generate():
     world = {"format": "mw-world-1", "game": "G", "regions": ["Menu"], "entrances": [], "filler": "Coin", "goal": {"has": "Sword"}, "pool": [{"item": "Sword", "count": 1}],
              "items": [{"name": "Sword", "id": 1, "class": "progression"}, {"name": "Coin", "id": 2, "class": "filler"}],
@@ -268,6 +280,7 @@ def serve():
 drive_in_memory()
 drive_on_journal()
 drive_on_batch()
+drive_on_torn_gate()
 generate()
 serve()
 sys.exit(1 if wrong else 0)
