@@ -217,7 +217,7 @@ class Client(threading.Thread):
             if link is None:
                 return
             link.send(CONNECT % self.name_of)
-            until = time.monotonic() + 10
+            until = time.monotonic() + 3
             while time.monotonic() < until and self.server.poll() is None and not (self.word and any(self.word in text for text in self.heard)):
                 text = link.receive(0.1)
                 if text is None:

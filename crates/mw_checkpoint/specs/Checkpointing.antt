@@ -76,12 +76,14 @@ pub record IsThinned {D : Type 0} (told : D → Option (List ℕ)) (may_leave : 
   pub of : kept.of ≡ length records
   pub left : kept.kept ≡ length (thinned records)
 
--- each error of a checkpoint: CHOICE names no journal; what counts isn't written into the other one;
--- or CHOICE, as it was opened, doesn't take its number
+-- each error of a checkpoint: CHOICE names no journal; what counts of the one that it names isn't
+-- written into the other; or CHOICE, as it was opened, doesn't take its number
 abbrev pub RefusesCheckpoint : {D : Type 0} → (D → Option (List ℕ)) → (D → ℕ) → List ℕ → Files D
     → Files D → PairError → Type 0
 RefusesCheckpoint told faults digest before after error =
     RefusesChosen (told before.choice) digest (faults before.choice) (faults after.choice) error
-    ⊎ (((named : ℕ) × RefusesPrepare told faults digest named before after error)
+    ⊎ (((text : List ℕ)
+    × ((f : List ℕ) → told before.choice ≡ Some f → Stands f digest text)
+    × RefusesPrepare told faults digest (named_in text) before after error)
     ⊎ ((opened : Option (List ℕ)) × (is_some opened ≡ is_some (told before.choice))
     × RefusesSwitch opened digest (faults before.choice) (faults after.choice) error))

@@ -1,7 +1,8 @@
-use Rattle.std.proofs.Common.{◌≡◌, ◌≤◌, ◌∙◌, inr, ap, ap₂, sym, subst, is_some}
+use Rattle.std.proofs.Common.{◌≡◌, ◌≤◌, ◌∙◌, inl, inr, ap, ap₂, rules, sym, subst, is_some}
 use Rattle.mw_thinning.specs.Thinning.{thinned}
 use Rattle.mw_checkpoint.specs.Choices.{named_in}
 use Rattle.mw_checkpoint.specs.Pair.{PairStands, journal_at, pick}
+use Rattle.mw_checkpoint.specs.Preparing.{RefusesPrepare}
 use Rattle.mw_checkpoint.specs.Switching.{RefusesSwitch}
 use Rattle.mw_checkpoint.proofs.WholeCheckpoints.{counted, kept_chosen, kept_prepared, kept_settled, refuses_since}
 use Rattle.mw_checkpoint.proofs.checkpointing.checkpoint.Goals as goal
@@ -94,4 +95,15 @@ returns-in-Err-switch-clause-refused g c =
       refuses_since told c.args.digest.now (g.D.Disk.faults c.args.files.choice) (g.D.Disk.faults made.files.choice) after c.in-Err-switch.error
           (subst (λ d. g.D.Disk.faults c.args.files.choice ≤ g.D.Disk.faults d) (sym p.choice) e.count)
           (subst (λ d. RefusesSwitch told d (g.D.Disk.faults made.files.choice) after c.in-Err-switch.error) p.prepares.seed w.refused),
+    ))
+
+pub returns-in-Err-prepare-clause-refused : goal.returns-in-Err-prepare-clause-refused
+returns-in-Err-prepare-clause-refused g c =
+    let r = c.in-Ok.ensures.reads in
+    let D = g.D.Disk in
+    let refused : RefusesPrepare D.told D.faults c.args.digest.now c.in-Ok.read.1 c.args.files c.in-Err-prepare.files c.in-Err-prepare.error = search rules in
+    inr (inl (
+      r.chosen.text,
+      (λ f told. (r.chosen.place, r.stands f told)),
+      subst (λ n. RefusesPrepare D.told D.faults c.args.digest.now n c.args.files c.in-Err-prepare.files c.in-Err-prepare.error) r.chosen.last refused,
     ))
