@@ -8,6 +8,7 @@ use crate::bounces::Named;
 use crate::member::Member;
 use crate::news::Pair;
 use crate::status::SlotStatus;
+use crate::told::Told;
 use mw_base::{HintRecord, List, Memory, SlotId, TeamId, Text};
 use mw_chat::command_result;
 use mw_json::Tree;
@@ -41,10 +42,10 @@ pub enum Audience {
     },
 }
 
-/// A packet beside who hears it.
+/// What is told beside who hears it.
 pub struct Announced {
     pub audience: Audience,
-    pub packet: ServerPacket,
+    pub told: Told,
 }
 
 /// By hand, so that whoever lets it go calls this, and what it frees is listed once.
@@ -52,7 +53,7 @@ impl Drop for Announced {
     fn drop(self) {
         let Announced {
             audience: _,
-            packet: _,
+            told: _,
         } = self;
     }
 }
@@ -186,7 +187,10 @@ pub fn one_told(
         ≡ record { audience = audience_view audience; packet = packet_view packet } ∷ []) }
 {
     let mut announced = List::new(alloc);
-    announced.push(Announced { audience, packet })?;
+    announced.push(Announced {
+        audience,
+        told: Told::Packet(packet),
+    })?;
     Ok(announced)
 }
 

@@ -20,6 +20,7 @@ mod scouts;
 mod standing;
 mod status;
 mod storing;
+mod told;
 
 pub use bounces::{Named, bouncing, is_named};
 pub use effect::{
@@ -39,3 +40,4 @@ pub use scouts::scouts_of;
 pub use standing::Standing;
 pub use status::{SlotStatus, set_status};
 pub use storing::{changing, keys_in, put_stored};
+pub use told::Told;

@@ -11,8 +11,8 @@ use crate::effect::{Announced, Audience, Effect};
 use crate::member::Member;
 use crate::news::{Pair, found_item};
 use crate::standing::Standing;
+use crate::told::Told;
 use mw_base::{List, LocId, Memory};
-use mw_chat::item_send;
 use mw_checks::CheckLog;
 use mw_records::Record;
 use std::alloc::Global;
@@ -45,7 +45,6 @@ fn records_for(alloc: Global, member: &Member, new: &[Pair]) -> Result<List<Reco
 
 /// Tells a team what was found at a location.
 fn push_sent(
-    alloc: Global,
     prints: &mut List<Announced>,
     log: &CheckLog,
     member: &Member,
@@ -57,11 +56,10 @@ fn push_sent(
     let (slot, location) = pair;
     if let Some(held) = log.held(slot, location) {
         let item = found_item(held);
-        let print = item_send(alloc, &item, held.receiver)?;
-        let audience = Audience::Team(member.team);
+        let receiver = held.receiver;
         prints.push(Announced {
-            audience,
-            packet: print,
+            audience: Audience::Team(member.team),
+            told: Told::Found { item, receiver },
         })?;
     }
     Ok(())
@@ -79,7 +77,7 @@ fn sends(
 {
     let mut prints = List::new(alloc);
     for pair in new {
-        push_sent(alloc, &mut prints, log, member, *pair)?;
+        push_sent(&mut prints, log, member, *pair)?;
     }
     Ok(prints)
 }

@@ -189,14 +189,28 @@ fn members_nest_within(members: &[Member], room: usize) -> bool
     true
 }
 
+/// The memory in which texts are read, kept from one to the next: to make it takes longer than to
+/// read a short text.
+#[derive(Drop)]
+pub struct Workspace {
+    scratch: Scratch,
+}
+
+impl Workspace {
+    pub fn new(alloc: Global) -> Workspace {
+        Workspace {
+            scratch: Scratch::new(alloc),
+        }
+    }
+}
+
 /// The tree of a whole text, however deep it is.
-fn read_whole(alloc: Global, text: &str) -> Result<Tree, JsonError>
+fn read_whole(alloc: Global, space: &mut Workspace, text: &str) -> Result<Tree, JsonError>
     ensures ok { IfOk result (λ t. kept_reading text.now ≡ Some (view t)) }
     ensures no_json { result ≡ Err JsonError.NoJson → kept_reading text.now ≡ None }
     ensures deep { result ≢ Err JsonError.TooDeep }
 {
-    let mut scratch = Scratch::new(alloc);
-    let Ok(mut reader) = Reader::new(text, &mut scratch) else {
+    let Ok(mut reader) = Reader::new(text, &mut space.scratch) else {
         return Err(JsonError::Memory);
     };
     let tree = read_value(alloc, &mut reader, 127)?;
@@ -207,8 +221,9 @@ fn read_whole(alloc: Global, text: &str) -> Result<Tree, JsonError>
 }
 
 /// Reads a text with its numerals: each that is no plain whole number, or lies outside -2^63 to
-/// 2^64 - 1, stands as its characters. The tree's depth is at most 64.
-pub fn read_kept(alloc: Global, bytes: &[u8]) -> Result<Tree, JsonError>
+/// 2^64 - 1, stands as its characters. The tree's depth is at most 64. What the workspace was used
+/// for before makes no difference.
+pub fn read_kept_in(alloc: Global, space: &mut Workspace, bytes: &[u8]) -> Result<Tree, JsonError>
     ensures ok { IfOk result (λ t. IsKeptReading bytes.now (view t)
         × (depth (view t) ≤ max_depth)) }
     ensures valid { IfOk result (λ t. IsValid (view t)) }
@@ -221,9 +236,24 @@ pub fn read_kept(alloc: Global, bytes: &[u8]) -> Result<Tree, JsonError>
     let Ok(text) = std::str::from_utf8(bytes) else {
         return Err(JsonError::NoJson);
     };
-    let tree = read_whole(alloc, text)?;
+    let tree = read_whole(alloc, space, text)?;
     if !nests_within(&tree, 64) {
         return Err(JsonError::TooDeep);
     }
     Ok(tree)
+}
+
+/// Reads one text as `read_kept_in` does.
+pub fn read_kept(alloc: Global, bytes: &[u8]) -> Result<Tree, JsonError>
+    ensures ok { IfOk result (λ t. IsKeptReading bytes.now (view t)
+        × (depth (view t) ≤ max_depth)) }
+    ensures valid { IfOk result (λ t. IsValid (view t)) }
+    ensures writable { IfOk result (λ t. IsWritable (view t)) }
+    ensures no_json { result ≡ Err JsonError.NoJson → IsUtf8 bytes.now
+        → kept_reading bytes.now ≡ None }
+    ensures too_deep { result ≡ Err JsonError.TooDeep
+        → (j : Json) × IsKeptReading bytes.now j × (max_depth < depth j) }
+{
+    let mut space = Workspace::new(alloc);
+    read_kept_in(alloc, &mut space, bytes)
 }

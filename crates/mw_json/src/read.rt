@@ -56,7 +56,7 @@ fn tree_of(alloc: Global, value: Value, room: usize) -> Result<Tree, JsonError>
     }
 }
 
-pub(crate) fn number_of(n: &Number) -> Tree
+fn number_of(n: &Number) -> Tree
     ensures { view result ≡ of_number (number_view n.now) }
 {
     if let Some(whole) = n.as_u64() {

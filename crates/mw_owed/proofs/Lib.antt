@@ -1,3 +1,4 @@
 pub mod Behind
+pub mod Concerned
 pub mod Received
 pub mod Untouched

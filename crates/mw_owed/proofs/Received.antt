@@ -14,7 +14,7 @@ use Rattle.mw_effects.specs.declared.effect.Effect.{Effect}
 use Rattle.mw_effects.specs.declared.standing.Standing.{Standing}
 use Rattle.mw_owed.specs.Receivers.{is_among, receiver_of, receivers_in}
 
-neither : (a b : Bool) → (a || b) ≡ false → (a ≡ false) × (b ≡ false)
+pub neither : (a b : Bool) → (a || b) ≡ false → (a ≡ false) × (b ≡ false)
 neither true b h = absurd (cc)
 neither false b h = (refl, h)
 
@@ -39,7 +39,7 @@ none_found seed team m (pair ∷ pairs) h =
     ∙ none_found seed team m pairs here.1
 
 -- where it isn't owed its whole view
-nothing_received : (whole : Bool) (s : Standing) (e : Effect) (m : Member) → (whole || is_among (receivers_in s.log.seed e.new) m.slot) ≡ false → received_in whole s.log m (news_of e) ≡ []
+pub nothing_received : (whole : Bool) (s : Standing) (e : Effect) (m : Member) → (whole || is_among (receivers_in s.log.seed e.new) m.slot) ≡ false → received_in whole s.log m (news_of e) ≡ []
 nothing_received whole s e m h =
     let both = neither whole (is_among (receivers_in s.log.seed e.new) m.slot) h in
     ap (λ (b : Bool). received_in b s.log m (news_of e)) both.0

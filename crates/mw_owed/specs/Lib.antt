@@ -1,3 +1,4 @@
+pub mod Concerned
 pub mod Receivers
 pub mod Shared
 pub mod Untouched

@@ -1,11 +1,11 @@
 -- Packets for several sessions, and the text of a message as it grows.
 use Rattle.std.specs.Prelude.{◌≡◌, ℕ, ◌++◌, ◌∷◌, [], List, Option, Some, None}
 use Rattle.mw_protocol.specs.Messages.{ServerPacket, message_text, packet_text}
-use Rattle.mw_packets_out.specs.View.{packet_view}
+use Rattle.mw_effects.specs.Views.{told_view}
 use Rattle.mw_effects.specs.declared.effect.Announced.{Announced}
 
 abbrev pub text_of : Announced → List ℕ
-text_of a = packet_text (packet_view a.packet)
+text_of a = packet_text (told_view a.told)
 
 -- where a packet's text is there, it is that of the packet
 abbrev pub IsWritten : Option (List ℕ) → Announced → Type 0

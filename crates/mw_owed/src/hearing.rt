@@ -26,7 +26,7 @@ fn watches(member: &Member, key: &Text) -> bool
 }
 
 /// Whether a member hears what is for an audience, which sent the packet or not.
-fn hears(seed: &Multidata, audience: &Audience, sends: bool, member: &Member) -> bool
+pub(crate) fn hears(seed: &Multidata, audience: &Audience, sends: bool, member: &Member) -> bool
     ensures { result ≡ hears_lem seed.now (audience_view audience.now) sends member.now }
 {
     match audience {

@@ -10,7 +10,7 @@ mod receivers;
 mod shared;
 mod telling;
 
-pub use concerning::concerns_others;
+pub use concerning::may_owe;
 pub use hearing::put_heard;
 pub use message::{closed, put_packets};
 pub use owed::{growth_owed, points_of};

@@ -29,7 +29,7 @@ pub fn points_of(standing: &Standing, member: &Member) -> u64
 }
 
 /// How many hints more the member's slot has paid for.
-fn paid_by(effect: &Effect, member: &Member) -> u64
+pub(crate) fn paid_by(effect: &Effect, member: &Member) -> u64
     ensures { result ≡ paid_by effect.now member.now.team member.now.slot }
 {
     match effect.payer {
@@ -186,7 +186,7 @@ fn add_items_owed(
 
 /// Whether an effect's records may come to something for a slot.
 #[tactic(auto, using(crate::proofs::Untouched::nothing_new))]
-pub(crate) fn may_touch(effect: &Effect) -> bool
+fn may_touch(effect: &Effect) -> bool
     ensures { result ≡ false → (member : plain.Member) → IsUntouched effect.now member }
 {
     if effect.new.len() > 0 {

@@ -4,7 +4,6 @@ ghost use Rattle.mw_owed.specs.Written.{behind, text_of};
 use crate::message::put_text;
 use mw_base::{Memory, Text};
 use mw_effects::{Announced, Audience};
-use mw_packets_out::packet_text;
 use std::alloc::Global;
 use std::marker::Model;
 
@@ -46,7 +45,7 @@ impl<'a> Telling<'a> {
         match &self.text {
             Some(text) => put_text(out, text.as_str()),
             None => {
-                let text = packet_text(alloc, &self.announced.packet)?;
+                let text = self.announced.told.text(alloc)?;
                 put_text(out, text.as_str())?;
                 self.text = Some(text);
                 Ok(())

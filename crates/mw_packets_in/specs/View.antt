@@ -9,7 +9,7 @@ use Rattle.mw_packets_in.specs.declared.packet.Packet.{Packet}
 use Rattle.mw_packets_in.specs.declared.packet.Packet.TheVariants.{Connect, ConnectUpdate, Sync, LocationChecks, LocationScouts, UpdateHint, StatusUpdate, Say, GetDataPackage, Bounce, Get, Change, SetNotify}
 
 abbrev pub packet_view : Packet → plain.Packet
-packet_view (Connect connect) = plain.connect connect
+packet_view (Connect connect) = plain.connect connect.value
 packet_view (ConnectUpdate update) = plain.connect_update update
 packet_view Sync = plain.sync
 packet_view (LocationChecks locations) = plain.location_checks locations
@@ -18,9 +18,9 @@ packet_view (UpdateHint update) = plain.update_hint update
 packet_view (StatusUpdate status) = plain.status_update status
 packet_view (Say text) = plain.say text
 packet_view (GetDataPackage games) = plain.get_data_package games
-packet_view (Bounce bounce) = plain.bounce bounce
+packet_view (Bounce bounce) = plain.bounce bounce.value
 packet_view (Get get) = plain.get get.keys get.further
-packet_view (Change set) = plain.change set
+packet_view (Change set) = plain.change set.value
 packet_view (SetNotify keys) = plain.set_notify keys
 
 abbrev pub kind_view : BadKind → plain.BadKind

@@ -6,7 +6,7 @@ ghost use Rattle.mw_packets_in.specs.Rows.{connect_at, connect_update_at, get_da
 ghost use Rattle.mw_protocol.specs.Packets.{connect};
 ghost use Rattle.mw_packets_in.specs.View.{packet_view};
 
-use crate::packet::Packet;
+use crate::packet::{Packet, boxed};
 use crate::parts::{mask_in, text_in, texts_in, whole_in};
 use mw_base::{List, Text};
 use mw_json::{Member, Refusal, Tree, field_if, field_in, field_or, null_or, object_of};
@@ -145,7 +145,7 @@ pub(crate) fn connect_of(alloc: Global, members: &[Member]) -> Result<Packet, Re
     ensures { GivesBy packet_view result (connect_at (members_view members.now)) }
 {
     let fields = fields_of(alloc, members)?;
-    Ok(Packet::Connect(fields))
+    Ok(Packet::Connect(boxed(alloc, fields)?))
 }
 
 /// The members of a ConnectUpdate.

@@ -24,7 +24,7 @@ pub use hints::UpdateHint;
 pub use inbound::Inbound;
 pub use laws::{bounces_stay, gets_stay, sets_stay};
 pub use locations::{LocationChecks, LocationScouts};
-pub use message::packets_of;
+pub use message::{packets_of, packets_of_in};
 pub use packet::Packet;
 pub use status::StatusUpdate;
 pub use storage::{Bounce, Get};

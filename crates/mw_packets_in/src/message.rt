@@ -15,7 +15,7 @@ use crate::status::status_update_of;
 use crate::storage::{bounce_of, get_of, set_notify_of, set_of};
 use crate::told::{bad, told, unnamed};
 use mw_base::{List, Memory, Text};
-use mw_json::{JsonError, Member, Tree, find, read_kept};
+use mw_json::{JsonError, Member, Tree, Workspace, find, read_kept_in};
 use std::alloc::Global;
 
 /// Messages between clients, and the data storage.
@@ -135,14 +135,25 @@ fn message_of(alloc: Global, tree: &Tree) -> Result<List<Inbound>, Memory>
 /// The packets of a client's message, in order, and what stands in the place of each element that
 /// is none. A text that is no JSON list of at most 1,024 elements is one bad packet, as is JSON
 /// that nests deeper than 64. `Memory` is its only error.
-pub fn packets_of(alloc: Global, text: &Text) -> Result<List<Inbound>, Memory>
+pub fn packets_of_in(
+    alloc: Global,
+    space: &mut Workspace,
+    text: &str,
+) -> Result<List<Inbound>, Memory>
     ensures { IfOk result (λ l. map inbound_view l ≡ packets_of_lem text.now) }
 {
-    let text = text.as_str();
-    match read_kept(alloc, text.as_bytes()) {
+    match read_kept_in(alloc, space, text.as_bytes()) {
         Ok(tree) => message_of(alloc, &tree),
         Err(JsonError::Memory) => Err(Memory),
         Err(JsonError::NoJson) => all_bad(alloc, "no JSON list"),
         Err(JsonError::TooDeep) => all_bad(alloc, "no JSON list"),
     }
+}
+
+/// The packets of one message, as `packets_of_in` gives them.
+pub fn packets_of(alloc: Global, text: &Text) -> Result<List<Inbound>, Memory>
+    ensures { IfOk result (λ l. map inbound_view l ≡ packets_of_lem text.now) }
+{
+    let mut space = Workspace::new(alloc);
+    packets_of_in(alloc, &mut space, text.as_str())
 }

@@ -1,16 +1,20 @@
+ghost use Rattle.std.specs.Prelude.{◌≡◌, IfOk};
+
 use crate::connect::{Connect, ConnectUpdate};
 use crate::hints::UpdateHint;
 use crate::locations::{LocationChecks, LocationScouts};
 use crate::status::StatusUpdate;
 use crate::storage::{Bounce, Get};
-use mw_base::{List, Text};
+use mw_base::{List, Memory, Text};
 use mw_json::SetPacket;
+use std::alloc::Global;
 
 /// What a client asks for, after Archipelago's network protocol. Whole numbers are from -2^63 to
-/// 2^64 - 1. Where any value may stand, other numerals stand by their characters.
+/// 2^64 - 1. Where any value may stand, other numerals stand by their characters. The largest are
+/// boxed, so that a list of many packets is small.
 pub enum Packet {
     /// The session wants to play a slot.
-    Connect(Connect),
+    Connect(Box<Connect>),
     /// The session wants to hear of other items, or is another kind of client.
     ConnectUpdate(ConnectUpdate),
     /// The whole list of items again.
@@ -34,11 +38,11 @@ pub enum Packet {
         games: Option<List<Text>>,
     },
     /// A message for other clients.
-    Bounce(Bounce),
+    Bounce(Box<Bounce>),
     /// Values of the data storage are asked for.
     Get(Get),
     /// A value of the data storage is changed.
-    Change(SetPacket),
+    Change(Box<SetPacket>),
     /// Changes of values are to be told to the session.
     SetNotify {
         /// Their keys.
@@ -65,4 +69,11 @@ impl Drop for Packet {
             Packet::SetNotify { keys: _ } => {}
         }
     }
+}
+
+/// A packet's members on the heap.
+pub(crate) fn boxed<T: Drop>(alloc: Global, members: T) -> Result<Box<T>, Memory>
+    ensures { IfOk result (λ b. b.value ≡ members) }
+{
+    Ok(Box::new(alloc, members)?)
 }

@@ -7,7 +7,7 @@ ghost use Rattle.mw_packets_in.specs.View.{packet_view};
 
 use crate::further::further_of;
 use crate::operations::operations_field;
-use crate::packet::Packet;
+use crate::packet::{Packet, boxed};
 use crate::parts::{any_in, flag_in, text_in, texts_in, wholes_in};
 use crate::row::Row;
 use mw_base::{List, Text};
@@ -91,12 +91,13 @@ pub(crate) fn bounce_of(alloc: Global, members: &[Member]) -> Result<Packet, Ref
     let tags = field_if(alloc, members, "tags", texts_in)?;
     let slots = field_if(alloc, members, "slots", wholes_in)?;
     let further = further_of(alloc, Row::Bounce, members)?;
-    Ok(Packet::Bounce(Bounce {
+    let bounce = Bounce {
         games,
         tags,
         slots,
         further,
-    }))
+    };
+    Ok(Packet::Bounce(boxed(alloc, bounce)?))
 }
 
 /// The members of a Get.
@@ -121,13 +122,14 @@ pub(crate) fn set_of(alloc: Global, members: &[Member]) -> Result<Packet, Refusa
     let want_reply = field_or(alloc, members, "want_reply", false, flag_in)?;
     let operations = operations_field(alloc, members)?;
     let further = further_of(alloc, Row::Set, members)?;
-    Ok(Packet::Change(SetPacket {
+    let set = SetPacket {
         key,
         default,
         want_reply,
         operations,
         further,
-    }))
+    };
+    Ok(Packet::Change(boxed(alloc, set)?))
 }
 
 /// The members of a SetNotify.

@@ -12,7 +12,7 @@ ghost use Rattle.mw_room.specs.Views.{session_view, changed, due_after, due_text
 use crate::session::{Change, Session};
 use mw_base::{Growth, Memory, Text};
 use mw_effects::{Effect, Member, Standing};
-use mw_owed::{Shared, closed, concerns_others, growth_owed, put_heard, put_packets, shared_of};
+use mw_owed::{Shared, closed, growth_owed, may_owe, put_heard, put_packets, shared_of};
 use mw_packets_out::ServerPacket;
 use std::alloc::Global;
 
@@ -119,7 +119,7 @@ fn change_of(
         (due_after standing.now effect.now sender) session.now) }
 {
     let sends = session.number == sender;
-    if !(sends | concerns_others(effect)) {
+    if !(sends | may_owe(standing, effect, shared, &session.member)) {
         return Ok(None);
     }
     let member = member_after(effect, sends, session);

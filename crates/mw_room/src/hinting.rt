@@ -15,7 +15,7 @@ ghost use Rattle.mw_effects.specs.Views.{announced_view, effect_view, IsEffect};
 use mw_answers::{no_such_name, nothing_to_hint, too_dear_text};
 use mw_base::{HintRecord, HintStatus, List, LocId, Memory, SlotId, TeamId};
 use mw_chat::hint_print;
-use mw_effects::{Announced, Audience, Effect, Member, Standing, found_item, kept, telling};
+use mw_effects::{Announced, Audience, Effect, Member, Standing, Told, found_item, kept, telling};
 use mw_hints::{HintAnswer, Wanted};
 use mw_multidata::{Held, Multidata};
 use mw_packets_in::UpdateHint;
@@ -45,7 +45,7 @@ fn told_print(
     };
     Ok(Announced {
         audience,
-        packet: print,
+        told: Told::Packet(print),
     })
 }
 

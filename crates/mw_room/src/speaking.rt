@@ -26,8 +26,8 @@ use mw_answers::{
 use mw_base::{ClientStatus, List, Memory, Permission, SlotId, TeamId, Text};
 use mw_chat::{Said, chatted, collected, parse_say, reached_goal, released};
 use mw_effects::{
-    Announced, Audience, Effect, Given, Giving, Member, SlotStatus, Standing, announcing, at_goal,
-    given_by, is_allowed, nothing, one_told, telling,
+    Announced, Audience, Effect, Given, Giving, Member, SlotStatus, Standing, Told, announcing,
+    at_goal, given_by, is_allowed, nothing, one_told, telling,
 };
 use mw_hints::{Wanted, cost};
 use mw_multidata::RoomTables;
@@ -64,7 +64,7 @@ fn print_of(alloc: Global, tables: &RoomTables, entry: &Record) -> Result<Option
     let audience = Audience::Team(team);
     Ok(Some(Announced {
         audience,
-        packet: print,
+        told: Told::Packet(print),
     }))
 }
 

@@ -9,6 +9,7 @@ use crate::command::Command;
 use crate::line::is_line;
 use crate::lines::{split_ended, split_line};
 use mw_base::{List, Memory};
+use mw_json::Workspace;
 use std::alloc::Global;
 use thiserror::Error;
 
@@ -73,10 +74,11 @@ fn commands_of(alloc: Global, script: &[u8]) -> Result<List<Command>, Memory>
         ≡ commands_in (lines_of script.now)) }
 {
     let mut commands = List::new(alloc);
+    let mut space = Workspace::new(alloc);
     let mut rest = script;
     while !rest.is_empty() {
         let (line, others) = split_line(rest);
-        add_line(alloc, &mut commands, line)?;
+        add_line(alloc, &mut space, &mut commands, line)?;
         rest = others;
     }
     Ok(commands)

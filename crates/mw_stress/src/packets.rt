@@ -25,7 +25,7 @@ pub fn connect_of_player(alloc: Global, slot: u32) -> Result<Packet, Memory>
     let password = Some(Text::of(alloc, "")?);
     let game = Some(Text::of(alloc, "Stress")?);
     let tags = Some(quiet_tags(alloc)?);
-    Ok(Packet::Connect(Connect {
+    let fields = Connect {
         name,
         password,
         game,
@@ -36,7 +36,8 @@ pub fn connect_of_player(alloc: Global, slot: u32) -> Result<Packet, Memory>
         },
         items_handling: Some(7),
         tags,
-    }))
+    };
+    Ok(Packet::Connect(Box::new(alloc, fields)?))
 }
 
 /// One location is checked.

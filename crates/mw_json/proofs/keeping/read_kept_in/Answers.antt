@@ -2,7 +2,7 @@ use Rattle.std.proofs.Common.{◌∙◌, ap, sym}
 use Rattle.mw_json.specs.KeptReading.{kept_reading}
 use Rattle.mw_json.specs.View.{view}
 use Rattle.mw_json.proofs.KeptGood.{kept_good}
-use Rattle.mw_json.proofs.keeping.read_kept.Goals as goal
+use Rattle.mw_json.proofs.keeping.read_kept_in.Goals as goal
 
 pub returns-clause-valid : goal.returns-clause-valid
 returns-clause-valid c =
