@@ -1,5 +1,7 @@
 pub mod Further
 pub mod Joined
+pub mod Numbers
 pub mod Places
 pub mod Prints
+pub mod Tokens
 pub mod Writable

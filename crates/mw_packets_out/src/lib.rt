@@ -16,6 +16,7 @@ mod room_info;
 mod slot_info;
 mod values;
 mod write;
+mod written;
 
 pub use bounced::Bounced;
 pub use data_package::DataPackage;
