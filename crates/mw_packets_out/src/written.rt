@@ -168,6 +168,16 @@ fn put_id_list(out: &mut Writer, name: &str, ids: &[i64]) -> Result<(), Memory>
     end_ids(out, ids)
 }
 
+/// Writes an object's opening brace and its first member, a list of numbers of items or locations.
+fn begin_id_list(out: &mut Writer, name: &str, ids: &[i64]) -> Result<(), Memory>
+    ensures ok { OnOk result (out.new.tokens ≡ out.old.tokens ++ begin_object ∷ key name.now
+        ∷ begin_array ∷ items_tokens (items_outline (items_of (map id_json ids.now)))) }
+    ensures before { out.new.before ≡ out.old.before }
+{
+    out.begin_object()?;
+    put_id_list(out, name, ids)
+}
+
 /// Writes items from a place in the session's list on.
 fn write_received(out: &mut Writer, index: u64, items: &[NetItem]) -> Result<(), Memory>
     ensures ok { OnOk result (out.new.tokens
@@ -198,9 +208,9 @@ fn write_update(out: &mut Writer, locations: &[i64], points: u64) -> Result<(), 
         ≡ out.old.tokens ++ json_tokens (outline (room_update_json locations.now points))) }
     ensures before { out.new.before ≡ out.old.before }
 {
-    out.begin_object()?;
-    put_id_list(out, "checked_locations", locations)?;
-    end_update(out, points)
+    begin_id_list(out, "checked_locations", locations)?;
+    end_update(out, points)?;
+    Ok(())
 }
 
 /// What was written, as a text.
