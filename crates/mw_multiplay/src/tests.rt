@@ -1,4 +1,4 @@
-//! Whole runs of a client that keeps its items, over lines in memory.
+//! The tests: whole runs over lines in memory.
 ghost use Rattle.std.specs.Prelude.{◌≡◌, IfOk, [], false};
 
 use mw_base::{Bytes, List, Text};
