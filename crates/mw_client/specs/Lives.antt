@@ -1,4 +1,5 @@
--- What a client has in its list that hears one session of its slot after another, over the lives of a room.
+-- What a client has in its list that hears one session of its slot after another, over the lives
+-- of a room.
 use Rattle.std.specs.Prelude.{◌≡◌, ◌≤◌, ℕ, ◌++◌, ◌∷◌, [], List, Some, None, IsTrue, take}
 use Rattle.std.specs.List.{list_all}
 use Rattle.mw_model.specs.Seed.{Seed}
@@ -67,7 +68,9 @@ client_of seed steps c [] = c
 client_of seed steps c (h ∷ hs) =
     client_of seed (run_after steps h) (applied_messages c (messages_of seed steps h)) hs
 
--- over any run of lives, after any number of sessions of a slot with mask 7, each opened after what was heard of the one before was taken, a client that began with no items never asked for Sync, and its list is a front of what its slot received, by the journal of this and of each later point of the run
+-- over any run of lives, after any number of sessions of a slot with mask 7, each opened after what
+-- was heard of the one before was taken, a client that began with no items never asked for Sync, and
+-- its list is a front of what its slot received, by the journal of this and of each later point
 abbrev pub ListsStayFronts : Type 0
 ListsStayFronts = (seed : Seed) (team slot : ℕ) (hearings : List Hearing)
     → AreHearings seed team slot [] hearings → (more : List Step)
