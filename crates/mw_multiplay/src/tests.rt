@@ -192,7 +192,8 @@ fn tells(
     }
 }
 
-/// Fails where a run on no save file tells another than what is wanted before it tells what it sent.
+/// Fails where a run on no save file tells another than what is wanted before it tells what it
+/// sent.
 fn ends(alloc: Global, run: &Run<'_>, wanted: &str) -> Result<(), Fail> {
     let mut folder = empty_folder(alloc)?;
     let told = told_with(alloc, &mut folder, run, &NONE)?;

@@ -63,8 +63,8 @@ StopsFrom told images digest before after EndedEarly = ⊥
 StopsFrom told images digest before after Spent = ⊥
 StopsFrom told images digest before after BadWords = ⊥
 
--- what a crash may leave of the save file: where it was opened it stands for the list that was saved
--- before, or once some front of the texts was heard that came over the line
+-- what a crash may leave of the save file: where it was opened it stands for the list that was
+-- saved before, or once some front of the texts was heard that came over the line
 abbrev pub LeavesSave : Option (List ℕ) → (List ℕ → Type 0) → List ℕ → List Exchange
     → List Exchange → Type 0
 LeavesSave told images digest before after =

@@ -88,8 +88,8 @@ pub record HeardEnd (turns : ℕ) (hs : List Heard) (p : Play) : Type 0 where
   pub within : length hs ≤ turns
   pub unrefused : p.refusal ≡ None
 
--- how turns ended, so many of which there might be, by what was heard and what the client then knew:
--- at the end, having joined or not; once it was turned away; or after all turns
+-- how turns ended, so many of which there might be, by what was heard and what the client then
+-- knew: at the end, having joined or not; once it was turned away; or after all turns
 abbrev pub EndsSo : Over → ℕ → List Heard → Play → Type 0
 EndsSo Ended turns hs p = HeardEnd turns hs p × IsTrue p.joined
 EndsSo EndedEarly turns hs p = HeardEnd turns hs p × IsFalse p.joined
@@ -98,8 +98,8 @@ EndsSo TurnedAway turns hs p =
 EndsSo Spent turns hs p =
     AllByRecursion NotEnd hs × (length hs ≡ turns) × (p.refusal ≡ None)
 
--- a save file stands for a list, whatever a crash leaves, and bodies that lead to another would pass
--- the limit of its journal
+-- a save file stands for a list, whatever a crash leaves, and bodies that lead to another would
+-- pass the limit of its journal
 pub record Overfills (images : List ℕ → Type 0) (digest : List ℕ) (before after : List NetItem)
     : Type 0 where
   pub gate : ℕ

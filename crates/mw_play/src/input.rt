@@ -124,8 +124,8 @@ fn ids_in(alloc: Global, text: &[u8]) -> Result<List<LocId>, InputError>
 
 /// Reads the locations that an input names.
 ///
-/// `Bad` exactly where it has more than 65,536 bytes, or where some line isn't the digits of a number
-/// from 1 to 2^53 - 1. `Fault` only where the source's count rose.
+/// `Bad` exactly where it has more than 65,536 bytes, or where some line isn't the digits of a
+/// number from 1 to 2^53 - 1. `Fault` only where the source's count rose.
 pub(crate) fn read_ids<S: Source>(alloc: Global, input: &mut S) -> Result<List<LocId>, InputError>
     ensures ok { IfOk result (HasIds (S.left input.old) (S.left input.new)) }
     ensures bad { result ≡ Err InputError.Bad → HasNoIds (S.left input.old) (S.left input.new) }

@@ -287,23 +287,23 @@ fn play<F: Folder, L: Dial, S: Source, O: Sink>(
     }
 }
 
-/// Plays in a room as the words say, keeps the list of the items that were received in a save file,
-/// prints it, and answers the status. The input is the ids of the locations that are checked once the
-/// session has joined, one a line, in digits.
+/// Plays in a room as the words say, keeps the list of the items that were received in a save
+/// file, prints it, and answers the status. The input is the ids of the locations that are checked
+/// once the session has joined, one a line, in digits.
 ///
-/// The words are `ADDRESS NAME GAME SAVE TURNS [PASSWORD]`. The save file is opened, or made where it
-/// has no byte, and then the address is dialled. Each turn hears once, and what a text makes of the
-/// list is saved and what it asks for is sent before the next turn: a Connect at the first RoomInfo,
-/// the locations at the first Connected, and a Sync at each ReceivedItems whose index is neither 0
-/// nor the list's length. Each end hangs up and closes.
+/// The words are `ADDRESS NAME GAME SAVE TURNS [PASSWORD]`. The save file is opened, or made where
+/// it has no byte, and then the address is dialled. Each turn hears once, and what a text makes of
+/// the list is saved and what it asks for is sent before the next turn: a Connect at the first
+/// RoomInfo, the locations at the first Connected, and a Sync at each ReceivedItems whose index is
+/// neither 0 nor the list's length. Each end hangs up and closes.
 ///
 /// The status is 0 where the room ended the session of a client that had joined; 1 where it turned
 /// the client away, or ended its session before; 2 where the words or the input aren't as they
-/// should be; 5 where the folder, the dial, the source or the out sink failed, the line counted with
-/// the dial and the save file's disk with the folder; 6 where memory ran out; 7 where the save file
-/// is no journal of bodies of that game and name; 8 where the next batch would pass its limit; 9
-/// where all turns were taken. With a status other than 0 the error sink gets that status's line, or
-/// a front of it where it refuses.
+/// should be; 5 where the folder, the dial, the source or the out sink failed, the line counted
+/// with the dial and the save file's disk with the folder; 6 where memory ran out; 7 where the
+/// save file is no journal of bodies of that game and name; 8 where the next batch would pass its
+/// limit; 9 where all turns were taken. With a status other than 0 the error sink gets that
+/// status's line, or a front of it where it refuses.
 ///
 /// Whatever the status is, a crash leaves the save file, once it was opened, standing for the list
 /// that it stood for before, or for that list once some front of the texts was heard that came over

@@ -179,8 +179,8 @@ fn ended(play: &Play) -> Over
     }
 }
 
-/// Plays over a new line for so many turns at most. Each turn hears once; what is heard is saved and
-/// answered before the next.
+/// Plays over a new line for so many turns at most. Each turn hears once; what is heard is saved
+/// and answered before the next.
 fn play_over<L: Link, D: Disk>(
     alloc: Global,
     line: &mut L,
@@ -232,8 +232,8 @@ pub struct Played {
 ///
 /// At each moment a crash leaves the save file standing for that list once some front of the texts
 /// was heard that came over the line, and after Ok for all of them. `Fault` comes only where the
-/// dial's count rose or that of the save file's disk; `Full` exactly where the next batch would pass
-/// the limit of the save file's journal.
+/// dial's count rose or that of the save file's disk; `Full` exactly where the next batch would
+/// pass the limit of the save file's journal.
 pub fn play_on<D: Disk, L: Dial>(
     alloc: Global,
     journal: &mut Journal<D>,

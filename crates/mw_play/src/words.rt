@@ -33,8 +33,8 @@ fn password_in(alloc: Global, rest: &[Text]) -> Result<Option<Text>, WordsError>
 
 /// Reads the words after the program's name.
 ///
-/// `BadWords` exactly where they aren't an address, a slot's name, its game, the name of a save file,
-/// a number from 1 to 1,000,000 in decimal, and a password or none.
+/// `BadWords` exactly where they aren't an address, a slot's name, its game, the name of a save
+/// file, a number from 1 to 1,000,000 in decimal, and a password or none.
 pub fn read_play_words(alloc: Global, words: &[Text]) -> Result<PlayWords, WordsError>
     ensures ok { IfOk result (IsPlay words.now) }
     ensures bad { result ≡ Err WordsError.BadWords → (asked : PlayWords) → IsPlay words.now asked → ⊥ }
