@@ -1,3 +1,4 @@
+pub mod FileRuns
 pub mod Moments
 pub mod Ranges
 pub mod Recorded
