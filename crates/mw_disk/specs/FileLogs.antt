@@ -26,6 +26,10 @@ pub record FileState : Type 0 where
   pub lost : Bool
   pub honest : Bool
 
+-- a file that was opened now, and holds these bytes, all of them safe from a crash
+abbrev pub opened_log : List ℕ → Bool → FileLog
+opened_log found fresh = record { found = found; left = []; fresh = fresh; events = [] }
+
 -- a call more
 abbrev pub noted : Event → FileLog → FileLog
 noted event log = record log { events = event ∷ log.events }

@@ -6,6 +6,7 @@ pub mod FileLogs
 pub mod FileRuns
 pub mod Histories
 pub mod Laws
+pub mod MemoryFiles
 pub mod Range
 pub mod System
 pub mod Tally

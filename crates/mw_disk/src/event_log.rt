@@ -1,5 +1,5 @@
 ghost use Rattle.std.specs.Prelude.{◌≡◌, []};
-ghost use Rattle.mw_disk.specs.FileLogs.{noted};
+ghost use Rattle.mw_disk.specs.FileLogs.{noted, opened_log};
 
 use crate::file_event::FileEvent;
 use crate::history::History;
@@ -43,14 +43,15 @@ impl EventLog {
         }
     }
 
-    /// The record of a file that holds these bytes, all of them safe from a crash.
-    pub(crate) fn of(found: &[u8]) -> EventLog
-        ensures { result ≡ record { found = found.now; left = []; fresh = false; events = [] } }
+    /// The record of a file that holds these bytes, all of them safe from a crash, and was made now or
+    /// not.
+    pub(crate) fn of(found: &[u8], fresh: bool) -> EventLog
+        ensures { result ≡ opened_log found.now fresh }
     {
         EventLog {
             found: Seen::of(found),
             left: History::new(),
-            fresh: false,
+            fresh,
             events: History::new(),
         }
     }
