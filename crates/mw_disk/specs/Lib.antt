@@ -1,7 +1,12 @@
 pub mod Calls
 pub mod Causes
 pub mod Crash
+pub mod FileLaws
+pub mod FileLogs
+pub mod FileRuns
+pub mod Histories
 pub mod Laws
+pub mod MemoryFiles
 pub mod Range
 pub mod System
 pub mod Tally
