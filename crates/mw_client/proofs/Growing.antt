@@ -5,7 +5,7 @@ use Rattle.std.proofs.lemmas.List.Concat.{flat_map-append}
 use Rattle.mw_model.specs.Items.{NetItem}
 use Rattle.mw_client.specs.Bodies.{Body, IsBody, Leads, after_body, body_bytes, saved}
 
-both_are : (bs cs : List Body) → AllByRecursion IsBody bs → AllByRecursion IsBody cs → AllByRecursion IsBody (bs ++ cs)
+pub both_are : (bs cs : List Body) → AllByRecursion IsBody bs → AllByRecursion IsBody cs → AllByRecursion IsBody (bs ++ cs)
 both_are [] cs left right = right
 both_are (b ∷ bs) cs left right = (left.0, both_are bs cs left.1 right)
 

@@ -8,16 +8,24 @@ use Rattle.mw_client.specs.declared.answer.Answer.TheVariants.{Connect, Checks, 
 use Rattle.mw_client.specs.declared.step.Step.{Step}
 use Rattle.mw_client.specs.declared.step.Step.TheVariants.{Same, Save, AskSync}
 
--- its list, whether it was greeted and has joined, and why it was first turned away
+-- its list, whether it was greeted and has joined, why it was first turned away, and whether memory
+-- ran out as it heard something
 pub record Play : Type 0 where
   pub list : List NetItem
   pub greeted : Bool
   pub joined : Bool
   pub refusal : Option (List (List ℕ))
+  pub failed : Bool
 
 -- before it has heard anything
 abbrev pub begun : List NetItem → Play
-begun list = record { list = list; greeted = false; joined = false; refusal = None }
+begun list = record {
+  list = list;
+  greeted = false;
+  joined = false;
+  refusal = None;
+  failed = false;
+}
 
 -- the first of these
 abbrev pub first_of : {A : Type 0} → Option A → A → A

@@ -1,5 +1,5 @@
 //! A client that plays.
-ghost use Rattle.std.specs.Prelude.{◌≡◌, ◌++◌, List, IfOk, OnOk, Some, map};
+ghost use Rattle.std.specs.Prelude.{◌≡◌, ◌++◌, List, IfOk, OnErr, OnOk, Some, true, map};
 ghost use Rattle.mw_model.specs.Items.{NetItem};
 ghost use Rattle.mw_client.specs.Bodies.{Leads};
 ghost use Rattle.mw_client.specs.Playing.{answers, answers_all, begun, first_of, next, next_all, saved_bytes, sync_of};
@@ -13,8 +13,8 @@ use mw_base::{Bytes, List, Memory, NetItem, Text, copy_texts};
 use std::alloc::Global;
 use std::marker::Model;
 
-/// What a client that plays knows: its list, whether it was greeted and has joined, and why it was
-/// first turned away.
+/// What a client that plays knows: its list, whether it was greeted and has joined, why it was first
+/// turned away, and whether memory ran out as it heard something.
 #[derive(Drop)]
 pub struct Play {
     alloc: Global,
@@ -22,6 +22,7 @@ pub struct Play {
     greeted: bool,
     joined: bool,
     refusal: Option<List<Text>>,
+    failed: bool,
 }
 
 impl Model for Play {
@@ -34,6 +35,7 @@ impl Model for Play {
       greeted = p.greeted;
       joined = p.joined;
       refusal = p.refusal;
+      failed = p.failed;
     } };
 }
 
@@ -82,6 +84,7 @@ impl Play {
             greeted: false,
             joined: false,
             refusal: None,
+            failed: false,
         })
     }
 
@@ -163,9 +166,8 @@ impl Play {
         }
     }
 
-    /// Hears what the packets of a text tell, in order, and gives what is then to be done. `Memory`
-    /// is its only error, and leaves it with some of them heard.
-    pub fn hear(&mut self, news: &[News]) -> Result<Turn, Memory>
+    /// Hears what the packets of a text tell, in order. After `Memory` some of them were heard.
+    fn hear_all(&mut self, news: &[News]) -> Result<Turn, Memory>
         ensures play { OnOk result (self.new ≡ next_all self.old (map news_view news.now)) }
         ensures answers { IfOk result (λ turn. turn.answers
             ≡ answers_all self.old (map news_view news.now)) }
@@ -179,5 +181,27 @@ impl Play {
             self.hear_one(one, &mut turn)?;
         }
         Ok(turn)
+    }
+
+    /// Hears what the packets of a text tell, in order, and gives what is then to be done. `Memory`
+    /// is its only error: it may have heard some of them, and each later call gives `Memory` too.
+    pub fn hear(&mut self, news: &[News]) -> Result<Turn, Memory>
+        ensures play { OnOk result (self.new ≡ next_all self.old (map news_view news.now)) }
+        ensures answers { IfOk result (λ turn. turn.answers
+            ≡ answers_all self.old (map news_view news.now)) }
+        ensures bodies { IfOk result (λ turn. Leads self.old.list turn.bodies self.new.list) }
+        ensures memory { OnErr result (self.new.failed ≡ true) }
+        ensures over { self.old.failed ≡ true → OnOk result ⊥ }
+    {
+        if self.failed {
+            return Err(Memory);
+        }
+        match self.hear_all(news) {
+            Ok(turn) => Ok(turn),
+            Err(error) => {
+                self.failed = true;
+                Err(error)
+            }
+        }
     }
 }

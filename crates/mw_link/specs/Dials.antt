@@ -1,5 +1,5 @@
 -- What a dial tells of its lines.
-use Rattle.std.specs.Prelude.{ℕ, List, [], map}
+use Rattle.std.specs.Prelude.{ℕ, List, Option, map}
 use Rattle.mw_edges.specs.FaultPlan.{FaultPlan}
 use Rattle.mw_link.specs.declared.link.Heard.{Heard}
 
@@ -21,10 +21,11 @@ pub record CountedLine (L : Type 0) : Type 0 where
   pub faults : ℕ
 
 -- the links that a dial in memory is to give, the addresses at which it gave one, the lines that it
--- hung up, how many of these had failed, and which of its calls fail
+-- hung up, the last of them as it was shut, how many of them had failed, and which of its calls fail
 pub record Dialler (L : Type 0) : Type 0 where
   pub coming : List L
   pub dialled : List (List ℕ)
   pub lines : List L
+  pub last : Option L
   pub broken : ℕ
   pub plan : FaultPlan

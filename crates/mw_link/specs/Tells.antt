@@ -23,6 +23,11 @@ given_after n (Ok (Some l)) = n + 1
 given_after n (Ok None) = n
 given_after n (Err e) = n
 
+-- how many lines of a dial aren't hung up yet, after it gave this
+abbrev pub lines_after : {L E : Type 0} → ℕ → Result L E → ℕ
+lines_after n (Ok l) = n + 1
+lines_after n (Err e) = n
+
 -- whether a gate has answered that it gives no more
 abbrev pub ended_after : {L E : Type 0} → Bool → Result (Option L) E → Bool
 ended_after ended (Ok (Some l)) = ended

@@ -1,7 +1,7 @@
-ghost use Rattle.std.specs.Prelude.{◌≡◌, ◌<◌, ◌++◌, ◌∷◌, [], ℕ, List, IfOk, length};
+ghost use Rattle.std.specs.Prelude.{◌≡◌, ◌<◌, ◌+◌, ◌++◌, ◌∷◌, [], ℕ, List, IfOk};
 ghost use Rattle.mw_edges.specs.Causes.{HasCause, PassesOn};
 ghost use Rattle.mw_link.specs.Dials.{Exchange, exchange_of};
-ghost use Rattle.mw_link.specs.Tells.{IsNew, Sends};
+ghost use Rattle.mw_link.specs.Tells.{IsNew, Sends, lines_after};
 
 use crate::link::{Link, LinkError};
 use mw_base::Text;
@@ -18,6 +18,9 @@ pub trait Dial {
     /// What was heard and sent over each line that it hung up, in order.
     ghost hung_up: { Self → List Exchange };
 
+    /// How many lines it gave that aren't hung up yet.
+    ghost out: { Self → ℕ };
+
     /// How often it has failed.
     ghost faults: { Self → ℕ };
 
@@ -28,6 +31,7 @@ pub trait Dial {
     fn dial(&mut self, at: &Text) -> Result<Self::Line, LinkError>
         ensures dialled { Sends (dialled self.old) (dialled self.new) at.now result }
         ensures hung_up { hung_up self.new ≡ hung_up self.old }
+        ensures out { out self.new ≡ lines_after (out self.old) result }
         ensures new { IfOk result
             (IsNew Self.Line.heard Self.Line.sent Self.Line.faults Self.Line.is_shut) }
         ensures opened { IfOk result (λ l. Self.Line.opened l ≡ 0) }
@@ -37,9 +41,10 @@ pub trait Dial {
     ///
     /// The count of faults rises exactly where the line has failed.
     fn hang_up(&mut self, line: Self::Line)
-        requires { length (hung_up self.old) < length (dialled self.old) }
+        requires { 0 < out self.old }
         ensures dialled { dialled self.new ≡ dialled self.old }
         ensures hung_up { hung_up self.new
             ≡ hung_up self.old ++ exchange_of Self.Line.heard Self.Line.sent line ∷ [] }
+        ensures out { out self.old ≡ out self.new + 1 }
         ensures count { PassesOn (Self.Line.faults line) (faults self.old) (faults self.new) };
 }

@@ -1,5 +1,5 @@
-//! Links that texts come and go over, gates that accept links and dials that ask for them, each with a
-//! count of its faults.
+//! Links that texts come and go over, gates that accept links, and dials that ask for them, each
+//! with a count of its faults.
 #![tactic(auto)]
 
 mod counted;

@@ -1,4 +1,4 @@
-ghost use Rattle.std.specs.Prelude.{◌≡◌, ◌+◌, [], IfSome};
+ghost use Rattle.std.specs.Prelude.{◌≡◌, ◌+◌, ◌-◌, [], None, length};
 ghost use Rattle.std.specs.Option.{option_copied};
 ghost use Rattle.mw_link.specs.Dials.{exchanges_of};
 ghost use Rattle.mw_link.specs.Memory.{AreNew};
@@ -27,6 +27,7 @@ pub struct MemoryDial<L: Link> {
 }
 
 impl<L: Link> Model for MemoryDial<L> {
+    ghost use Rattle.std.specs.Prelude.{◌≤◌, length};
     ghost use Rattle.mw_link.specs.Dials.{Dialler};
     ghost use Rattle.mw_link.specs.Memory.{AreNew};
 
@@ -36,11 +37,13 @@ impl<L: Link> Model for MemoryDial<L> {
       coming = d.coming.items;
       dialled = d.dialled;
       lines = d.lines;
+      last = d.last;
       broken = d.broken;
       plan = d.faults;
     } };
 
-    ghost invariant = { λ d. AreNew L.heard L.sent L.faults L.is_shut d.coming.items };
+    ghost invariant = { λ d. AreNew L.heard L.sent L.faults L.is_shut d.coming.items
+        × (length d.lines ≤ length d.dialled) };
 }
 
 impl<L: Link + Drop> Drop for MemoryDial<L> {
@@ -64,6 +67,7 @@ impl<L: Link> MemoryDial<L> {
           coming = coming.items;
           dialled = [];
           lines = [];
+          last = None;
           broken = 0;
           plan = faults;
         } }
@@ -79,7 +83,9 @@ impl<L: Link> MemoryDial<L> {
     }
 
     /// The link that was hung up last, which is shut.
-    pub fn last(&self) -> Option<&L> {
+    pub fn last(&self) -> Option<&L>
+        ensures { option_copied result ≡ self.now.last }
+    {
         self.last.as_ref()
     }
 }
@@ -90,6 +96,8 @@ impl<L: Link + Drop> Dial for MemoryDial<L> {
     ghost dialled = { λ d. d.dialled };
 
     ghost hung_up = { λ d. exchanges_of L.heard L.sent d.lines };
+
+    ghost out = { λ d. length d.dialled - length d.lines };
 
     ghost faults = { λ d. d.broken + d.plan.count };
 

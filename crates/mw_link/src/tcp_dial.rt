@@ -1,4 +1,4 @@
-ghost use Rattle.std.specs.Prelude.{◌≡◌, []};
+ghost use Rattle.std.specs.Prelude.{◌≡◌, ◌-◌, [], length};
 ghost use Rattle.mw_link.specs.Dials.{exchanges_of};
 
 use crate::dial::Dial;
@@ -30,11 +30,14 @@ pub struct TcpDial<R: RandomSource + Drop> {
 }
 
 impl<R: RandomSource + Drop> Model for TcpDial<R> {
+    ghost use Rattle.std.specs.Prelude.{◌≤◌, length};
     ghost use Rattle.mw_link.specs.Sockets.{SocketDialler};
 
     ghost Value = { SocketDialler };
 
     ghost view = { λ d. record { dialled = d.dialled; lines = d.lines; faults = d.failed } };
+
+    ghost invariant = { λ d. length d.lines ≤ length d.dialled };
 }
 
 impl<R: RandomSource + Drop> TcpDial<R> {
@@ -73,6 +76,8 @@ impl<R: Net<Stream = TcpStream> + RandomSource + Copy + Drop> Dial for TcpDial<R
     ghost dialled = { λ d. d.dialled };
 
     ghost hung_up = { λ d. exchanges_of (λ l. l.heard) (λ l. l.sent) d.lines };
+
+    ghost out = { λ d. length d.dialled - length d.lines };
 
     ghost faults = { λ d. d.faults };
 

@@ -9,4 +9,6 @@ mod numbers;
 mod script;
 
 pub use command::Command;
+pub use lines::split_line;
+pub use numbers::number_of;
 pub use script::{ScriptError, judge_script};

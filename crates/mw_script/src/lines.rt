@@ -16,7 +16,7 @@ fn line_len(bytes: &[u8]) -> usize
 }
 
 /// The first line, which may lack its end, and what follows it.
-pub(crate) fn split_line(bytes: &[u8]) -> (&[u8], &[u8])
+pub fn split_line(bytes: &[u8]) -> (&[u8], &[u8])
     ensures line { result.0.now ≡ before_first is_end bytes.now }
     ensures rest { result.1.now ≡ after_first is_end bytes.now }
 {

@@ -13,7 +13,7 @@ fn with_digit(value: u64, byte: u8) -> Option<u64>
 
 /// The number that digits write; None where they are none, or other bytes, or write 2^64 or more.
 #[tactic(auto, using(crate::proofs::Digits::numbers))]
-pub(crate) fn number_of(digits: &[u8]) -> Option<u64>
+pub fn number_of(digits: &[u8]) -> Option<u64>
     ensures { result ≡ number_of_lem digits.now }
 {
     if digits.is_empty() {

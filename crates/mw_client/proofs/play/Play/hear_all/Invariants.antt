@@ -2,7 +2,7 @@ use Rattle.std.proofs.Common.{◌≡◌, ◌++◌, drop, map}
 use Rattle.mw_client.specs.Bodies.{Leads}
 use Rattle.mw_client.specs.Playing.{answers_all, next_all}
 use Rattle.mw_client.specs.Views.{news_view}
-use Rattle.mw_client.proofs.play.Play.hear.Given as goal
+use Rattle.mw_client.proofs.play.Play.hear_all.Given as goal
 
 -- what was heard so far, and what is still to be heard
 abbrev pub invariant-loop-one : goal.invariant-loop-one

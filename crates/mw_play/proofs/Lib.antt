@@ -1,0 +1,5 @@
+pub mod Carried
+pub mod Following
+pub mod Kept
+pub mod Reading
+pub mod Refusing
