@@ -1,13 +1,13 @@
 -- What single calls on a file of the system do, and several after one another.
-use Rattle.std.proofs.Common.{◌≡◌, ◌<◌, ◌≤◌, ◌⊎◌, inl, inr, ⊎_elim, ℕ, suc, ◌+◌, ◌-◌, List, [], ◌∷◌, ◌++◌, length, take, drop, refl, sym, ap, subst, ◌∙◌, arith, Bool, true, false, Option, Some, None}
-use Rattle.std.specs.Prelude.{IsTrue, nat_le, min, max, replicate, ◌==◌, Result, Ok, Err, IfOk, OnOk}
+use Rattle.std.proofs.Common.{◌≡◌, ◌<◌, ◌≤◌, ◌⊎◌, inl, inr, ℕ, ◌+◌, ◌-◌, List, length, take, drop, refl, sym, ap, subst, ◌∙◌, arith, Bool, true, false, Option, Some, None}
+use Rattle.std.specs.Prelude.{IsTrue, nat_le, min, ◌==◌, Result, Ok, Err, IfOk, OnOk}
 use Rattle.std.proofs.lemmas.Bool.{and_parts, eqb-true, le-leb, lt-leb}
 use Rattle.std.proofs.lemmas.List.{append-nil, take-take, drop-drop, take_all, take_at, drop_at, length-take, length-drop, length-append, length-replicate}
 use Rattle.mw_disk.specs.declared.file_event.FileEvent.TheVariants.{Length, Read, Write, Resize, Sync, SyncFolder}
 use Rattle.mw_disk.specs.Crash.{Torn, CutShort, Follows, Elapses, OnlyTold}
 use Rattle.mw_disk.specs.Laws.{unwritten_torn, uncut}
-use Rattle.mw_disk.specs.FileLaws.{torn_longer, resizes_still, since_now, told_left}
-use Rattle.mw_disk.specs.FileLogs.{Event, FileLog, FileState, noted, after_all, first_state, state_of, laid, Resizes, SafeAfter, IsFirst, LeftAll, LeavesBy, Leaves, LeftSince, moment_of}
+use Rattle.mw_disk.specs.FileLaws.{resizes_still, since_now, told_left}
+use Rattle.mw_disk.specs.FileLogs.{Event, FileLog, noted, first_state, state_of, Resizes, SafeAfter, IsFirst, LeftAll, Leaves, LeftSince, moment_of}
 use Rattle.mw_disk.specs.Untold.{never_true}
 use Rattle.mw_disk.specs.FileRuns.{Runs, Reads, Settles, Safe, told_if, LeavesIf}
 

@@ -3,3 +3,4 @@ pub mod MemoryFiles
 pub mod Moments
 pub mod Ranges
 pub mod Recorded
+pub mod RecordedFiles

@@ -1,8 +1,8 @@
 -- What a file in memory gives is what an honest one gives.
-use Rattle.std.proofs.Common.{◌≡◌, ◌<◌, ◌≤◌, ◌⊎◌, inl, inr, ℕ, ◌+◌, ◌-◌, List, length, take, drop, refl, sym, ap, subst, ◌∙◌, arith, Bool, true, false, Some}
-use Rattle.std.specs.Prelude.{IsTrue, not, ◌&&◌, ◌||◌, ◌==◌, nat_le, bytes_eq, min}
-use Rattle.std.proofs.lemmas.List.{length-take, length-drop, take-take}
-use Rattle.std.proofs.lemmas.Bool.{and_from, cases_Bool, cases_lt, le-leb}
+use Rattle.std.proofs.Common.{◌≡◌, ◌<◌, ◌≤◌, ℕ, ◌-◌, List, length, take, drop, sym, ap, ◌∙◌, arith, Some}
+use Rattle.std.specs.Prelude.{IsTrue, not, ◌||◌, ◌==◌, nat_le, min}
+use Rattle.std.proofs.lemmas.List.{length-take}
+use Rattle.std.proofs.lemmas.Bool.{and_from}
 use Rattle.std.proofs.lemmas.Slice.Eq.{bytes_eq-Decides}
 use Rattle.std.proofs.lemmas.Grind.{common_steps}
 use Rattle.mw_disk.specs.FileLogs.{is_read}

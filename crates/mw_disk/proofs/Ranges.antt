@@ -1,6 +1,6 @@
 -- Bytes that were written at a place.
-use Rattle.std.proofs.Common.{◌≡◌, ◌<◌, ◌≤◌, ℕ, zero, suc, ◌+◌, ◌-◌, List, [], ◌∷◌, ◌++◌, length, take, drop, refl, sym, ap, subst, ◌∙◌, append_assoc, zero-add, suc-add, length-append, length-take, length-drop, le_of_eq, arith, Bool, true, IsTrue, not, ◌&&◌, ◌||◌}
-use Rattle.std.specs.Prelude.{replicate, bytes_eq, ◌==◌, nat_le}
+use Rattle.std.proofs.Common.{◌≡◌, ◌<◌, ◌≤◌, ℕ, zero, suc, ◌+◌, ◌-◌, List, [], ◌∷◌, ◌++◌, length, take, drop, refl, sym, ap, subst, ◌∙◌, append_assoc, zero-add, suc-add, length-append, length-take, length-drop, le_of_eq, arith, IsTrue}
+use Rattle.std.specs.Prelude.{replicate}
 use Rattle.std.proofs.lemmas.Bool.{and_parts}
 use Rattle.std.proofs.lemmas.Slice.{take-put_mid_below}
 use Rattle.std.proofs.lemmas.Slice.Eq.{bytes_eq-Decides}

@@ -1,10 +1,10 @@
 -- What a file of the system gives, a crash may leave.
-use Rattle.std.specs.Prelude.{◌≡◌, ◌≤◌, ℕ, suc, ◌+◌, ◌-◌, ◌++◌, min, max, List, [], ◌∷◌, length, take, drop, replicate, Option, Some, None, Bool, true, false, nat_le, IsTrue}
-use Rattle.std.proofs.Common.{◌<◌, ◌⊎◌, inl, inr, refl, sym, ap, subst, ◌∙◌, arith, length-append}
+use Rattle.std.specs.Prelude.{◌≡◌, ◌≤◌, ℕ, suc, ◌+◌, ◌-◌, ◌++◌, min, List, [], ◌∷◌, length, take, drop, replicate, Some, None, Bool, true, false, nat_le}
+use Rattle.std.proofs.Common.{◌<◌, inl, inr, refl, sym, ap, subst, ◌∙◌, arith, length-append}
 use Rattle.std.proofs.lemmas.List.{append-nil, take_all, drop_all, drop-drop, length-replicate, length-take, take-append-le}
-use Rattle.std.proofs.lemmas.Bool.{cases_Bool, leb-true, leb-false}
+use Rattle.std.proofs.lemmas.Bool.{leb-true, leb-false}
 use Rattle.mw_disk.specs.declared.file_event.FileEvent.TheVariants.{Length, Read, Write, Resize, Sync, SyncFolder}
-use Rattle.mw_disk.specs.Crash.{Torn, CutShort}
+use Rattle.mw_disk.specs.Crash.{Torn}
 use Rattle.mw_disk.specs.Laws.{unwritten_torn, written_torn, uncut}
 use Rattle.mw_disk.specs.Untold.{never_true, none_told}
 use Rattle.mw_disk.specs.FileLogs.{Event, FileLog, FileState, after, after_all, first_state, state_of, laid, resized, Resizes, SafeAfter, LeftAfter, LeftAll, LeavesBy, IsFirst, Leaves, LeftSinceBy, LeftSince, moment_of}

@@ -1,6 +1,6 @@
 -- What a record of the calls of a file of the system says of the file, where each of its answers is
 -- that of an honest file.
-use Rattle.std.specs.Prelude.{◌≡◌, ◌⊎◌, ◌≤◌, ℕ, suc, ◌+◌, ◌-◌, List, [], ◌∷◌, ◌++◌, length, take, drop, replicate, Option, Some, None, Bool, true, false, not, ◌&&◌, ◌||◌, ◌==◌, nat_le, bytes_eq, if◌then◌else◌, Contains, Result}
+use Rattle.std.specs.Prelude.{◌≡◌, ◌⊎◌, ◌≤◌, ℕ, suc, ◌-◌, List, [], ◌∷◌, ◌++◌, length, take, drop, replicate, reverse, Some, None, Bool, true, false, not, ◌&&◌, ◌||◌, ◌==◌, nat_le, bytes_eq, if◌then◌else◌, Contains}
 use Rattle.mw_disk.specs.declared.file_event.FileEvent.{FileEvent}
 use Rattle.mw_disk.specs.declared.file_event.FileEvent.TheVariants.{Length, Read, Write, Resize, Sync, SyncFolder}
 use Rattle.mw_disk.specs.Range.{written}
@@ -29,6 +29,10 @@ pub record FileState : Type 0 where
 -- a file that was opened now, and holds these bytes, all of them safe from a crash
 abbrev pub opened_log : List ℕ → Bool → FileLog
 opened_log found fresh = record { found = found; left = []; fresh = fresh; events = [] }
+
+-- the same after these calls, the first one first
+abbrev pub judged_log : List ℕ → Bool → List Event → FileLog
+judged_log found fresh events = record (opened_log found fresh) { events = reverse events }
 
 -- a call more
 abbrev pub noted : Event → FileLog → FileLog

@@ -1,5 +1,5 @@
 -- What calls on a file of the system did, and what a disk over it tells.
-use Rattle.std.specs.Prelude.{◌≡◌, ◌≤◌, ℕ, List, Option, Some, None, Bool, true, false, IsTrue, if◌then◌else◌}
+use Rattle.std.specs.Prelude.{◌≡◌, ℕ, List, Option, Some, None, Bool, true, false, IsTrue, if◌then◌else◌}
 use Rattle.mw_disk.specs.Crash.{Follows, Elapses}
 use Rattle.mw_disk.specs.FileLogs.{FileLog, state_of, Leaves, LeftSince, moment_of}
 

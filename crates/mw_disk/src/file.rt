@@ -1,4 +1,4 @@
-ghost use Rattle.std.specs.Prelude.{◌≡◌, ◌<◌, ◌↔◌, ◌+◌, IfOk, IsTrue, false};
+ghost use Rattle.std.specs.Prelude.{◌≡◌, ◌<◌, ◌↔◌, ◌+◌, IfOk, IsTrue, [], false};
 ghost use Rattle.mw_disk.specs.Causes.{HasCause};
 ghost use Rattle.mw_disk.specs.FileLogs.{state_of};
 
@@ -40,9 +40,9 @@ fn counted<T: Drop>(faults: &mut Tally, done: io::Result<T>) -> Result<T, DiskEr
 impl<C: FileCalls + Drop> FileDisk<C> {
     ghost use Rattle.mw_disk.specs.System.{file_faults, calls_of};
 
-    /// A disk over an open file, of which no sync has failed. It has not failed yet.
+    /// A disk over a file of which nothing was asked yet. It has not failed yet.
     pub fn new(calls: C) -> FileDisk<C>
-        requires { (state_of (C.FileCalls.log calls)).lost ≡ false }
+        requires { (C.FileCalls.log calls).events ≡ [] }
         ensures calls { calls_of result ≡ calls }
         ensures faults { file_faults result ≡ 0 }
     {
@@ -51,6 +51,13 @@ impl<C: FileCalls + Drop> FileDisk<C> {
             lost: false,
             faults: Tally::new(),
         }
+    }
+
+    /// The open file.
+    pub fn calls(&self) -> &C
+        ensures { result.now ≡ calls_of self.now }
+    {
+        &self.calls
     }
 
     /// Whether it has failed.

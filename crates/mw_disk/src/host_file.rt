@@ -1,5 +1,6 @@
-ghost use Rattle.std.specs.Prelude.{◌≡◌, ◌+◌, [], length, Some, None, false, IfOk, is_ok, MatchResult};
-ghost use Rattle.mw_disk.specs.FileLogs.{noted, state_of};
+ghost use Rattle.std.specs.Prelude.{◌≡◌, ◌+◌, [], length, Some, None, IfOk, is_ok, MatchResult};
+ghost use Rattle.mw_disk.specs.FileLogs.{noted};
+ghost use Rattle.mw_disk.specs.HostFiles.{host_log};
 ghost use Rattle.mw_disk.specs.System.{file_faults};
 
 use crate::disk::DiskError;
@@ -59,9 +60,10 @@ fn lock_whole(file: &File) -> io::Result<()> {
     Err(error)
 }
 
-/// Opens the file of a name to read and write, or makes it, and takes its lock.
-pub(crate) fn open_host_file<R: Files<File = File>>(rt: &R, name: &str) -> io::Result<HostFile>
-    ensures { IfOk result (λ f. (state_of f.log).lost ≡ false) }
+/// Opens the file of a name to read and write, or makes it, and takes its lock. Nothing was asked of
+/// it yet, and no clause says what it holds.
+pub fn open_host_file<R: Files<File = File>>(rt: &R, name: &str) -> io::Result<HostFile>
+    ensures { IfOk result (λ file. (host_log file).events ≡ []) }
 {
     let (file, folder) = open_or_make(rt, name)?;
     lock_whole(&file)?;

@@ -110,7 +110,11 @@ impl FileCalls for MemoryFile {
         let most = match draw(self.luck.as_slice(), &mut self.call) {
             Ok(most) => most,
             Err(error) => {
-                self.log.note(FileEvent::Read { at, room, answer: None });
+                self.log.note(FileEvent::Read {
+                    at,
+                    room,
+                    answer: None,
+                });
                 return Err(error);
             }
         };
@@ -125,16 +129,28 @@ impl FileCalls for MemoryFile {
         let most = match draw(self.luck.as_slice(), &mut self.call) {
             Ok(most) => most,
             Err(error) => {
-                self.log.note(FileEvent::Write { at, bytes: seen, answer: None });
+                self.log.note(FileEvent::Write {
+                    at,
+                    bytes: seen,
+                    answer: None,
+                });
                 return Err(error);
             }
         };
         let count = bytes.len().min(most);
         if count > 0 && put_range(&mut self.bytes, at as usize, &bytes[..count]).is_err() {
-            self.log.note(FileEvent::Write { at, bytes: seen, answer: None });
+            self.log.note(FileEvent::Write {
+                at,
+                bytes: seen,
+                answer: None,
+            });
             return Err(io::Error::from(ErrorKind::OutOfMemory));
         }
-        self.log.note(FileEvent::Write { at, bytes: seen, answer: Some(count) });
+        self.log.note(FileEvent::Write {
+            at,
+            bytes: seen,
+            answer: Some(count),
+        });
         Ok(count)
     }
 
@@ -153,14 +169,18 @@ impl FileCalls for MemoryFile {
 
     fn sync(&mut self) -> io::Result<()> {
         let answer = draw(self.luck.as_slice(), &mut self.call);
-        self.log.note(FileEvent::Sync { done: answer.is_ok() });
+        self.log.note(FileEvent::Sync {
+            done: answer.is_ok(),
+        });
         answer?;
         Ok(())
     }
 
     fn sync_folder(&mut self) -> io::Result<()> {
         let answer = draw(self.luck.as_slice(), &mut self.call);
-        self.log.note(FileEvent::SyncFolder { done: answer.is_ok() });
+        self.log.note(FileEvent::SyncFolder {
+            done: answer.is_ok(),
+        });
         answer?;
         Ok(())
     }

@@ -1,4 +1,4 @@
-use Rattle.std.proofs.Common.{Some, subst, sym}
+use Rattle.std.proofs.Common.{subst, sym}
 use Rattle.mw_disk.specs.Crash.{CutShort}
 use Rattle.mw_disk.specs.Laws.{uncut}
 use Rattle.mw_disk.specs.FileRuns.{Reads}

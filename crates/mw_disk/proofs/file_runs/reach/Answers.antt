@@ -1,4 +1,4 @@
-use Rattle.std.proofs.Common.{Some, subst, sym}
+use Rattle.std.proofs.Common.{subst, sym}
 use Rattle.mw_disk.specs.Crash.{Torn}
 use Rattle.mw_disk.specs.Laws.{unwritten_torn}
 use Rattle.mw_disk.specs.FileRuns.{Reads}

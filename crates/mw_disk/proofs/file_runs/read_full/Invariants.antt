@@ -1,4 +1,4 @@
-use Rattle.std.proofs.Common.{◌≡◌, ◌≤◌, ◌+◌, length, take, drop}
+use Rattle.std.proofs.Common.{◌≡◌, ◌≤◌, length, take, drop}
 use Rattle.std.specs.Prelude.{IsTrue}
 use Rattle.mw_disk.specs.FileLogs.{state_of}
 use Rattle.mw_disk.specs.FileRuns.{Reads}

@@ -1,4 +1,4 @@
-use Rattle.std.proofs.Common.{◌∙◌, length, take, Some, None, subst, sym, rules}
+use Rattle.std.proofs.Common.{◌∙◌, length, take, subst, sym, rules}
 use Rattle.mw_disk.specs.FileRuns.{Reads}
 use Rattle.mw_disk.proofs.FileRuns.{reads_then, reads_some, reads_none}
 use Rattle.mw_disk.proofs.file_runs.read_some.Goals as goal

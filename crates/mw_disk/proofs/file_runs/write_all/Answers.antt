@@ -1,4 +1,4 @@
-use Rattle.std.proofs.Common.{◌≡◌, ◌∙◌, ◌+◌, ◌-◌, ◌≤◌, ℕ, List, length, take, drop, subst, sym, ap, arith, rules}
+use Rattle.std.proofs.Common.{◌≡◌, ◌∙◌, ◌+◌, ◌-◌, ◌≤◌, ℕ, List, length, take, ap, arith, rules}
 use Rattle.mw_disk.specs.Crash.{Torn}
 use Rattle.mw_disk.specs.FileLogs.{FileLog, state_of, laid}
 use Rattle.mw_disk.specs.FileRuns.{Runs}

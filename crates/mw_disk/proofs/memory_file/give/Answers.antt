@@ -1,4 +1,4 @@
-use Rattle.std.proofs.Common.{◌≡◌, ◌≤◌, length, take, rules, arith}
+use Rattle.std.proofs.Common.{◌≡◌, ◌≤◌, length, take, rules}
 use Rattle.std.specs.Prelude.{min}
 use Rattle.std.proofs.lemmas.List.{places, take-append-le}
 use borrow.Rule.Slice.PartMut.{put_mid, post_of}
