@@ -1,5 +1,6 @@
 -- What a run comes to, from what its parts do.
 use Rattle.std.proofs.Common.{◌≡◌, ◌⊎◌, inl, inr, ◌≤◌, ◌∙◌, ℕ, List, Option, Some, refl, sym, subst}
+use Rattle.std.specs.Prelude.{Result, Ok, Err, IfErr}
 use Rattle.mw_disk.specs.Crash.{LeavesOnly}
 use Rattle.mw_link.specs.Dials.{Exchange}
 use Rattle.mw_model.specs.Items.{NetItem}
@@ -75,3 +76,7 @@ module _ (told told2 : Option (List ℕ)) (images images2 : List ℕ → Type 0)
 pub left_now : {D : Type 0} (may_leave : D → List ℕ → Type 0) (moment : D → ℕ) (left_since : D → ℕ → List ℕ → Type 0) → ((disk : D) (t : ℕ) (c : List ℕ) → t ≤ moment disk → may_leave disk c → left_since disk t c)
     → (old new : D) (P : List ℕ → Type 0) → LeavesOnly moment left_since old new P → (c : List ℕ) → may_leave new c → P c
 left_now may_leave moment left_since counts_now old new P leaves c left = leaves.each c (counts_now new (moment old) c leaves.later left)
+
+pub if_err_to : {T E : Type 0} (r : Result T E) (P Q : E → Type 0) → ((e : E) → P e → Q e) → IfErr r P → IfErr r Q
+if_err_to (Ok x) P Q f h = tt
+if_err_to (Err e) P Q f h = f e h

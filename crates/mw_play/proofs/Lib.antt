@@ -1,4 +1,5 @@
 pub mod Carried
+pub mod Ending
 pub mod Following
 pub mod Kept
 pub mod Reading

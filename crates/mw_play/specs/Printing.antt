@@ -15,15 +15,14 @@ abbrev pub list_text : List NetItem → List ℕ
 list_text list =
     codes "items " ++ decimal (length list) ++ 10 ∷ flat_map item_line list
 
--- each behind a blank
-abbrev pub behind_blanks : List (List ℕ) → List ℕ
-behind_blanks [] = []
-behind_blanks (e ∷ es) = 32 ∷ e ++ behind_blanks es
+-- behind a blank
+abbrev pub behind_blank : List ℕ → List ℕ
+behind_blank text = 32 ∷ text
 
 -- joined by blanks
 abbrev pub joined : List (List ℕ) → List ℕ
 joined [] = []
-joined (e ∷ es) = e ++ behind_blanks es
+joined (e ∷ es) = e ++ flat_map behind_blank es
 
 -- the line of a client that was turned away for these errors
 abbrev pub refusal_line : List (List ℕ) → List ℕ

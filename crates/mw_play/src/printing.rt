@@ -1,7 +1,7 @@
 //! What `multiplay` prints.
 ghost use Rattle.std.specs.Prelude.{◌≡◌, ◌++◌, ◌∷◌, IfOk, OnOk, string_bytes};
 ghost use Rattle.std.specs.List.{flat_map};
-ghost use Rattle.mw_play.specs.Printing.{behind_blanks, item_line, joined, list_text as list_text_lem, refusal_line as refusal_line_lem};
+ghost use Rattle.mw_play.specs.Printing.{behind_blank, item_line, joined, list_text as list_text_lem, refusal_line as refusal_line_lem};
 
 use mw_base::{Memory, NetItem, Text};
 use std::alloc::Global;
@@ -41,14 +41,23 @@ pub(crate) fn list_text(alloc: Global, list: &[NetItem]) -> Result<String, Memor
     Ok(out)
 }
 
+/// Adds an error behind a blank.
+fn add_error(out: &mut String, error: &Text) -> Result<(), Memory>
+    ensures { OnOk result (string_bytes out.new
+        ≡ string_bytes out.old ++ behind_blank error.now) }
+{
+    out.push_str(" ")?;
+    out.push_str(error.as_str())?;
+    Ok(())
+}
+
 /// Adds each error behind a blank.
 fn add_errors(out: &mut String, errors: &[Text]) -> Result<(), Memory>
     ensures { OnOk result (string_bytes out.new
-        ≡ string_bytes out.old ++ behind_blanks errors.now) }
+        ≡ string_bytes out.old ++ flat_map behind_blank errors.now) }
 {
     for error in errors {
-        out.push_str(" ")?;
-        out.push_str(error.as_str())?;
+        add_error(out, error)?;
     }
     Ok(())
 }
