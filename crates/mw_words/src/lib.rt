@@ -10,7 +10,7 @@ mod words;
 
 pub use command_line::{
     CheckWords, CommandLine, DriveWords, GenerateWords, NewRoomWords, ReachWords, ServeWords,
-    StressWords,
+    StressWords, ThinWords,
 };
 pub use error::WordsError;
 pub use number::number_of;
