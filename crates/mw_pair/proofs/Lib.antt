@@ -1,3 +1,4 @@
-pub mod Names
+pub mod Naming
 pub mod Steps
 pub mod Lifted
+pub mod Since

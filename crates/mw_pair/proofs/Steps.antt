@@ -1,14 +1,13 @@
 -- Files that are opened one after another, and closed.
-use Rattle.std.proofs.Common.{◌≡◌, ◌≢◌, ◌∙◌, ◌≤◌, ◌<◌, ℕ, List, Bool, true, false, Option, Some, None, refl, sym, ap, subst, arith, inl, inr}
-use Rattle.mw_disk.specs.Crash.{Stays}
-use Rattle.mw_edges.specs.Causes.{PassesOn, Rose}
+use Rattle.std.proofs.Common.{◌≡◌, ◌∙◌, ◌≤◌, ◌<◌, ℕ, zero, suc, List, Bool, false, Option, Some, None, refl, sym, ap, subst, arith, inl, inr}
+use Rattle.mw_edges.specs.Causes.{PassesOn}
 use Rattle.mw_edges.specs.Files.{open_file}
 use Rattle.mw_edges.specs.Folders.{SameImages, StaysOrIsMade, opened_bytes}
 use Rattle.mw_checkpoint.specs.declared.files.Files.{Files}
-use Rattle.mw_pair.specs.Folders.{AreOpen, AreOpenedAtMost, ArePairClosed, ArePairOpened, AreShut, IsClosed, IsOpened, IsOpenedAtMost, IsUnmoved, OnFiles, OthersStay, PassesAll}
-use Rattle.mw_pair.specs.Names.{IsOther, file_names}
-use Rattle.mw_pair.specs.Steps.{Closes, Opens, OthersUnmoved, Unopens}
-use Rattle.mw_pair.proofs.Names.{both_apart, either_name, first_apart, second_apart}
+use Rattle.mw_pair.specs.Folders.{AreOpen, AreOpenedAtMost, ArePairClosed, ArePairOpened, AreShut, IsClosed, IsOpened, IsOpenedAtMost, IsUnmoved, OthersStay, PassesAll}
+use Rattle.mw_pair.specs.Names.{file_names}
+use Rattle.mw_pair.specs.Steps.{Closes, Opens, Unopens}
+use Rattle.mw_pair.proofs.Naming.{both_apart, either_name, first_apart, second_apart}
 
 -- ---- one name
 
@@ -150,5 +149,19 @@ pub passes_later : (other before after : ℕ) → PassesOn other before after �
 passes_later other before after p = by other refl
   where
     by : (n : ℕ) → other ≡ n → before ≤ after
-    by 0 is = let same = p.kept is in omega (arith, same)
+    by zero is = let same = p.kept is in omega (arith, same)
     by (suc n) is = let some : 0 < other = omega (arith, is) in let rose = p.rose some in omega (arith, rose)
+
+-- three disks were closed, the last of them first
+pub passes_all : {D : Type 0} (faults : D → ℕ) (files : Files D) (first second third last : ℕ) → PassesOn (faults files.one) first second → PassesOn (faults files.zero) second third → PassesOn (faults files.choice) third last
+    → PassesAll faults files first last
+passes_all faults files first second third last p q r =
+    let a = passes_later (faults files.one) first second p in
+    let b = passes_later (faults files.zero) second third q in
+    let c = passes_later (faults files.choice) third last r in
+    record {
+      later = omega (arith, a, b, c);
+      choice = λ some. let rose = r.rose some in omega (arith, a, b, rose);
+      zero = λ some. let rose = q.rose some in omega (arith, a, rose, c);
+      one = λ some. let rose = p.rose some in omega (arith, rose, b, c);
+    }

@@ -1,13 +1,16 @@
 -- A pair room in a folder, opened to be played.
-use Rattle.std.specs.Prelude.{◌≡◌, ◌⊎◌, ℕ, List, ◌++◌, Bool, Option, Some, is_some}
+use Rattle.std.specs.Prelude.{◌≡◌, ◌⊎◌, ◌<◌, ◌≤◌, ℕ, List, ◌++◌, Bool, Option, Some, is_some}
+use Rattle.mw_edges.specs.Causes.{Rose}
 use Rattle.mw_edges.specs.Folders.{opened_bytes}
 use Rattle.mw_journal.specs.Image.{Stands}
 use Rattle.mw_journal.specs.Settled.{AllSettled}
 use Rattle.mw_checkpoint.specs.Choices.{AreChoices, named_in}
-use Rattle.mw_checkpoint.specs.Pair.{other_of}
+use Rattle.mw_checkpoint.specs.Chosen.{ReadsChoice}
+use Rattle.mw_checkpoint.specs.Pair.{journal_at, other_of}
 use Rattle.mw_checkpoint.specs.Refused.{RefusesChosen}
 use Rattle.mw_checkpoint.specs.declared.error.PairError.{PairError}
-use Rattle.mw_pair.specs.Folders.{IsClosed, IsOpened, IsOpenedAtMost}
+use Rattle.mw_checkpoint.specs.declared.files.Files.{Files}
+use Rattle.mw_pair.specs.Folders.{IsClosed, IsOpened, IsOpenedAtMost, IsOpening}
 use Rattle.mw_pair.specs.Names.{journal_name}
 use Rattle.mw_pair.specs.declared.choosing.Chosen.{Chosen}
 
@@ -57,11 +60,41 @@ pub record IsClosedRoom {D : Type 0} (told : D → Option (List ℕ))
       (images (journal_name choice (other_of room.named)))
       (is_open (journal_name choice (other_of room.named))) room.other
 
--- why CHOICE names no journal; want of memory and faults come also as a file is opened
+-- the folder's count rises where one of the disks has failed, and never falls
+pub record PassesRoom {D : Type 0} (faults : D → ℕ) (room : Chosen D) (before after : ℕ)
+    : Type 0 where
+  pub later : before ≤ after
+  pub own : 0 < faults room.choice → Rose before after
+  pub journal : 0 < faults room.journal → Rose before after
+
+-- why CHOICE names no journal: a file isn't opened, or memory is wanting; or it is of CHOICE
 abbrev pub RefusesChoice : (List ℕ → Option (Option (List ℕ))) → List ℕ → List ℕ → PairError
     → Type 0
-RefusesChoice before choice digest error =
-    (was : ℕ) × (now : ℕ) × RefusesChosen (opened_bytes (before choice)) digest was now error
+RefusesChoice before choice digest error = IsOpening error
+    ⊎ ((was : ℕ) × (now : ℕ) × RefusesChosen (opened_bytes (before choice)) digest was now error)
+
+-- of three open disks, those of a room that is played: CHOICE was opened as a journal, and the
+-- journals are as they were
+pub record Chooses {D : Type 0} (told : D → Option (List ℕ)) (may_leave : D → List ℕ → Type 0)
+    (digest : List ℕ) (files : Files D) (room : Chosen D)
+    : Type 0 where
+  pub reads : ReadsChoice told may_leave digest files.choice room.choice room.named
+  pub journal : room.journal ≡ journal_at room.named files
+  pub other : room.other ≡ journal_at (other_of room.named) files
+  pub settled : StaysSettled (may_leave files.choice) (may_leave room.choice) digest
+  pub tells : is_some (told room.choice) ≡ is_some (told files.choice)
+
+-- or CHOICE names no journal
+pub record ChoosesNone {D : Type 0} (told : D → Option (List ℕ))
+    (may_leave : D → List ℕ → Type 0) (faults : D → ℕ) (digest : List ℕ) (before after : Files D)
+    (error : PairError)
+    : Type 0 where
+  pub refused : RefusesChosen (told before.choice) digest (faults before.choice)
+      (faults after.choice) error
+  pub zero : after.zero ≡ before.zero
+  pub one : after.one ≡ before.one
+  pub settled : StaysSettled (may_leave before.choice) (may_leave after.choice) digest
+  pub tells : is_some (told after.choice) ≡ is_some (told before.choice)
 
 -- the files of a room that isn't played: CHOICE is settled as it was, and told where it was, and
 -- the journals were opened at most

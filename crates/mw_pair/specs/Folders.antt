@@ -1,5 +1,5 @@
 -- The three files of a pair room in a folder, opened as disks and closed.
-use Rattle.std.specs.Prelude.{◌≡◌, ◌≢◌, ◌<◌, ◌≤◌, ℕ, List, Bool, true, false, Option}
+use Rattle.std.specs.Prelude.{◌≡◌, ◌<◌, ◌≤◌, ℕ, List, Bool, true, false, Option}
 use Rattle.mw_disk.specs.Crash.{Stays}
 use Rattle.mw_edges.specs.Causes.{Rose}
 use Rattle.mw_edges.specs.Files.{open_file}

@@ -1,11 +1,12 @@
 -- What making a pair room in a folder leaves.
-use Rattle.std.specs.Prelude.{◌≡◌, ◌≢◌, ℕ, zero, suc, List, [], Option, Some}
+use Rattle.std.specs.Prelude.{◌≡◌, ◌≢◌, ℕ, List, [], Option, Some, Result, Ok, Err}
 use Rattle.mw_disk.specs.Crash.{Stays}
 use Rattle.mw_edges.specs.Folders.{opened_bytes}
 use Rattle.mw_journal.specs.Settled.{AllShut}
-use Rattle.mw_checkpoint.specs.Created.{disk_at}
+use Rattle.mw_checkpoint.specs.Created.{ArePairEmpty, HasNone, IsStopped, OnEach, disk_at}
 use Rattle.mw_checkpoint.specs.declared.error.PairError.{PairError}
 use Rattle.mw_checkpoint.specs.declared.error.PairError.TheVariants.{DiskFault, NotEmpty, NotJournal, OtherSeed, BadChoice, BadRecord, ChoiceFull, Memory}
+use Rattle.mw_checkpoint.specs.declared.files.Files.{Files}
 use Rattle.mw_pair.specs.Names.{IsOneOf, file_names}
 
 -- each of the three files had no byte, where the folder tells its bytes; whatever a crash leaves of
@@ -38,3 +39,12 @@ abbrev pub BytesStay : (before after : List ℕ → Option (Option (List ℕ)))
     → (might_leave may_leave : List ℕ → List ℕ → Type 0) → List ℕ → Type 0
 BytesStay before after might_leave may_leave choice = (n : List ℕ) → IsOneOf choice n
     → TellsByte (before n) → (after n ≡ before n) × Stays (might_leave n) (may_leave n)
+
+-- three disks without bytes are empty journals now; or they were made up to one that gave none
+abbrev pub MadeFiles : {D : Type 0} → (D → Option (List ℕ)) → (D → List ℕ → Type 0) → (D → ℕ)
+    → (D → ℕ → List ℕ → Type 0) → (D → ℕ) → List ℕ → Files D → Files D
+    → Result (Unit {0}) PairError → Type 0
+MadeFiles told may_leave moment left_since faults digest before after (Ok made) =
+    ArePairEmpty may_leave digest after × OnEach (λ b a. HasNone told b) before after
+MadeFiles told may_leave moment left_since faults digest before after (Err error) =
+    IsStopped told may_leave moment left_since faults digest before after error

@@ -4,13 +4,14 @@ use Rattle.mw_edges.specs.Folders.{opened_bytes}
 use Rattle.mw_protocol.specs.Records.{Record}
 use Rattle.mw_journal.specs.Image.{Stands}
 use Rattle.mw_checkpoint.specs.Checkpointing.{AllStandForOne, AreSettled, IsThinned}
-use Rattle.mw_checkpoint.specs.Choices.{AreChoices, named_in}
+use Rattle.mw_checkpoint.specs.Choices.{named_in}
 use Rattle.mw_checkpoint.specs.Pair.{journal_place, other_of}
 use Rattle.mw_checkpoint.specs.Preparing.{RefusesReading, RefusesWriting}
 use Rattle.mw_checkpoint.specs.Refused.{RefusesChosen}
 use Rattle.mw_checkpoint.specs.Switching.{RefusesSwitch}
 use Rattle.mw_checkpoint.specs.declared.error.PairError.{PairError}
 use Rattle.mw_checkpoint.specs.declared.switching.Kept.{Kept}
+use Rattle.mw_pair.specs.Folders.{IsOpening}
 use Rattle.mw_pair.specs.Names.{file_names, journal_name}
 
 -- what a folder tells of the bytes of a name
@@ -39,7 +40,6 @@ pub record RefusesCopy (before : List ℕ → Option (Option (List ℕ))) (choic
     : Type 0 where
   pub text : List ℕ
   pub names : (f : List ℕ) → bytes_in before choice ≡ Some f → Stands f digest text
-  pub choices : AreChoices text
   pub was : ℕ
   pub now : ℕ
   pub refused : RefusesReading (journal_place (named_in text))
@@ -57,9 +57,10 @@ pub record RefusesNumber (before : List ℕ → Option (Option (List ℕ))) (cho
   pub now : ℕ
   pub refused : RefusesSwitch opened digest was now error
 
--- each error of a checkpoint: of CHOICE, of the journals, or of CHOICE once more; want of memory and
--- faults come also as a file is opened
+-- each error of a checkpoint: a file isn't opened, or memory is wanting; or it is of CHOICE, of the
+-- journals, or of CHOICE once more
 abbrev pub RefusesThin : (List ℕ → Option (Option (List ℕ))) → List ℕ → List ℕ → PairError → Type 0
 RefusesThin before choice digest error =
-    ((was : ℕ) × (now : ℕ) × RefusesChosen (bytes_in before choice) digest was now error)
-    ⊎ (RefusesCopy before choice digest error ⊎ RefusesNumber before choice digest error)
+    IsOpening error
+    ⊎ (((was : ℕ) × (now : ℕ) × RefusesChosen (bytes_in before choice) digest was now error)
+    ⊎ (RefusesCopy before choice digest error ⊎ RefusesNumber before choice digest error))

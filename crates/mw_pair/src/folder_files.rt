@@ -67,7 +67,10 @@ pub(crate) fn open_pair<F: Folder>(
         → Rose (F.faults folder.old) (F.faults folder.new)) }
     ensures later { F.faults folder.old ≤ F.faults folder.new }
 {
-    let choice = open_one(alloc, folder, 0, names.choice())?;
+    let choice = match open_one(alloc, folder, 0, names.choice()) {
+        Ok(disk) => disk,
+        Err(error) => return Err(error),
+    };
     let zero = match open_one(alloc, folder, 1, names.zero()) {
         Ok(disk) => disk,
         Err(error) => {
