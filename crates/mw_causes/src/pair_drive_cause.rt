@@ -67,6 +67,23 @@ impl From<Stop<SeedCause>> for Stop<PairDriveCause> {
     }
 }
 
+impl From<Stop<DriveCause>> for Stop<PairDriveCause> {
+    ghost use Rattle.mw_causes.specs.Ends.{stop_with};
+    ghost use Rattle.mw_causes.specs.declared.pair_drive_cause.PairDriveCause.TheVariants.{Drive};
+
+    ghost from_gives = { λ stop e. e ≡ stop_with Drive stop };
+
+    fn from(stop: Stop<DriveCause>) -> Self {
+        match stop {
+            Stop::Fault => Stop::Fault,
+            Stop::Memory => Stop::Memory,
+            Stop::Refused { cause } => Stop::Refused {
+                cause: PairDriveCause::Drive { cause },
+            },
+        }
+    }
+}
+
 /// The stop of a cause of a room of one journal.
 fn driven(cause: DriveCause) -> Stop<PairDriveCause>
     ensures { result ≡ Stop.Refused (PairDriveCause.Drive cause) }
