@@ -208,8 +208,7 @@ fn ends(alloc: Global, run: &Run<'_>, wanted: &str) -> Result<(), Fail> {
 fn dropped_items_are_asked_for(rt: HostRuntime) -> Result<(), Fail> {
     let alloc = rt.alloc();
     let mut folder = empty_folder(alloc)?;
-    let wanted = format!(in alloc;
-        "0 items 1\n5 -2 0 0\n> {CONNECT}\n> [{{\"cmd\":\"Sync\"}}]\n")?;
+    let wanted = format!(in alloc; "0 items 1\n5 -2 0 0\n> {CONNECT}\n> [{{\"cmd\":\"Sync\"}}]\n")?;
     let run = Run {
         line: ANN,
         input: "",
@@ -392,7 +391,15 @@ fn what_tells_nothing(rt: HostRuntime) -> Result<(), Fail> {
     let run = Run {
         line: ANN,
         input: "",
-        coming: &["7", "{", "[7]", r#"[{"cmd":"Fly"}]"#, "first", "third", "joined"],
+        coming: &[
+            "7",
+            "{",
+            "[7]",
+            r#"[{"cmd":"Fly"}]"#,
+            "first",
+            "third",
+            "joined",
+        ],
     };
     ends(alloc, &run, "0 items 1\n5 -2 0 0\n")?;
     let twice = r#"[{"cmd":"Connected"},{"cmd":"ReceivedItems","index":0,"items":[]}]"#;
@@ -414,7 +421,10 @@ fn devices_fail(rt: HostRuntime) -> Result<(), Fail> {
         coming: &["info", "joined", "first"],
     };
     let fault = "5 device failed\n";
-    let source = Failing { source: &[0], ..NONE };
+    let source = Failing {
+        source: &[0],
+        ..NONE
+    };
     tells(alloc, &mut empty_folder(alloc)?, &run, &source, fault)?;
     let dial = Failing { dial: true, ..NONE };
     tells(alloc, &mut empty_folder(alloc)?, &run, &dial, fault)?;
@@ -444,7 +454,10 @@ fn a_link_fails_at_each_call(rt: HostRuntime) -> Result<(), Fail> {
     };
     for call in 0..5 {
         let mut folder = empty_folder(alloc)?;
-        let link = Failing { link: &[call], ..NONE };
+        let link = Failing {
+            link: &[call],
+            ..NONE
+        };
         let told = told_with(alloc, &mut folder, &run, &link)?;
         if !told.starts_with("5 device failed\n") {
             return Err(Fail::new(told.as_str()));

@@ -44,18 +44,22 @@ module _ (told told2 : Option (List ℕ)) (images images2 : List ℕ → Type 0)
   }
 
   full_same : (digest : List ℕ) (list : List NetItem) (before after : List Exchange) → HeardFull images digest list before after → HeardFull images2 digest list before after
-  full_same digest list before after (line, hung_up, full) = (line, hung_up, record {
-    front = full.front;
-    text = full.text;
-    last = full.last;
-    full = record {
-      gate = full.full.gate;
-      stands = λ c left. full.full.stands c (fewer c left);
-      bodies = full.full.bodies;
-      leads = full.full.leads;
-      full = full.full.full;
-    };
-  })
+  full_same digest list before after (line, hung_up, full) = (
+    line,
+    hung_up,
+    record {
+      front = full.front;
+      text = full.text;
+      last = full.last;
+      full = record {
+        gate = full.full.gate;
+        stands = λ c left. full.full.stands c (fewer c left);
+        bodies = full.full.bodies;
+        leads = full.full.leads;
+        full = full.full.full;
+      };
+    },
+  )
 
   pub stops_same : (digest : List ℕ) (before after : List Exchange) (end : PlayEnd) → StopsFrom told images digest before after end → StopsFrom told2 images2 digest before after end
   stops_same digest before after (Refused refusal) stops = λ f is. stops f (same ∙ is)

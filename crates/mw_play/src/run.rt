@@ -157,7 +157,8 @@ fn play_saved<F: Folder, L: Dial>(
 /// The end of a client that was turned away.
 fn away_end(alloc: Global, play: &Play) -> Result<PlayEnd, Memory>
     requires { play.now.refusal ≢ None }
-    ensures { IfOk result (Finishes Over.TurnedAway play.now ⊤) }
+    ensures ends { IfOk result (Finishes Over.TurnedAway play.now ⊤) }
+    ensures own { IfOk result (λ e. e ≢ PlayEnd.Fault) }
 {
     match play.refusal() {
         Some(errors) => Ok(PlayEnd::TurnedAway {
@@ -170,7 +171,8 @@ fn away_end(alloc: Global, play: &Play) -> Result<PlayEnd, Memory>
 /// The end of a client whose turns have ended.
 fn over_end(alloc: Global, played: &Played) -> Result<PlayEnd, Memory>
     requires { played.now.over ≡ Over.TurnedAway → played.now.play.refusal ≢ None }
-    ensures { IfOk result (Finishes played.now.over played.now.play ⊤) }
+    ensures ends { IfOk result (Finishes played.now.over played.now.play ⊤) }
+    ensures own { IfOk result (λ e. e ≢ PlayEnd.Fault) }
 {
     match played.over {
         Over::Ended => Ok(PlayEnd::Ended),
@@ -238,11 +240,7 @@ fn play_as<F: Folder, L: Dial, O: Sink>(
 }
 
 /// Who plays, by the words and the input.
-fn player_of<S: Source>(
-    alloc: Global,
-    words: &[Text],
-    input: &mut S,
-) -> Result<Player, PlayEnd>
+fn player_of<S: Source>(alloc: Global, words: &[Text], input: &mut S) -> Result<Player, PlayEnd>
     ensures ok { IfOk result (λ p. IsPlay words.now p.words
         × HasIds (S.left input.old) (S.left input.new) p.locations) }
     ensures nobody { IfErr result (λ e. NobodyPlays e

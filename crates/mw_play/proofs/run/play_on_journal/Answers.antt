@@ -19,9 +19,13 @@ returns-in-Ok-clause-done g c = λ digest told keeps was. record {
 }
 
 pub returns-in-Ok-clause-left : goal.returns-in-Ok-clause-left
-returns-in-Ok-clause-left g c = λ digest told keeps was. inr (c.args.list.now, was, λ i left.
-    left_now g.D.Disk.may_leave g.D.Disk.moment g.D.Disk.left_since g.met.D.Disk.counts_now (disk_of c.args.journal) (disk_of c.play_on.new.journal) (HoldsHeard digest c.args.list.now (g.L.Dial.hung_up c.args.dial.now) (g.L.Dial.hung_up c.play_on.new.dial))
-    (c.play_on.ensures.moments digest keeps) i (subst (λ (d : g.row.D.Denot). g.D.Disk.may_leave d i) c.into_disk.ensures left))
+returns-in-Ok-clause-left g c = λ digest told keeps was. inr (
+  c.args.list.now,
+  was,
+  λ i left.
+      left_now g.D.Disk.may_leave g.D.Disk.moment g.D.Disk.left_since g.met.D.Disk.counts_now (disk_of c.args.journal) (disk_of c.play_on.new.journal) (HoldsHeard digest c.args.list.now (g.L.Dial.hung_up c.args.dial.now) (g.L.Dial.hung_up c.play_on.new.dial))
+      (c.play_on.ensures.moments digest keeps) i (subst (λ (d : g.row.D.Denot). g.D.Disk.may_leave d i) c.into_disk.ensures left),
+)
 
 pub returns-in-Err-clause-stopped : goal.returns-in-Err-clause-stopped
 returns-in-Err-clause-stopped g c = λ digest told keeps was.
@@ -32,6 +36,10 @@ returns-in-Err-clause-stopped g c = λ digest told keeps was.
     (cut_stops told (g.D.Disk.may_leave (disk_of c.play_on.new.journal)) digest c.args.list.now before after c.in-Err.cut was (λ is. c.in-Err.ensures.full digest keeps (ap (λ (w : CutShort). Err w) is))))
 
 pub returns-in-Err-clause-left : goal.returns-in-Err-clause-left
-returns-in-Err-clause-left g c = λ digest told keeps was. inr (c.args.list.now, was, λ i left.
-    left_now g.D.Disk.may_leave g.D.Disk.moment g.D.Disk.left_since g.met.D.Disk.counts_now (disk_of c.args.journal) (disk_of c.play_on.new.journal) (HoldsHeard digest c.args.list.now (g.L.Dial.hung_up c.args.dial.now) (g.L.Dial.hung_up c.play_on.new.dial))
-    (c.play_on.ensures.moments digest keeps) i (subst (λ (d : g.row.D.Denot). g.D.Disk.may_leave d i) c.into_disk-in-Err.ensures left))
+returns-in-Err-clause-left g c = λ digest told keeps was. inr (
+  c.args.list.now,
+  was,
+  λ i left.
+      left_now g.D.Disk.may_leave g.D.Disk.moment g.D.Disk.left_since g.met.D.Disk.counts_now (disk_of c.args.journal) (disk_of c.play_on.new.journal) (HoldsHeard digest c.args.list.now (g.L.Dial.hung_up c.args.dial.now) (g.L.Dial.hung_up c.play_on.new.dial))
+      (c.play_on.ensures.moments digest keeps) i (subst (λ (d : g.row.D.Denot). g.D.Disk.may_leave d i) c.into_disk-in-Err.ensures left),
+)
