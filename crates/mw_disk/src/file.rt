@@ -60,6 +60,18 @@ impl<C: FileCalls + Drop> FileDisk<C> {
         &self.calls
     }
 
+    /// The open file.
+    pub fn into_calls(self) -> C
+        ensures { result ≡ calls_of self }
+    {
+        let FileDisk {
+            calls,
+            lost: _,
+            faults: _,
+        } = self;
+        calls
+    }
+
     /// Whether it has failed.
     pub fn has_failed(&self) -> bool
         ensures { IsTrue result ↔ (0 < file_faults self.now) }
