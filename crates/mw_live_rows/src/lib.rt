@@ -6,6 +6,4 @@ mod client;
 #[cfg(test)]
 mod faults;
 #[cfg(test)]
-mod multiplay;
-#[cfg(test)]
 mod served;

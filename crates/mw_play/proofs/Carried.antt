@@ -1,5 +1,5 @@
 -- What a run comes to, from what its parts do.
-use Rattle.std.proofs.Common.{◌≡◌, ◌⊎◌, inl, inr, ◌≤◌, ◌∙◌, ℕ, List, Option, Some, refl, sym, subst}
+use Rattle.std.proofs.Common.{◌≡◌, inl, inr, ◌≤◌, ◌∙◌, ℕ, List, Option, refl}
 use Rattle.std.specs.Prelude.{Result, Ok, Err, IfErr}
 use Rattle.mw_disk.specs.Crash.{LeavesOnly}
 use Rattle.mw_link.specs.Dials.{Exchange}
@@ -7,7 +7,7 @@ use Rattle.mw_model.specs.Items.{NetItem}
 use Rattle.mw_client.specs.Playing.{Play}
 use Rattle.mw_play.specs.Runs.{LeavesSave, PlaysFrom, StopsFrom, WasList, end_of_cut, end_of_save}
 use Rattle.mw_play.specs.Saves.{RefusesSave}
-use Rattle.mw_play.specs.Turns.{HeardFull, HoldsHeard, IsFull, Overfills}
+use Rattle.mw_play.specs.Turns.{HeardFull}
 use Rattle.mw_play.specs.declared.end.PlayEnd.{PlayEnd}
 use Rattle.mw_play.specs.declared.end.PlayEnd.TheVariants.{Ended, TurnedAway, EndedEarly, Spent, BadWords, Fault, Memory, Refused, Full}
 use Rattle.mw_play.specs.declared.over.CutShort.{CutShort}

@@ -1,5 +1,5 @@
 -- What an end says of a run.
-use Rattle.std.proofs.Common.{◌≡◌, List, ℕ, Option, Some, subst, refl}
+use Rattle.std.proofs.Common.{◌≡◌, List, ℕ, Option, subst}
 use Rattle.std.specs.Prelude.{◌≢◌, None}
 use Rattle.mw_link.specs.Dials.{Exchange}
 use Rattle.mw_link.specs.declared.link.Heard.{Heard}

@@ -1,6 +1,6 @@
 -- What bodies that are appended to a save file leave of it.
-use Rattle.std.proofs.Common.{◌≡◌, ◌⊎◌, inl, inr, ◌≤◌, ◌+◌, ◌++◌, ℕ, List, [], ◌∷◌, length, refl, sym, ap, subst, ◌∙◌, arith, append-nil}
-use Rattle.std.specs.List.{flat_map, AllByRecursion}
+use Rattle.std.proofs.Common.{◌≡◌, ◌⊎◌, inl, inr, ◌+◌, ◌++◌, ℕ, List, [], ◌∷◌, length, refl, sym, ap, ◌∙◌, arith}
+use Rattle.std.specs.List.{flat_map}
 use Rattle.std.proofs.lemmas.List.Concat.{flat_map-append}
 use Rattle.mw_disk.specs.Crash.{LeavesOnly}
 use Rattle.std.specs.Prelude.{Result, Ok, Err, OnOk}
@@ -8,11 +8,11 @@ use Rattle.mw_disk.proofs.Moments.{started, then_on, wider}
 use Rattle.mw_link.specs.declared.link.Heard.{Heard}
 use Rattle.mw_journal.specs.Image.{IsShut}
 use Rattle.mw_journal.specs.Journal.{disk_of}
-use Rattle.mw_journal.specs.Settled.{AllShut, IsSettled}
+use Rattle.mw_journal.specs.Settled.{IsSettled}
 use Rattle.mw_journal.specs.declared.journal.Journal.{Journal}
 use Rattle.mw_journal.proofs.Unique.{staged_stands}
 use Rattle.mw_model.specs.Items.{NetItem}
-use Rattle.mw_client.specs.Bodies.{Body, IsBody, IsSaved, Leads, body_bytes, saved}
+use Rattle.mw_client.specs.Bodies.{Body, IsSaved, Leads, body_bytes, saved}
 use Rattle.mw_client.proofs.Growing.{both_are}
 use Rattle.mw_play.specs.Saves.{HoldsList, KeepsList}
 use Rattle.mw_play.specs.Turns.{HoldsFront, texts_in}

@@ -1,5 +1,5 @@
 -- The statuses of `multiplay`, and their lines.
-use Rattle.std.specs.Prelude.{ℕ, List, [], ◌++◌, codes}
+use Rattle.std.specs.Prelude.{ℕ, List, [], codes}
 use Rattle.mw_play.specs.declared.end.PlayEnd.{PlayEnd}
 use Rattle.mw_play.specs.declared.end.PlayEnd.TheVariants.{Ended, TurnedAway, EndedEarly, Spent, BadWords, Fault, Memory, Refused, Full}
 use Rattle.mw_play.specs.declared.save_error.SaveRefusal.{SaveRefusal}

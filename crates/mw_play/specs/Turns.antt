@@ -1,5 +1,5 @@
 -- What a client plays over a line, and keeps in its save file, turn by turn.
-use Rattle.std.specs.Prelude.{◌≡◌, ◌≢◌, ◌<◌, ◌≤◌, ◌+◌, ◌^◌, ◌⊎◌, ℕ, ℤ, List, [], ◌∷◌, ◌++◌, None, IsTrue, IsFalse, length}
+use Rattle.std.specs.Prelude.{◌≡◌, ◌≢◌, ◌<◌, ◌≤◌, ◌+◌, ◌^◌, ◌⊎◌, ℕ, List, [], ◌∷◌, ◌++◌, None, IsTrue, IsFalse, length}
 use Rattle.std.specs.List.{flat_map, AllByRecursion}
 use Rattle.mw_journal.specs.Image.{IsShut}
 use Rattle.mw_link.specs.Dials.{Exchange}

@@ -1,4 +1,4 @@
-use Rattle.std.proofs.Common.{◌++◌, ◌⊎◌, List, [], ℕ, length, sym, subst, arith}
+use Rattle.std.proofs.Common.{◌++◌, ◌⊎◌, List, [], ℕ, sym, subst, arith}
 use Rattle.mw_disk.proofs.Moments.{wider}
 use Rattle.mw_journal.specs.Journal.{disk_of}
 use Rattle.mw_journal.specs.Settled.{IsSettled}

@@ -1,4 +1,4 @@
-use Rattle.std.proofs.Common.{rules, ◌≡◌, ℕ, List, subst}
+use Rattle.std.proofs.Common.{rules, ◌≡◌, subst}
 use Rattle.mw_client.specs.Bodies.{Leads}
 use Rattle.mw_client.specs.Hearing.{news_in}
 use Rattle.mw_client.specs.Playing.{Play, next_all}

@@ -1,4 +1,4 @@
-use Rattle.std.proofs.Common.{◌≡◌, ◌++◌, ◌∷◌, ◌∙◌, inr, ℕ, List, [], ap, sym, subst}
+use Rattle.std.proofs.Common.{◌≡◌, ◌++◌, ◌∷◌, ◌∙◌, inr, List, [], ap, sym, subst}
 use Rattle.mw_disk.proofs.Moments.{wider}
 use Rattle.mw_journal.specs.Journal.{disk_of}
 use Rattle.mw_link.specs.Dials.{Exchange, exchange_of}

@@ -1,6 +1,5 @@
-use Rattle.std.proofs.Common.{◌≡◌, ◌++◌, ◌∷◌, ◌∙◌, ℕ, List, [], length, length-append, refl, ap, sym, subst, arith}
+use Rattle.std.proofs.Common.{◌∷◌, ◌∙◌, List, [], length, length-append, refl, ap, sym, subst, arith}
 use Rattle.std.specs.List.{AllByRecursion}
-use Rattle.mw_disk.specs.Crash.{LeavesOnly}
 use Rattle.mw_journal.specs.Journal.{disk_of}
 use Rattle.mw_link.specs.declared.link.Heard.{Heard}
 use Rattle.mw_client.specs.Playing.{Play, begun}
