@@ -96,10 +96,6 @@ thin_fault error.Memory e = cc
 pub told_fault : {T C : Type 0} (stop : Stop C) → (let r : Result T (Stop C) = Err stop in r) ≡ Err Fault → stop ≡ Fault
 told_fault {T = T} {C = C} stop e = let same : Err stop ≡ Err Fault = e in cc
 
--- nothing is a front of each text
-pub none_front : (held : Option (List ℕ)) (text : List ℕ) → PutsFront held held text
-none_front held text = ([], text, refl, Keeps-refl held)
-
 -- ---- a seed file that was read before
 
 module _ {F : Type 0} (holds : F → Files) (images : F → List ℕ → List ℕ → Type 0) (opened : F → List ℕ → Bool) (may_fail : F → Bool) (faults : F → ℕ)
@@ -205,5 +201,5 @@ module _ (files : FilesAround) (room : ThinWords) (kept : Kept) (thinned : IsThi
 pub told_as : {T C : Type 0} (status_of : C → ℕ) (line_of : C → List ℕ) (outcome : Result T (Stop C)) (status : ℕ) (told : Told) (done : Type 0) (stopped : Stop C → Type 0) → OnOk outcome (status ≡ 0)
     → OnOk outcome (Keeps told.old told.new) → IfErr outcome (λ s. Ended status_of line_of s status told) → OnOk outcome done → IfErr outcome stopped
     → ((status ≡ 0) × done × Keeps told.old told.new) ⊎ ((s : Stop C) × stopped s × Ended status_of line_of s status told)
-told_as status_of line_of (Ok x) status told done stopped zero kept ended all left = inl (zero, all, kept)
-told_as status_of line_of (Err s) status told done stopped zero kept ended all left = inr (s, left, ended)
+told_as status_of line_of (Ok x) status told done stopped none kept ended all left = inl (none, all, kept)
+told_as status_of line_of (Err s) status told done stopped none kept ended all left = inr (s, left, ended)

@@ -31,7 +31,8 @@ pub record IsThinnedIn (files : FilesAround) (room : ThinWords) (kept : Kept) : 
 -- `kept K of N records`
 abbrev pub kept_text : Kept → List ℕ
 kept_text kept =
-    codes "kept " ++ decimal kept.kept ++ codes " of " ++ decimal kept.of ++ codes " records\n"
+    codes "kept " ++ (decimal kept.kept
+    ++ (codes " of " ++ (decimal kept.of ++ codes " records\n")))
 
 -- and just that was put
 pub record ThinDone (files : FilesAround) (room : ThinWords) (old new : Option (List ℕ)) : Type 0
