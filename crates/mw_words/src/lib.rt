@@ -5,6 +5,7 @@ mod arguments;
 mod command_line;
 mod commands;
 mod error;
+mod given;
 mod number;
 mod words;
 
@@ -13,5 +14,6 @@ pub use command_line::{
     StressWords, ThinWords,
 };
 pub use error::WordsError;
+pub use given::given_words;
 pub use number::number_of;
 pub use words::{has_one_meaning, read_words};
