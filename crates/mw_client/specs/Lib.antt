@@ -2,6 +2,7 @@ pub mod Bodies
 pub mod Entering
 pub mod Hearing
 pub mod Lists
+pub mod Lives
 pub mod News
 pub mod Playing
 pub mod Sending
