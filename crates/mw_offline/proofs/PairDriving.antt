@@ -78,6 +78,25 @@ module _ {F : Type 0} (holds : F → Files) (images : F → List ℕ → List �
     opened = all_names (λ n. opened last n ≡ opened first n) choice 0 u.opened (u.journals 0).opened (u.journals 1).opened (λ n other. (others n other).opened);
   }
 
+  -- memory was wanting before a file was opened
+  pub memory_refused : (folder : F) (choice digest : List ℕ) → IsRefusedChoice (Around folder folder) choice digest Memory
+  memory_refused folder choice digest = record {
+    error = error.Memory;
+    is = refl;
+    refused = inl tt;
+    unplayed = record {
+      settled = λ text body settled. settled;
+      tells = refl;
+      opened = refl;
+      journals = λ number. record { told = inl refl; crash = λ c image. image; opened = refl };
+    };
+  }
+
+  -- CHOICE names no journal
+  pub named_refused : (first last : F) (choice digest : List ℕ) (e : PairError) (stop : Stop PairDriveCause) → stop ≡ choice_stop e → RefusesChoice (holds first) choice digest e → PairUnplayed (Around first last) choice digest
+      → IsRefusedChoice (Around first last) choice digest stop
+  named_refused first last choice digest e stop is refused unplayed = record { error = e; is = is; refused = refused; unplayed = unplayed }
+
   module _ (first second last : F) (same : (n : List ℕ) → holds second n ≡ holds first n) (crash : (n : List ℕ) → SameImages (images first n) (images second n)) (same_open : (n : List ℕ) → opened second n ≡ opened first n) where
     told_same : holds second ≡ holds first
     told_same = λ i n. same n i
@@ -111,6 +130,9 @@ module _ {F : Type 0} (holds : F → Files) (images : F → List ℕ → List �
       pub room_refused : RoomStopped (Around first last) multidata choice stop
       room_refused = inr record { bytes = bytes; seed = seed; seed_was = record { is_file = is_file; is = is }; refused = refused_first choice (digest_of bytes) stop r }
 
+      pub refused_leaves : PairOthersStay (Around first last) choice → PairLeaves (Around first last) choice
+      refused_leaves others = unplayed_leaves first last choice (digest_of bytes) others (unplayed_first choice (digest_of bytes) r.unplayed)
+
       pub refused_stays : ChoiceStays (Around first last) multidata choice
       refused_stays read other told other_is =
           let one : bytes ≡ read = told_bytes (holds first multidata) read bytes told is_file in
@@ -136,7 +158,7 @@ module _ {F : Type 0} (holds : F → Files) (images : F → List ℕ → List �
       (shut : AreShut (opened first) choice) (j : D)
       (k : IsClosedRoom told may_leave (holds last) (images last) (opened last) choice (record { choice = room.choice; journal = j; other = room.other; named = room.named }))
     where
-      name : List ℕ
+      abbrev name : List ℕ
       name = journal_name choice room.named
 
       settled : StaysSettled (images first choice) (images last choice) digest

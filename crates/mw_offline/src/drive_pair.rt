@@ -31,8 +31,12 @@ fn play<D: Disk, S: Source, O: Sink>(
     out: &mut O,
 ) -> (Chosen<D>, Result<(), DriveError>)
     requires { SeedOf seed.bytes (Ok seed.multidata) }
-    ensures same { (result.0.choice ≡ room.choice) × (result.0.other ≡ room.other)
-        × (result.0.named ≡ room.named) }
+    ensures same { result.0 ≡ record {
+      choice = room.choice;
+      journal = result.0.journal;
+      other = room.other;
+      named = room.named;
+    } }
     ensures done { OnOk result.1 (Drives
         (IsFound (D.told room.journal) (D.may_leave room.journal) (digest_of seed.bytes)
         seed.multidata)
@@ -109,8 +113,14 @@ pub(crate) fn drive_pair<F: Folder, S: Source, O: Sink>(
         ⊎ (Rose (S.faults input.old) (S.faults input.new)
         ⊎ Rose (O.faults out.old) (O.faults out.new)) }
 {
-    let PairRoom { seed, names, room } = open_pair_room(alloc, folder, multidata, choice)?;
+    let PairRoom { seed, names, room } = match open_pair_room(alloc, folder, multidata, choice) {
+        Ok(room) => room,
+        Err(stop) => return Err(stop),
+    };
     let (room, outcome) = play(alloc, room, seed, input, out);
     close_chosen(folder, &names, room);
-    Ok(outcome?)
+    match outcome {
+        Ok(()) => Ok(()),
+        Err(error) => Err(Stop::from(error)),
+    }
 }

@@ -10,7 +10,7 @@ ghost use Rattle.mw_offline.specs.FilesAround.{files_around};
 ghost use Rattle.mw_offline.specs.PairDriving.{ChoiceStays, IsRefusedChoice, RoomStopped};
 ghost use Rattle.mw_offline.specs.PairFiles.{PairLeaves, PairOthersStay};
 
-use mw_base::Text;
+use mw_base::{Memory, Text};
 use mw_causes::{PairDriveCause, SeedBytes, Stop, choice_stop, read_seed_bytes};
 use mw_edges::Folder;
 use mw_multidata::digest;
@@ -49,7 +49,10 @@ fn open_named<F: Folder>(
     ensures fault { result ≡ Err Stop.Fault → Rose (F.faults folder.old) (F.faults folder.new) }
     ensures later { F.faults folder.old ≤ F.faults folder.new }
 {
-    let names = PairNames::of(alloc, choice)?;
+    let names = match PairNames::of(alloc, choice) {
+        Ok(names) => names,
+        Err(Memory) => return Err(Stop::Memory),
+    };
     match open_chosen(alloc, folder, &names, &digest(seed.bytes.as_slice())) {
         Ok(room) => Ok(PairRoom { seed, names, room }),
         Err(error) => Err(choice_stop(error)),
@@ -87,6 +90,12 @@ pub fn open_pair_room<F: Folder>(
     ensures fault { result ≡ Err Stop.Fault → Rose (F.faults folder.old) (F.faults folder.new) }
     ensures later { F.faults folder.old ≤ F.faults folder.new }
 {
-    let seed = read_seed_bytes(alloc, folder, multidata)?;
-    open_named(alloc, folder, seed, choice)
+    let seed = match read_seed_bytes(alloc, folder, multidata) {
+        Ok(seed) => seed,
+        Err(stop) => return Err(Stop::from(stop)),
+    };
+    match open_named(alloc, folder, seed, choice) {
+        Ok(room) => Ok(room),
+        Err(stop) => Err(stop),
+    }
 }
