@@ -34,15 +34,17 @@ disk_at zero files = files.choice
 disk_at (suc zero) files = files.zero
 disk_at (suc (suc place)) files = files.one
 
--- the disks before a place are empty journals, and those behind it are as they were
-abbrev pub IsMadeUpTo : {D : Type 0} → (D → List ℕ → Type 0) → List ℕ → ℕ → Files D → Files D
-    → Type 0
-IsMadeUpTo may_leave digest zero before after =
+-- the disks before a place had no bytes and are empty journals, and those behind it are as they were
+abbrev pub IsMadeUpTo : {D : Type 0} → (D → Option (List ℕ)) → (D → List ℕ → Type 0) → List ℕ → ℕ
+    → Files D → Files D → Type 0
+IsMadeUpTo told may_leave digest zero before after =
     (after.zero ≡ before.zero) × (after.one ≡ before.one)
-IsMadeUpTo may_leave digest (suc zero) before after =
-    IsEmpty may_leave digest after.choice × (after.one ≡ before.one)
-IsMadeUpTo may_leave digest (suc (suc place)) before after =
-    IsEmpty may_leave digest after.choice × IsEmpty may_leave digest after.zero
+IsMadeUpTo told may_leave digest (suc zero) before after =
+    (HasNone told before.choice × IsEmpty may_leave digest after.choice)
+    × (after.one ≡ before.one)
+IsMadeUpTo told may_leave digest (suc (suc place)) before after =
+    (HasNone told before.choice × IsEmpty may_leave digest after.choice)
+    × (HasNone told before.zero × IsEmpty may_leave digest after.zero)
 
 -- why the journal at a place wasn't created
 abbrev pub RefusesMaking : ℕ → Option (List ℕ) → ℕ → ℕ → PairError → Type 0
@@ -73,6 +75,6 @@ pub record IsStopped {D : Type 0} (told : D → Option (List ℕ)) (may_leave : 
     (digest : List ℕ) (before after : Files D) (error : PairError)
     : Type 0 where
   pub place : ℕ
-  pub made : IsMadeUpTo may_leave digest place before after
+  pub made : IsMadeUpTo told may_leave digest place before after
   pub unmade : IsUnmade told may_leave moment left_since faults place
       (disk_at place before) (disk_at place after) error

@@ -15,7 +15,7 @@ pub struct Files<D> {
 
 impl<D> Files<D> {
     /// CHOICE, the journal of a number, and the other one.
-    pub(crate) fn split(self, named: u8) -> (D, D, D)
+    pub fn split(self, named: u8) -> (D, D, D)
         ensures choice { result.0 ≡ self.choice }
         ensures chosen { result.1 ≡ journal_at named self }
         ensures other { result.2 ≡ journal_at (other_of named) self }
@@ -29,7 +29,7 @@ impl<D> Files<D> {
     }
 
     /// The files of CHOICE, the journal of a number, and the other one.
-    pub(crate) fn join(named: u8, choice: D, chosen: D, other: D) -> Files<D>
+    pub fn join(named: u8, choice: D, chosen: D, other: D) -> Files<D>
         ensures choice { result.choice ≡ choice }
         ensures chosen { journal_at named result ≡ chosen }
         ensures other { journal_at (other_of named) result ≡ other }

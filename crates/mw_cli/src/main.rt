@@ -4,35 +4,21 @@
 mod run;
 
 use crate::run::run;
-use mw_base::Text;
 use mw_edges::{ReaderSource, Sink, SystemFolder, WriterSink};
 use mw_link::TcpGate;
-use std::alloc::{AllocError, Global};
-use std::env;
-use std::io::{self, ErrorKind};
+use mw_words::{WordsError, given_words};
 use std::process::ExitCode;
-
-/// The command line's words after the program's name.
-fn words_of(alloc: Global, rt: &HostRuntime) -> io::Result<Vec<Text>> {
-    let mut words = Vec::new(alloc);
-    for word in env::args(rt)?.skip(1) {
-        words
-            .push(Text::from_string(word))
-            .map_err(AllocError::from)?;
-    }
-    Ok(words)
-}
 
 fn main(rt: HostRuntime) -> ExitCode {
     let alloc = rt.alloc();
     let mut err = WriterSink::new(rt.stderr());
-    let words = match words_of(alloc, &rt) {
+    let words = match given_words(alloc, &rt) {
         Ok(words) => words,
-        Err(error) if error.kind() == ErrorKind::OutOfMemory => {
+        Err(WordsError::Memory) => {
             let _ = err.put(b"no memory\n");
             return ExitCode::from(6);
         }
-        Err(_) => {
+        Err(WordsError::BadWords) => {
             let _ = err.put(b"bad words\n");
             return ExitCode::from(2);
         }
@@ -72,6 +58,8 @@ mod large_tests;
 mod new_room_tests;
 #[cfg(test)]
 mod overrun_tests;
+#[cfg(test)]
+mod pair_tests;
 #[cfg(test)]
 mod party_tests;
 #[cfg(test)]

@@ -4,35 +4,21 @@
 mod run;
 
 use crate::run::run;
-use mw_base::Text;
 use mw_edges::{Sink, SystemFolder, WriterSink};
-use std::alloc::{AllocError, Global};
-use std::env;
-use std::io::{self, ErrorKind};
+use mw_words::{WordsError, given_words};
 use std::process::ExitCode;
-
-/// The command line's words after the program's name.
-fn words_of(alloc: Global, rt: &HostRuntime) -> io::Result<Vec<Text>> {
-    let mut words = Vec::new(alloc);
-    for word in env::args(rt)?.skip(1) {
-        words
-            .push(Text::from_string(word))
-            .map_err(AllocError::from)?;
-    }
-    Ok(words)
-}
 
 /// Runs the command, and answers its status.
 fn clockwork(rt: &HostRuntime) -> u8 {
     let alloc = rt.alloc();
     let mut err = WriterSink::new(rt.stderr());
-    let words = match words_of(alloc, rt) {
+    let words = match given_words(alloc, rt) {
         Ok(words) => words,
-        Err(error) if error.kind() == ErrorKind::OutOfMemory => {
+        Err(WordsError::Memory) => {
             let _ = err.put(b"no memory\n");
             return 6;
         }
-        Err(_) => {
+        Err(WordsError::BadWords) => {
             let _ = err.put(b"bad words\n");
             return 2;
         }

@@ -1,3 +1,6 @@
+pub mod FileRuns
+pub mod MemoryFiles
 pub mod Moments
 pub mod Ranges
 pub mod Recorded
+pub mod RecordedFiles

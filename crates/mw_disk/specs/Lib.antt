@@ -1,8 +1,15 @@
 pub mod Calls
 pub mod Causes
 pub mod Crash
+pub mod FileLaws
+pub mod FileLogs
+pub mod FileRuns
+pub mod Histories
+pub mod HostFiles
 pub mod Laws
+pub mod MemoryFiles
 pub mod Range
+pub mod RecordedFiles
 pub mod System
 pub mod Tally
 pub mod Untold

@@ -1,5 +1,5 @@
 -- What a disk tells that tells nothing.
-use Rattle.std.specs.Prelude.{◌≡◌, ℕ, List, Option, Some, None}
+use Rattle.std.specs.Prelude.{◌≡◌, ℕ, List, Option, Some, None, IsTrue, false}
 use Rattle.std.proofs.Common.{subst, sym}
 
 -- no bytes
@@ -19,3 +19,7 @@ is_told (Some bytes) = Unit {0}
 
 pub none_told : (c : List ℕ) → no_bytes ≡ Some c → ⊥
 none_told c is = subst is_told (sym is) tt
+
+-- what is false isn't true
+pub never_true : {T : Type 0} → IsTrue false → T
+never_true is = absurd cc

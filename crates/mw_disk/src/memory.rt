@@ -36,7 +36,7 @@ impl Model for MemDisk {
 }
 
 /// Reads bytes from a place on.
-fn get_range(bytes: &[u8], at: u64, into: &mut [u8]) -> usize
+pub(crate) fn get_range(bytes: &[u8], at: u64, into: &mut [u8]) -> usize
     ensures bound { result ≤ length into.old }
     ensures bytes { GivesRange (Some bytes.now) at result into.new }
 {
@@ -59,7 +59,7 @@ fn overwrite(bytes: &mut Vec<u8>, at: usize, put: &[u8])
 }
 
 /// Lengthens bytes with zeros. After `Memory` they are as before.
-fn lengthen(bytes: &mut Vec<u8>, len: usize) -> Result<(), Memory>
+pub(crate) fn lengthen(bytes: &mut Vec<u8>, len: usize) -> Result<(), Memory>
     ensures ok { OnOk result (bytes.new.items
         ≡ take len bytes.old.items ++ replicate (len - length bytes.old.items) 0) }
     ensures len { OnOk result (vec_len bytes.new ≡ len) }

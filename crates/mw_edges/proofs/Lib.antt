@@ -2,4 +2,5 @@ pub mod Failing
 pub mod Fronts
 pub mod KeptDisks
 pub mod Replaced
+pub mod Systems
 pub mod Told

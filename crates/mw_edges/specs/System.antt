@@ -21,14 +21,18 @@ writer_of s = s.inner
 abbrev pub writer_faults : {W : Type 0} → WriterSink W → ℕ
 writer_faults s = s.faults
 
+-- the system of a folder
+abbrev pub system_of : {S R W F : Type 0} → SystemFolder S R W F → S
+system_of s = s.system
+
 -- how often a folder of the system has failed
-abbrev pub system_faults : {R D : Type 0} → SystemFolder R D → ℕ
+abbrev pub system_faults : {S R W F : Type 0} → SystemFolder S R W F → ℕ
 system_faults s = s.faults
 
 -- how often a folder of the system has refused to write a file
-abbrev pub system_refusals : {R D : Type 0} → SystemFolder R D → ℕ
+abbrev pub system_refusals : {S R W F : Type 0} → SystemFolder S R W F → ℕ
 system_refusals s = s.refused
 
 -- whether a disk of a name is open
-abbrev pub is_open_file : {R D : Type 0} → SystemFolder R D → List ℕ → Bool
+abbrev pub is_open_file : {S R W F : Type 0} → SystemFolder S R W F → List ℕ → Bool
 is_open_file s name = unwrap_or (entry_of s.opened.items name) false

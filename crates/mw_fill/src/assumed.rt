@@ -75,7 +75,7 @@ fn place_first<R: Ruling, L: Ledger>(
     let mark = reached.mark(alloc)?;
     laying.hold_more(joint, rules, order, middle, to, reached, steps);
     place_range(alloc, joint, rules, order, middle, laying, reached, steps)?;
-    reached.go_back(&mark);
+    reached.go_back(mark);
     Ok(())
 }
 

@@ -70,21 +70,13 @@ impl Reached {
         Ok(Mark { tally })
     }
 
-    /// Makes the list what it was at a mark.
-    pub fn go_back(&mut self, mark: &Mark)
-        requires fits { IsAsLarge self.old mark.now }
+    /// Makes the list what it was at a mark, whose memory it takes.
+    pub fn go_back(&mut self, mark: Mark)
+        requires fits { IsAsLarge self.old mark }
         ensures kept { (joint : Joint) → IsMadeFor joint self.old → IsMadeFor joint self.new }
         ensures rules { (joint : Joint) → KeepsRules joint self.old → KeepsRules joint self.new }
-        ensures back { IsMarkOf self.new mark.now }
+        ensures back { IsMarkOf self.new mark }
     {
-        let tally = &mut self.work.tally;
-        tally
-            .done
-            .as_mut_slice()
-            .copy_from_slice(mark.tally.done.as_slice());
-        tally
-            .counts
-            .as_mut_slice()
-            .copy_from_slice(mark.tally.counts.as_slice());
+        self.work.tally = mark.tally;
     }
 }

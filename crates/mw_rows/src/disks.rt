@@ -1,6 +1,9 @@
 use mw_base::{Bytes, List, Memory};
 use mw_cases::part;
-use mw_disk::{Disk, DiskError, MemDisk, Tear, open_file_disk};
+use mw_disk::{
+    CallLuck, Disk, DiskError, FileDisk, MemDisk, MemoryFile, RecordedFile, Tear, is_honest_record,
+    open_file_disk, open_host_file,
+};
 use std::alloc::Global;
 use std::fs;
 use std::test::Fail;
@@ -50,6 +53,14 @@ const KEPT: &str = "write | 1 | bc | done
 sync | 0 |  | done
 cut | 2 |  | done
 read | 0 | 2 | \0b\0\0";
+
+/// A disk over a file of `abc` is written past its end and behind it, and read.
+const LAID: &str = "write | 2 | de | done
+write | 6 | f | done
+read | 1 | 3 | bde
+read | 4 | 3 | \0\0f\0
+write | 9 |  | done
+read | 7 | 2 | \0\0\0";
 
 /// A disk of these bytes whose calls fail as planned.
 pub(crate) fn disk_of(
@@ -184,5 +195,59 @@ fn planned_calls_of_a_disk_fail(rt: HostRuntime) -> Result<(), Fail> {
 fn files_are_disks(rt: HostRuntime) -> Result<(), Fail> {
     answers(&mut open_file_disk(&rt, "disk_bytes")?, KEPT)?;
     fs::remove_file(&rt, "disk_bytes")?;
+    Ok(())
+}
+
+/// Luck by which each of ten reads and writes takes one byte, after a signal interrupted it.
+fn one_by_one(alloc: Global) -> Result<List<CallLuck>, Memory> {
+    let mut luck = List::new(alloc);
+    for _ in 0..10 {
+        luck.push(CallLuck::Interrupted)?;
+        luck.push(CallLuck::Short(1))?;
+    }
+    Ok(luck)
+}
+
+/// A disk over a file in memory with these bytes, whose calls go so.
+fn file_disk_of(
+    alloc: Global,
+    bytes: &[u8],
+    luck: List<CallLuck>,
+) -> Result<FileDisk<MemoryFile>, Memory> {
+    let bytes = Vec::from_slice(alloc, bytes)?;
+    Ok(FileDisk::new(MemoryFile::open(bytes, luck)))
+}
+
+#[test]
+fn files_in_memory_are_disks(rt: HostRuntime) -> Result<(), Fail> {
+    let alloc = rt.alloc();
+    let made = MemoryFile::make(alloc, List::new(alloc));
+    answers(&mut FileDisk::new(made), KEPT)?;
+    answers(
+        &mut file_disk_of(alloc, b"abde", one_by_one(alloc)?)?,
+        READS,
+    )?;
+    answers(&mut file_disk_of(alloc, b"abc", one_by_one(alloc)?)?, LAID)?;
+    let luck = List::from_vec(Vec::from_slice(alloc, &[CallLuck::Whole, CallLuck::Failed])?);
+    let mut disk = file_disk_of(alloc, b"abc", luck)?;
+    answers(
+        &mut disk,
+        "write | 1 | x | done\nsync | 0 |  | failed\nwrite | 0 | y | failed",
+    )?;
+    Ok(())
+}
+
+#[test]
+fn a_real_run_is_honest(rt: HostRuntime) -> Result<(), Fail> {
+    let alloc = rt.alloc();
+    let file = open_host_file(&rt, "disk_calls")?;
+    let mut disk = FileDisk::new(RecordedFile::new(alloc, file));
+    answers(&mut disk, KEPT)?;
+    fs::remove_file(&rt, "disk_calls")?;
+    let Some(events) = disk.calls().events() else {
+        return Err(Fail::new("no memory"));
+    };
+    assert!(rt; is_honest_record(alloc, b"", true, events)?);
+    assert!(rt; !is_honest_record(alloc, b"xyz", false, events)?);
     Ok(())
 }

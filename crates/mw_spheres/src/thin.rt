@@ -93,7 +93,7 @@ fn thin(
         alloc, joint, full, below, above, kept, shown, table, reached,
     )?;
     thin(alloc, joint, full, above, kept, shown, table, reached)?;
-    reached.go_back(&mark);
+    reached.go_back(mark);
     hide(alloc, full, places, shown, table);
     reveal(
         alloc, joint, full, above, below, kept, shown, table, reached,

@@ -5,13 +5,15 @@ mod arguments;
 mod command_line;
 mod commands;
 mod error;
+mod given;
 mod number;
 mod words;
 
 pub use command_line::{
     CheckWords, CommandLine, DriveWords, GenerateWords, NewRoomWords, ReachWords, ServeWords,
-    StressWords,
+    StressWords, ThinWords,
 };
 pub use error::WordsError;
+pub use given::given_words;
 pub use number::number_of;
 pub use words::{has_one_meaning, read_words};

@@ -1,0 +1,4 @@
+pub mod Naming
+pub mod Steps
+pub mod Lifted
+pub mod Since
