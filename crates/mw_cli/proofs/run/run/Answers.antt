@@ -6,6 +6,7 @@ use Rattle.mw_words.specs.declared.command_line.CommandLine.TheVariants.{Generat
 use Rattle.mw_offline.proofs.Driving.{unstarted}
 use Rattle.mw_offline.proofs.PairDriving.{unstarted_pair}
 use Rattle.mw_offline.proofs.PairFiles.{unstarted_room, unstarted_thin}
+use Rattle.mw_serve.proofs.Pairs.{unstarted_pair_serve}
 use Rattle.mw_serve.proofs.Starting.{unstarted_serve}
 use Rattle.mw_words.proofs.Asking.{asks_one}
 use Rattle.mw_cli.proofs.run.run.Goals as goal
@@ -117,6 +118,12 @@ returns-in-Err-BadWords-clause-serve_pair g c = λ room is. absurd (c.in-Err-Bad
 
 pub returns-in-Err-BadWords-clause-served : goal.returns-in-Err-BadWords-clause-served
 returns-in-Err-BadWords-clause-served g c = λ room is. absurd (c.in-Err-BadWords.ensures.bad (ap Err c.in-Err-BadWords.field-0-is) (Serve room) is)
+
+pub returns-in-Err-Memory-clause-serve_pair : goal.returns-in-Err-Memory-clause-serve_pair
+returns-in-Err-Memory-clause-serve_pair g c = λ room _ _.
+    let F = g.F.Folder in let L = g.G.Line.Link in
+    unstarted_pair_serve L.heard L.sent L.faults L.opened L.is_shut g.F.Drive.Disk.may_leave F.holds F.images F.is_open F.may_fail F.faults c.args.folder.now room (g.O.Sink.held c.args.out.now) (g.O.Sink.faults c.args.out.now) _ c.end_without_memory.result
+    c.new-in-Err-Memory.result c.new-in-Err-Memory.ensures c.end_without_memory.ensures.status c.end_without_memory.ensures.line
 
 pub returns-in-Err-Memory-clause-serve : goal.returns-in-Err-Memory-clause-serve
 returns-in-Err-Memory-clause-serve g c = λ room _ _.
