@@ -6,4 +6,3 @@ pub mod GenerateCauses
 pub mod CheckCauses
 pub mod DriveCauses
 pub mod RoomCauses
-pub mod PairCauses

@@ -8,5 +8,3 @@ pub mod OneRun
 pub mod WholeLives
 pub mod Sessions
 pub mod NeverFull
-pub mod PairFiles
-pub mod PairDriving

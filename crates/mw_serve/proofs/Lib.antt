@@ -6,4 +6,3 @@ mod Hosts
 mod Files
 pub mod Starting
 pub mod WholeLives
-pub mod Pairs

@@ -4,4 +4,3 @@ pub mod Hosted
 pub mod Runs
 pub mod Serving
 pub mod WholeLives
-pub mod PairServing
