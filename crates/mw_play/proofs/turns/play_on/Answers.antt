@@ -46,14 +46,22 @@ pub returns-in-Ok-over-clause-last : goal.returns-in-Ok-over-clause-last
 returns-in-Ok-over-clause-last g c = λ digest keeps.
     let line = exchange_of g.L.Line.Link.heard g.L.Line.Link.sent c.play_over-over.new.line in
     let begins : c.in_ok-play.play.list ≡ c.args.list.now = ap (λ (p : Play). p.list) c.in_ok-play.ensures in
-    inr (line, c.hang_up.ensures.hung_up ∙ ap (λ (xs : List Exchange). xs ++ line ∷ []) c.dial.ensures.hung_up, λ i left.
-    subst (λ (l : List NetItem). HoldsLast digest l (texts_in line.heard) i) begins
-    (c.play_over-over.ensures.last digest (subst (λ (l : List NetItem). KeepsList g.D.Disk.may_leave digest c.args.journal.now l) (sym begins) keeps) i left))
+    inr (
+      line,
+      c.hang_up.ensures.hung_up ∙ ap (λ (xs : List Exchange). xs ++ line ∷ []) c.dial.ensures.hung_up,
+      λ i left.
+          subst (λ (l : List NetItem). HoldsLast digest l (texts_in line.heard) i) begins
+          (c.play_over-over.ensures.last digest (subst (λ (l : List NetItem). KeepsList g.D.Disk.may_leave digest c.args.journal.now l) (sym begins) keeps) i left),
+    )
 
 pub returns-in-Err-over-clause-last : goal.returns-in-Err-over-clause-last
 returns-in-Err-over-clause-last g c = λ digest keeps.
     let line = exchange_of g.L.Line.Link.heard g.L.Line.Link.sent c.play_over-over.new.line in
     let begins : c.in_ok-play.play.list ≡ c.args.list.now = ap (λ (p : Play). p.list) c.in_ok-play.ensures in
-    inr (line, c.hang_up.ensures.hung_up ∙ ap (λ (xs : List Exchange). xs ++ line ∷ []) c.dial.ensures.hung_up, λ i left.
-    subst (λ (l : List NetItem). HoldsLast digest l (texts_in line.heard) i) begins
-    (c.play_over-over.ensures.last digest (subst (λ (l : List NetItem). KeepsList g.D.Disk.may_leave digest c.args.journal.now l) (sym begins) keeps) i left))
+    inr (
+      line,
+      c.hang_up.ensures.hung_up ∙ ap (λ (xs : List Exchange). xs ++ line ∷ []) c.dial.ensures.hung_up,
+      λ i left.
+          subst (λ (l : List NetItem). HoldsLast digest l (texts_in line.heard) i) begins
+          (c.play_over-over.ensures.last digest (subst (λ (l : List NetItem). KeepsList g.D.Disk.may_leave digest c.args.journal.now l) (sym begins) keeps) i left),
+    )
