@@ -1,5 +1,5 @@
 -- What the run of a script on a pair room comes to.
-use Rattle.std.proofs.Common.{◌≡◌, ◌∙◌, ◌⊎◌, ◌≤◌, ◌<◌, arith, ℕ, List, Bool, true, Option, Some, None, Result, Ok, Err, is_some, refl, sym, ap, subst, inl, inr}
+use Rattle.std.proofs.Common.{◌≡◌, ◌∙◌, ◌⊎◌, ◌≤◌, ◌<◌, arith, ℕ, List, Bool, true, Option, Some, None, Result, Ok, Err, codes, is_some, refl, sym, ap, subst, inl, inr}
 use Rattle.std.specs.Prelude.{IfErr, IsErrAnd, OnOk}
 use Rattle.std.specs.Io.KnownBytes.{Keeps}
 use Rattle.std.proofs.KnownBytes.{Keeps-refl}
@@ -21,7 +21,7 @@ use Rattle.mw_drive.specs.declared.error.DriveError.TheVariants as why
 use Rattle.mw_checkpoint.specs.Pair.{other_of}
 use Rattle.mw_checkpoint.specs.declared.error.PairError.{PairError}
 use Rattle.mw_checkpoint.specs.declared.error.PairError.TheVariants as error
-use Rattle.mw_causes.specs.Ends.{stop_with}
+use Rattle.mw_causes.specs.Ends.{IsTold, Told, stop_with}
 use Rattle.mw_causes.specs.PairCauses.{choice_stop, played_stop, seed_cause_of}
 use Rattle.mw_causes.specs.SeedFiles.{IsFile, IsSeedStopped}
 use Rattle.mw_causes.specs.Tables.{Files}
@@ -40,9 +40,9 @@ use Rattle.mw_pair.proofs.Since.{room_since, unplayed_since}
 use Rattle.mw_pair.proofs.Steps.{closed_opened, unmoved_then}
 use Rattle.mw_offline.specs.Driving.{JournalKeeps, JournalRead, RunsShort, RunsToEnd, SeedWas, run_of}
 use Rattle.mw_offline.specs.FilesAround.{FilesAround, IsUntouched, files_around}
-use Rattle.mw_offline.specs.PairDriving.{ChoiceStays, IsRefusedChoice, PairDriveDone, PairDriveKeeps, PairDriveStopped, RoomFound, RoomStopped}
+use Rattle.mw_offline.specs.PairDriving.{ChoiceStays, IsRefusedChoice, PairDriveDone, PairDriveEnds, PairDriveKeeps, PairDriveStopped, RoomFound, RoomStopped}
 use Rattle.mw_offline.specs.PairFiles.{PairLeaves, PairOthersStay, PairUnplayed}
-use Rattle.mw_offline.proofs.Driving.{accepted_over, drives_over, if_err_two, kept_over, opened_same, stops_over, told_bytes}
+use Rattle.mw_offline.proofs.Driving.{accepted_over, drives_over, from_ok, kept_over, opened_same, stops_over, told_bytes}
 
 -- ---- errors
 
@@ -62,6 +62,11 @@ played_fault why.Memory e = cc
 played_fault why.Full e = cc
 played_fault (why.Journal refusal) e = cc
 played_fault (why.Script line) e = cc
+
+-- an answer that is Err has what such an answer has
+from_err : {T E : Type 0} (r : Result T E) (P : E → Type 0) (e : E) → r ≡ Err e → IfErr r P → P e
+from_err (Ok x) P e is h = cc
+from_err (Err y) P e is h = let same : y ≡ e = cc in subst P same h
 
 -- ---- a room that wasn't opened
 
@@ -222,3 +227,87 @@ module _ {F : Type 0} (holds : F → Files) (images : F → List ℕ → List �
 
       pub room_fault : (old new : ℕ) → PassesRoom counts (record { choice = room.choice; journal = j; other = room.other; named = room.named }) old new → counts room.journal < counts j → Rose old new
       room_fault old new p rose = p.journal (omega (arith, rose))
+
+  -- ---- the command, on a room whose disks were handed back
+
+  module _ {D : Type 0} (told : D → Option (List ℕ)) (may_leave : D → List ℕ → Type 0) (counts : D → ℕ) (first last : F) (multidata choice bytes : List ℕ) (seed : Seed) (is_file : IsFile (holds first multidata) bytes) (is : SeedOf bytes (Ok seed))
+      (room : Chosen D) (o : IsOpenedRoom told may_leave counts (holds first) (images first) choice (digest_of bytes) room) (shut : AreShut (opened first) choice) (back : Chosen D)
+      (same : back ≡ record { choice = room.choice; journal = back.journal; other = room.other; named = room.named }) (k : IsClosedRoom told may_leave (holds last) (images last) (opened last) choice back)
+    where
+      closed : IsClosedRoom told may_leave (holds last) (images last) (opened last) choice (record { choice = room.choice; journal = back.journal; other = room.other; named = room.named })
+      closed = subst (IsClosedRoom told may_leave (holds last) (images last) (opened last) choice) same k
+
+      found : RoomFound (Around first last) multidata choice bytes seed room.named
+      found = room_found told may_leave counts first last choice (digest_of bytes) room o shut back.journal closed multidata bytes seed is_file is refl
+
+      pub play_stays : ChoiceStays (Around first last) multidata choice
+      play_stays = room_stays told may_leave counts first last choice (digest_of bytes) room o shut back.journal closed multidata bytes is_file refl
+
+      pub play_leaves : PairOthersStay (Around first last) choice → is_some (told back.journal) ≡ is_some (told room.journal) → PairLeaves (Around first last) choice
+      play_leaves others tells = room_leaves told may_leave counts first last choice (digest_of bytes) room o shut back.journal closed others tells
+
+      pub play_fault : (before after : ℕ) → PassesRoom counts back before after → counts room.journal < counts back.journal → Rose before after
+      play_fault before after p rose = p.journal (omega (arith, rose))
+
+      module _ (old new : Option (List ℕ)) where
+        pub play_keeps : ((steps : List Step) → is_some (told room.journal) ≡ true → IsLeft (may_leave room.journal) (digest_of bytes) (life_after_all seed steps) → KeepsShown (may_leave back.journal) (digest_of bytes) seed steps old new)
+            → PairDriveKeeps (Around first last) multidata choice old new
+        play_keeps keeps = inr record {
+          bytes = bytes;
+          seed = seed;
+          number = room.named;
+          found = found;
+          kept = room_keeps told may_leave counts first last choice (digest_of bytes) room o shut back.journal closed bytes seed old new keeps;
+        }
+
+        module _ {S : Type 0} (source : S → Option (List ℕ)) (before after : S) (outcome : Result (Unit {0}) DriveError) where
+          pub play_done : (u : Unit {0}) → outcome ≡ Ok u
+              → OnOk outcome (Drives (IsFound (told room.journal) (may_leave room.journal) (digest_of bytes) seed) (told room.journal) (may_leave back.journal) (digest_of bytes) seed (source before) (source after) old new)
+              → PairDriveDone source (Around first last) multidata choice before after old new
+          play_done u done d = record {
+            bytes = bytes;
+            seed = seed;
+            number = room.named;
+            found = found;
+            runs = room_runs told may_leave counts first last choice (digest_of bytes) room o shut back.journal closed bytes seed old new source before after (from_ok outcome _ u done d);
+          }
+
+          pub play_stopped : (e : DriveError) → outcome ≡ Err e → (stop : Stop PairDriveCause) → stop ≡ played_stop e
+              → IfErr outcome (StopsWith source (IsFound (told room.journal) (may_leave room.journal) (digest_of bytes) seed) (Refuses (told room.journal) (digest_of bytes) seed) (ends.StaysSettled (may_leave room.journal) (may_leave back.journal) (digest_of bytes))
+              (IsAsRead (told room.journal) (told back.journal) (may_leave room.journal) (may_leave back.journal)) (told room.journal) (may_leave back.journal) (digest_of bytes) seed before after old new)
+              → IfErr outcome (λ error. (steps : List Step) → is_some (told room.journal) ≡ true → IsLeft (may_leave room.journal) (digest_of bytes) (life_after_all seed steps) → IsOfJournal error → ⊥)
+              → PairDriveStopped source (Around first last) multidata choice before after old new stop
+          play_stopped e failed stop of stops accepted = inr record {
+            bytes = bytes;
+            seed = seed;
+            number = room.named;
+            found = found;
+            why = e;
+            is = of;
+            short = room_short told may_leave counts first last choice (digest_of bytes) room o shut back.journal closed bytes seed old new source before after e (from_err outcome _ e failed stops) (from_err outcome _ e failed accepted);
+          }
+
+  -- ---- memory ran out before a folder, an input or an out sink was touched
+
+  pub unstarted_pair : {S : Type 0} (source : S → Option (List ℕ)) (folder : F) (multidata choice : List ℕ) (input : S) (held : Option (List ℕ)) (count : ℕ) (told : Told) (status : ℕ) → status ≡ 6 → IsTold told (codes "no memory\n")
+      → PairDriveEnds source status (Around folder folder) multidata choice input input (record { old = held; new = held; before = count; now = count }) told
+  unstarted_pair source folder multidata choice input held count told status is_status line =
+      let still = λ (n c : List ℕ). (λ (image : images folder n c). image, λ (image : images folder n c). image) in
+      record {
+        ends = inr (
+          Memory,
+          inl record {
+            stopped = inl record { seed_stop = Memory; is = refl; cause = tt; files_stay = λ n. record { told = refl; crash = still n } };
+            untouched = refl;
+            quiet = Keeps-refl held;
+          },
+          record { named = Memory; is = inl refl; is_status = is_status; line = line },
+        );
+        leaves = record {
+          tells = λ n. refl;
+          others = λ n other. record { told = refl; crash = still n; opened = refl };
+          opened = λ n. refl;
+        };
+        stays = λ bytes seed was is text body settled. settled;
+        kept = inl (Keeps-refl held);
+      }

@@ -14,7 +14,7 @@ use Rattle.mw_checkpoint.specs.Created.{disk_at}
 use Rattle.mw_checkpoint.specs.declared.error.PairError.{PairError}
 use Rattle.mw_checkpoint.specs.declared.error.PairError.TheVariants as error
 use Rattle.mw_checkpoint.specs.declared.switching.Kept.{Kept}
-use Rattle.mw_causes.specs.Ends.{HasLeft, Ended, Told, stop_with}
+use Rattle.mw_causes.specs.Ends.{HasLeft, Ended, IsTold, Told, stop_with}
 use Rattle.mw_causes.specs.PairCauses.{IsOfMaking, making_stop, thin_line, thin_status, thin_stop}
 use Rattle.mw_causes.specs.SeedFiles.{DigestedIn, IsFile, IsSeedStopped}
 use Rattle.mw_causes.specs.Tables.{Files}
@@ -36,8 +36,8 @@ use Rattle.mw_pair.proofs.Steps.{unmoved_then}
 use Rattle.mw_offline.specs.FilesAround.{FilesAround, IsUntouched, files_around}
 use Rattle.mw_offline.specs.NewRooms.{HasSeed, room_text}
 use Rattle.mw_offline.specs.PairFiles.{PairOthersStay, PairUntouched}
-use Rattle.mw_offline.specs.PairRooms.{HasMakingCause, HasPairCause, IsPairRoom, MakesPair, MakesSomePair}
-use Rattle.mw_offline.specs.ThinRuns.{IsThinnedIn, ThinDone, ThinFails, ThinKeeps, ThinRefused, ThinStopped, ThinUntold, kept_text}
+use Rattle.mw_offline.specs.PairRooms.{HasMakingCause, HasPairCause, IsPairRoom, MakesPair, MakesSomePair, PairRoomEnds}
+use Rattle.mw_offline.specs.ThinRuns.{IsThinnedIn, ThinDone, ThinEnds, ThinFails, ThinKeeps, ThinRefused, ThinStopped, ThinUntold, kept_text}
 use Rattle.mw_offline.proofs.Driving.{told_bytes}
 use Rattle.mw_words.specs.declared.command_line.NewRoomWords.{NewRoomWords}
 use Rattle.mw_words.specs.declared.command_line.ThinWords.{ThinWords}
@@ -203,3 +203,38 @@ pub told_as : {T C : Type 0} (status_of : C → ℕ) (line_of : C → List ℕ) 
     → ((status ≡ 0) × done × Keeps told.old told.new) ⊎ ((s : Stop C) × stopped s × Ended status_of line_of s status told)
 told_as status_of line_of (Ok x) status told done stopped none kept ended all left = inl (none, all, kept)
 told_as status_of line_of (Err s) status told done stopped none kept ended all left = inr (s, left, ended)
+
+-- ---- memory ran out before a folder or an out sink was touched
+
+module _ {F : Type 0} (holds : F → Files) (images : F → List ℕ → List ℕ → Type 0) (opened : F → List ℕ → Bool) (may_fail : F → Bool) (faults : F → ℕ) (folder : F) (held : Option (List ℕ)) (count : ℕ) (told : Told) (status : ℕ)
+    (is_status : status ≡ 6) (line : IsTold told (codes "no memory\n"))
+  where
+    abbrev Still : FilesAround
+    Still = files_around holds images opened may_fail faults folder folder
+
+    abbrev Out : Told
+    Out = record { old = held; new = held; before = count; now = count }
+
+    same_images : (n : List ℕ) → SameImages (images folder n) (images folder n)
+    same_images n c = (λ image. image, λ image. image)
+
+    still_others : (choice : List ℕ) → PairOthersStay Still choice
+    still_others choice n other = record { told = refl; crash = same_images n; opened = refl }
+
+    pub unstarted_room : (room : NewRoomWords) → PairRoomEnds status Still room Out told
+    unstarted_room room = record {
+      ends = inr (Memory, record { is_status = is_status; left = inl (Keeps-refl held); line = line });
+      others = still_others room.journal;
+      bytes = λ n one byte. (refl, λ c image. image);
+    }
+
+    pub unstarted_thin : (room : ThinWords) → ThinEnds status Still room Out told
+    unstarted_thin room = record {
+      ends = inr (
+        Memory,
+        inl (inl record { seed_stop = Memory; is = refl; cause = tt; files_stay = λ n. record { told = refl; crash = same_images n } }, Keeps-refl held),
+        record { named = Memory; is = inl refl; is_status = is_status; line = line },
+      );
+      others = still_others room.choice;
+      keeps = λ bytes seed was is allowed s. still_stands (bytes_in (holds folder)) (images folder) (images folder) (digest_of bytes) allowed (file_names room.choice) (λ n c image. image) s;
+    }

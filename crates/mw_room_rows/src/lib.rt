@@ -9,6 +9,8 @@ mod cases;
 #[cfg(test)]
 mod chat;
 #[cfg(test)]
+mod checkpoints;
+#[cfg(test)]
 mod checks;
 #[cfg(test)]
 mod client_members;
