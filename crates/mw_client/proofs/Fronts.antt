@@ -1,8 +1,7 @@
 -- A client's list stays a front of what its slot received, over sessions and lives.
-use Rattle.std.proofs.Common.{◌≡◌, ◌⊎◌, inl, inr, ◌+◌, ◌≤◌, ℕ, Bool, true, false, List, [], ◌∷◌, ◌++◌, Option, Some, None, length, take, drop, refl, sym, ap, subst, ◌∙◌, arith, append_assoc, append-nil, true≢false, cond, ◌||◌, ◌==◌}
-use Rattle.std.specs.Prelude.{IsTrue, IsFalse}
+use Rattle.std.proofs.Common.{◌≡◌, inr, ◌+◌, ℕ, Bool, true, false, List, [], ◌∷◌, ◌++◌, Option, Some, None, length, take, drop, refl, sym, ap, subst, ◌∙◌, arith, append_assoc, true≢false, cond, ◌||◌, ◌==◌}
+use Rattle.std.specs.Prelude.{IsFalse}
 use Rattle.std.specs.List.{list_any}
-use mathlib.Core.List.{IsPrefix}
 use Rattle.mw_model.specs.Items.{NetItem}
 use Rattle.mw_model.specs.Seed.{Seed}
 use Rattle.mw_protocol.specs.Asked.{view}
@@ -10,8 +9,8 @@ use Rattle.mw_protocol.specs.Connecting.{Member}
 use Rattle.mw_protocol.specs.Lives.{Step, life_after_all}
 use Rattle.mw_protocol.specs.Messages.{ServerPacket, room_info, connected, received_items, room_update, connection_refused, location_info, data_package, invalid_packet, print, retrieved, set_reply, bounced}
 use Rattle.mw_protocol.specs.Rooms.{Message, Session, member_in, session_in}
-use Rattle.mw_laws.specs.Applied.{Client, ClientsApply, IsFrontOf, IsHeard, MaskSince, applied_messages, applied_packets, given, has_items, having, owed_before, owed_of, owed_since}
-use Rattle.mw_laws.specs.Kept.{is_call, journal_after}
+use Rattle.mw_laws.specs.Applied.{Client, ClientsApply, IsFrontOf, IsHeard, MaskSince, applied_messages, applied_packets, has_items, having, owed_before, owed_of, owed_since}
+use Rattle.mw_laws.specs.Kept.{journal_after}
 use Rattle.mw_laws.specs.Views.{is_received_items}
 use Rattle.mw_client.specs.Lives.{AreHearings, Hearing, IsHearing, ListsStayFronts, client_of, messages_of, run_after, run_before, run_of}
 

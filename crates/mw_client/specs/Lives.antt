@@ -10,16 +10,16 @@ use Rattle.mw_protocol.specs.Rooms.{Message, Session, member_in, session_in}
 use Rattle.mw_laws.specs.Applied.{Client, IsFrontOf, applied_messages, having, owed_of}
 use Rattle.mw_laws.specs.Kept.{is_call, journal_after}
 
--- a session that a client hears: what happens before it is opened, crashes too; what then happens in
--- its life; its number; and how many of its first messages the client heard
+-- a session that a client hears: what happens before it is opened, crashes too; what then happens
+-- in its life; its number; and how many of its first messages the client heard
 pub record Hearing : Type 0 where
   pub waits : List Step
   pub life : List Step
   pub number : ℕ
   pub count : ℕ
 
--- the run by the point at which it is not yet opened, and by the point at which what was heard of it
--- was taken, of a run that came so far before
+-- the run by the point at which it is not yet opened, and by the point at which what was heard of
+-- it was taken, of a run that came so far before
 abbrev pub run_before : List Step → Hearing → List Step
 run_before steps h = steps ++ h.waits
 
@@ -36,8 +36,8 @@ messages_of seed steps h =
     take h.count
     (owed_of (session_in (life_after_all seed (run_after steps h)).room.sessions h.number))
 
--- the session isn't open as the run has come so far, plays a slot with mask 7 whenever it plays one,
--- and what is heard of it is a front of the messages that it took
+-- the session isn't open as the run has come so far, plays a slot with mask 7 whenever it plays
+-- one, and what is heard of it is a front of the messages that it took
 pub record IsHearing (seed : Seed) (team slot : ℕ) (steps : List Step) (h : Hearing) : Type 0 where
   pub unopened :
       session_in (life_after_all seed (run_before steps h)).room.sessions h.number ≡ None
@@ -68,9 +68,10 @@ client_of seed steps c [] = c
 client_of seed steps c (h ∷ hs) =
     client_of seed (run_after steps h) (applied_messages c (messages_of seed steps h)) hs
 
--- over any run of lives, after any number of sessions of a slot with mask 7, each opened after what
--- was heard of the one before was taken, a client that began with no items never asked for Sync, and
--- its list is a front of what its slot received, by the journal of this and of each later point
+-- over any run of lives, after any number of sessions of a slot with mask 7, each opened after
+-- what was heard of the one before was taken, a client that began with no items never asked for
+-- Sync, and its list is a front of what its slot received, by the journal of this and of each
+-- later point
 abbrev pub ListsStayFronts : Type 0
 ListsStayFronts = (seed : Seed) (team slot : ℕ) (hearings : List Hearing)
     → AreHearings seed team slot [] hearings → (more : List Step)

@@ -13,8 +13,8 @@ use mw_base::{Bytes, List, Memory, NetItem, Text, copy_texts};
 use std::alloc::Global;
 use std::marker::Model;
 
-/// What a client that plays knows: its list, whether it was greeted and has joined, why it was first
-/// turned away, and whether memory ran out as it heard something.
+/// What a client that plays knows: its list, whether it was greeted and has joined, why it was
+/// first turned away, and whether memory ran out as it heard something.
 #[derive(Drop)]
 pub struct Play {
     alloc: Global,
