@@ -150,8 +150,8 @@ HoldsHeard digest list before after image =
     ⊎ ((line : Exchange) × (after ≡ before ++ line ∷ [])
     × HoldsFront digest list (texts_in line.heard) image)
 
--- no line was hung up; or one was, and what a crash may leave stands for the list once all texts were
--- heard that came over it, or all but the last
+-- no line was hung up; or one was, and what a crash may leave stands for the list once all texts
+-- were heard that came over it, or all but the last
 abbrev pub LeavesLast : (List ℕ → Type 0) → List ℕ → List NetItem → List Exchange → List Exchange
     → Type 0
 LeavesLast images digest list before after =

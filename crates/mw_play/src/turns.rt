@@ -239,11 +239,11 @@ pub struct Played {
 /// list.
 ///
 /// What is heard is saved before the next is: once the call is over, whatever it answers, a crash
-/// leaves the save file standing for that list once all texts were heard, or all but the last. At each
-/// moment it leaves it standing for that list once some front of the texts
-/// was heard that came over the line, and after Ok for all of them. `Fault` comes only where the
-/// dial's count rose or that of the save file's disk; `Full` exactly where the next batch would
-/// pass the limit of the save file's journal.
+/// leaves the save file standing for that list once all texts were heard, or all but the last. At
+/// each moment it leaves it standing for that list once some front of the texts was heard that
+/// came over the line, and after Ok for all of them. `Fault` comes only where the dial's count
+/// rose or that of the save file's disk; `Full` exactly where the next batch would pass the limit
+/// of the save file's journal.
 pub fn play_on<D: Disk, L: Dial>(
     alloc: Global,
     journal: &mut Journal<D>,
