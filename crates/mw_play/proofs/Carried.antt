@@ -74,7 +74,8 @@ module _ (told told2 : Option (List ℕ)) (images images2 : List ℕ → Type 0)
 
   pub leaves_same : (digest : List ℕ) (before after : List Exchange) → LeavesSave told images digest before after → LeavesSave told2 images2 digest before after
   leaves_same digest before after (inl none) = inl none
-  leaves_same digest before after (inr (list, was, leaves)) = inr (list, was_same digest list was, λ c left. leaves c (fewer c left))
+  leaves_same digest before after (inr (list, was, inl none)) = inr (list, was_same digest list was, inl none)
+  leaves_same digest before after (inr (list, was, inr (line, hung_up, leaves))) = inr (list, was_same digest list was, inr (line, hung_up, λ c left. leaves c (fewer c left)))
 
 -- what a crash may leave now, it may have left since any moment before
 pub left_now : {D : Type 0} (may_leave : D → List ℕ → Type 0) (moment : D → ℕ) (left_since : D → ℕ → List ℕ → Type 0) → ((disk : D) (t : ℕ) (c : List ℕ) → t ≤ moment disk → may_leave disk c → left_since disk t c)

@@ -1,5 +1,5 @@
 -- What a client knows and sent once it heard more.
-use Rattle.std.proofs.Common.{◌≡◌, ◌⊎◌, inl, inr, ◌++◌, ℕ, List, [], ◌∷◌, refl, sym, ap, subst, ◌∙◌, append_assoc, append-nil}
+use Rattle.std.proofs.Common.{◌≡◌, ◌⊎◌, inl, inr, ◌≤◌, ◌++◌, length, arith, ℕ, List, [], ◌∷◌, refl, sym, ap, subst, ◌∙◌, append_assoc, append-nil}
 use Rattle.std.specs.List.{AllByRecursion}
 use Rattle.std.proofs.lemmas.List.Concat.{flat_map-append}
 use Rattle.mw_link.specs.declared.link.Heard.{Heard}
@@ -11,7 +11,7 @@ use Rattle.mw_client.specs.Playing.{Play, answers, answers_all, begun, next, nex
 use Rattle.mw_client.specs.declared.answer.Answer.{Answer}
 use Rattle.mw_play.specs.declared.player.Player.{Player}
 use Rattle.mw_play.specs.Saves.{HoldsList}
-use Rattle.mw_play.specs.Turns.{Follows, HoldsFront, IsFull, NotEnd, Overfills, known, messages_of, news_over, said, texts_in}
+use Rattle.mw_play.specs.Turns.{Follows, HoldsFront, HoldsLast, IsFull, NotEnd, Overfills, known, messages_of, news_over, said, texts_in}
 
 -- ---- one text more
 
@@ -116,6 +116,24 @@ full_words images digest list hs after p text knows is full = record {
   full = subst (λ (q : Play). Overfills images digest (known list hs).list q.list) (after_words list hs after p text knows is)
       (subst (λ (q : Play). Overfills images digest q.list (next_all p (news_in text)).list) knows full);
 }
+
+-- what is heard next is saved, or the list is as it was before it
+pub last_same : (image digest : List ℕ) (list : List NetItem) (hs rest after : List Heard) (p : Play) → p ≡ known list hs → after ≡ hs ++ rest → length (texts_in rest) ≤ 1 → HoldsList image digest p.list → HoldsLast digest list (texts_in after) image
+last_same image digest list hs rest after p knows is few holds = record {
+  front = texts_in hs;
+  rest = texts_in rest;
+  fronts = ap texts_in is ∙ texts_both hs rest;
+  last = few;
+  holds = subst (λ (l : List NetItem). HoldsList image digest l) (list_is list hs) (subst (λ (q : Play). HoldsList image digest q.list) knows holds);
+}
+
+pub last_all : (image digest : List ℕ) (list : List NetItem) (hs : List Heard) (p : Play) → p ≡ known list hs → HoldsList image digest p.list → HoldsLast digest list (texts_in hs) image
+last_all image digest list hs p knows holds = last_same image digest list hs [] hs p knows (sym (append-nil hs)) (omega arith) holds
+
+pub last_words : (image digest : List ℕ) (list : List NetItem) (hs after : List Heard) (p : Play) (text : List ℕ) → p ≡ known list hs → after ≡ hs ++ Words text ∷ []
+    → HoldsList image digest p.list ⊎ HoldsList image digest (next_all p (news_in text)).list → HoldsLast digest list (texts_in after) image
+last_words image digest list hs after p text knows is (inl holds) = last_same image digest list hs (Words text ∷ []) after p knows is (omega arith) holds
+last_words image digest list hs after p text knows is (inr holds) = last_all image digest list after (next_all p (news_in text)) (after_words list hs after p text knows is) holds
 
 -- ---- a line
 

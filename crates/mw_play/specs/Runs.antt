@@ -9,7 +9,7 @@ use Rattle.mw_play.specs.Ends.{end_line, end_status}
 use Rattle.mw_play.specs.Ids.{HasIds, HasNoIds}
 use Rattle.mw_play.specs.Printing.{list_text, refusal_line}
 use Rattle.mw_play.specs.Saves.{HoldsList, IsRefused, WasSaved, save_digest}
-use Rattle.mw_play.specs.Turns.{HeardFull, HoldsHeard, PlaysOver}
+use Rattle.mw_play.specs.Turns.{HeardFull, LeavesLast, PlaysOver}
 use Rattle.mw_play.specs.Words.{IsPlay}
 use Rattle.mw_play.specs.declared.end.PlayEnd.{PlayEnd}
 use Rattle.mw_play.specs.declared.end.PlayEnd.TheVariants.{Ended, TurnedAway, EndedEarly, Spent, BadWords, Fault, Memory, Refused, Full}
@@ -63,14 +63,14 @@ StopsFrom told images digest before after EndedEarly = ⊥
 StopsFrom told images digest before after Spent = ⊥
 StopsFrom told images digest before after BadWords = ⊥
 
--- what a crash may leave of the save file: where it was opened it stands for the list that was
--- saved before, or once some front of the texts was heard that came over the line
+-- what a crash may leave of the save file once a line was dialled: it stands for the list that was
+-- saved before once all texts were heard that came over the line, or all but the last
 abbrev pub LeavesSave : Option (List ℕ) → (List ℕ → Type 0) → List ℕ → List Exchange
     → List Exchange → Type 0
 LeavesSave told images digest before after =
     (after ≡ before)
     ⊎ ((list : List NetItem) × WasList told digest list
-    × ((c : List ℕ) → images c → HoldsHeard digest list before after c))
+    × LeavesLast images digest list before after)
 
 -- ---- the whole run
 

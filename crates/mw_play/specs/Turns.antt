@@ -52,6 +52,15 @@ pub record HoldsFront (digest : List ℕ) (list : List NetItem) (texts : List (L
   pub fronts : texts ≡ front ++ rest
   pub holds : HoldsList image digest (played list front)
 
+-- an image stands for the list as it was once all these texts were heard, or all but the last
+pub record HoldsLast (digest : List ℕ) (list : List NetItem) (texts : List (List ℕ))
+    (image : List ℕ) : Type 0 where
+  pub front : List (List ℕ)
+  pub rest : List (List ℕ)
+  pub fronts : texts ≡ front ++ rest
+  pub last : length rest ≤ 1
+  pub holds : HoldsList image digest (played list front)
+
 -- more was heard, or nothing
 abbrev pub HearsMore : List Heard → List Heard → Type 0
 HearsMore before after = (rest : List Heard) × (after ≡ before ++ rest)
@@ -140,6 +149,15 @@ HoldsHeard digest list before after image =
     HoldsList image digest list
     ⊎ ((line : Exchange) × (after ≡ before ++ line ∷ [])
     × HoldsFront digest list (texts_in line.heard) image)
+
+-- no line was hung up; or one was, and what a crash may leave stands for the list once all texts
+-- were heard that came over it, or all but the last
+abbrev pub LeavesLast : (List ℕ → Type 0) → List ℕ → List NetItem → List Exchange → List Exchange
+    → Type 0
+LeavesLast images digest list before after =
+    (after ≡ before)
+    ⊎ ((line : Exchange) × (after ≡ before ++ line ∷ [])
+    × ((c : List ℕ) → images c → HoldsLast digest list (texts_in line.heard) c))
 
 -- the next batch, after what was heard over the line that was hung up since, would pass the limit
 abbrev pub HeardFull : (List ℕ → Type 0) → List ℕ → List NetItem → List Exchange → List Exchange

@@ -8,8 +8,8 @@ ghost use Rattle.mw_client.specs.Hearing.{news_in as news_in_lem};
 ghost use Rattle.mw_client.specs.Playing.{answers_all, begun, next_all};
 ghost use Rattle.mw_client.specs.Sending.{answer_texts};
 ghost use Rattle.mw_play.specs.Saves.{HoldsList, KeepsList};
-ghost use Rattle.mw_play.specs.Turns.{EndsSo, Follows, HasCome, HasEnded, HeardFull, HearsMore, HoldsFront};
-ghost use Rattle.mw_play.specs.Turns.{HoldsHeard, IsCame, IsFull, Overfills, PlaysOver, messages_of, texts_in};
+ghost use Rattle.mw_play.specs.Turns.{EndsSo, Follows, HasCome, HasEnded, HeardFull, HearsMore, HoldsFront, HoldsLast};
+ghost use Rattle.mw_play.specs.Turns.{HoldsHeard, IsCame, IsFull, LeavesLast, Overfills, PlaysOver, messages_of, texts_in};
 
 use crate::over::{Came, CutShort, Over};
 use crate::player::Player;
@@ -146,6 +146,11 @@ fn take_turn<L: Link, D: Disk>(
         → KeepsList D.may_leave digest journal.old play.old.list
         → LeavesOnly D.moment D.left_since (disk_of journal.old) (disk_of journal.new)
         (HoldsFront digest list (texts_in (L.heard line.new))) }
+    ensures last { (digest : List ℕ) (list : List NetItem)
+        → Follows L.heard L.sent player.now list line.old play.old
+        → KeepsList D.may_leave digest journal.old play.old.list
+        → (c : List ℕ) → D.may_leave (disk_of journal.new) c
+        → HoldsLast digest list (texts_in (L.heard line.new)) c }
     ensures whole { OnOk result (state_of journal.new ≡ JournalState.Whole) }
     ensures fault { result ≡ Err CutShort.Fault → Rose (L.faults line.old) (L.faults line.new)
         ⊎ Rose (D.faults (disk_of journal.old)) (D.faults (disk_of journal.new)) }
@@ -200,6 +205,9 @@ fn play_over<L: Link, D: Disk>(
     ensures moments { (digest : List ℕ) → KeepsList D.may_leave digest journal.old play.old.list
         → LeavesOnly D.moment D.left_since (disk_of journal.old) (disk_of journal.new)
         (HoldsFront digest play.old.list (texts_in (L.heard line.new))) }
+    ensures last { (digest : List ℕ) → KeepsList D.may_leave digest journal.old play.old.list
+        → (c : List ℕ) → D.may_leave (disk_of journal.new) c
+        → HoldsLast digest play.old.list (texts_in (L.heard line.new)) c }
     ensures fault { result ≡ Err CutShort.Fault → Rose (L.faults line.old) (L.faults line.new)
         ⊎ Rose (D.faults (disk_of journal.old)) (D.faults (disk_of journal.new)) }
     ensures full { (digest : List ℕ) → KeepsList D.may_leave digest journal.old play.old.list
@@ -230,10 +238,12 @@ pub struct Played {
 /// Plays over a line that is dialled, and hangs it up, with a save file that is open and keeps a
 /// list.
 ///
-/// At each moment a crash leaves the save file standing for that list once some front of the texts
-/// was heard that came over the line, and after Ok for all of them. `Fault` comes only where the
-/// dial's count rose or that of the save file's disk; `Full` exactly where the next batch would
-/// pass the limit of the save file's journal.
+/// What is heard is saved before the next is: once the call is over, whatever it answers, a crash
+/// leaves the save file standing for that list once all texts were heard, or all but the last. At
+/// each moment it leaves it standing for that list once some front of the texts was heard that
+/// came over the line, and after Ok for all of them. `Fault` comes only where the dial's count
+/// rose or that of the save file's disk; `Full` exactly where the next batch would pass the limit
+/// of the save file's journal.
 pub fn play_on<D: Disk, L: Dial>(
     alloc: Global,
     journal: &mut Journal<D>,
@@ -249,6 +259,9 @@ pub fn play_on<D: Disk, L: Dial>(
     ensures moments { (digest : List ℕ) → KeepsList D.may_leave digest journal.old list.now
         → LeavesOnly D.moment D.left_since (disk_of journal.old) (disk_of journal.new)
         (HoldsHeard digest list.now (L.hung_up dial.old) (L.hung_up dial.new)) }
+    ensures last { (digest : List ℕ) → KeepsList D.may_leave digest journal.old list.now
+        → LeavesLast (D.may_leave (disk_of journal.new)) digest list.now
+        (L.hung_up dial.old) (L.hung_up dial.new) }
     ensures fault { result ≡ Err CutShort.Fault → Rose (L.faults dial.old) (L.faults dial.new)
         ⊎ Rose (D.faults (disk_of journal.old)) (D.faults (disk_of journal.new)) }
     ensures full { (digest : List ℕ) → KeepsList D.may_leave digest journal.old list.now

@@ -2,10 +2,10 @@ use Rattle.std.proofs.Common.{inr, ap, sym, subst}
 use Rattle.std.specs.Prelude.{Err}
 use Rattle.mw_journal.specs.Journal.{disk_of}
 use Rattle.mw_play.specs.Runs.{StopsFrom, end_of_cut}
-use Rattle.mw_play.specs.Turns.{HoldsHeard}
+use Rattle.mw_play.specs.Turns.{LeavesLast}
 use Rattle.mw_play.specs.declared.end.PlayEnd.{PlayEnd}
 use Rattle.mw_play.specs.declared.over.CutShort.{CutShort}
-use Rattle.mw_play.proofs.Carried.{cut_stops, left_now}
+use Rattle.mw_play.proofs.Carried.{cut_stops}
 use Rattle.mw_play.proofs.Kept.{keeps_holds}
 use Rattle.mw_play.proofs.run.play_on_journal.Goals as goal
 
@@ -19,13 +19,10 @@ returns-in-Ok-clause-done g c = λ digest told keeps was. record {
 }
 
 pub returns-in-Ok-clause-left : goal.returns-in-Ok-clause-left
-returns-in-Ok-clause-left g c = λ digest told keeps was. inr (
-  c.args.list.now,
-  was,
-  λ i left.
-      left_now g.D.Disk.may_leave g.D.Disk.moment g.D.Disk.left_since g.met.D.Disk.counts_now (disk_of c.args.journal) (disk_of c.play_on.new.journal) (HoldsHeard digest c.args.list.now (g.L.Dial.hung_up c.args.dial.now) (g.L.Dial.hung_up c.play_on.new.dial))
-      (c.play_on.ensures.moments digest keeps) i (subst (λ (d : g.row.D.Denot). g.D.Disk.may_leave d i) c.into_disk.ensures left),
-)
+returns-in-Ok-clause-left g c = λ digest told keeps was.
+    let before = g.L.Dial.hung_up c.args.dial.now in
+    let after = g.L.Dial.hung_up c.play_on.new.dial in
+    inr (c.args.list.now, was, subst (λ (d : g.row.D.Denot). LeavesLast (g.D.Disk.may_leave d) digest c.args.list.now before after) (sym c.into_disk.ensures) (c.play_on.ensures.last digest keeps))
 
 pub returns-in-Err-clause-stopped : goal.returns-in-Err-clause-stopped
 returns-in-Err-clause-stopped g c = λ digest told keeps was.
@@ -36,10 +33,7 @@ returns-in-Err-clause-stopped g c = λ digest told keeps was.
     (cut_stops told (g.D.Disk.may_leave (disk_of c.play_on.new.journal)) digest c.args.list.now before after c.in-Err.cut was (λ is. c.in-Err.ensures.full digest keeps (ap (λ (w : CutShort). Err w) is))))
 
 pub returns-in-Err-clause-left : goal.returns-in-Err-clause-left
-returns-in-Err-clause-left g c = λ digest told keeps was. inr (
-  c.args.list.now,
-  was,
-  λ i left.
-      left_now g.D.Disk.may_leave g.D.Disk.moment g.D.Disk.left_since g.met.D.Disk.counts_now (disk_of c.args.journal) (disk_of c.play_on.new.journal) (HoldsHeard digest c.args.list.now (g.L.Dial.hung_up c.args.dial.now) (g.L.Dial.hung_up c.play_on.new.dial))
-      (c.play_on.ensures.moments digest keeps) i (subst (λ (d : g.row.D.Denot). g.D.Disk.may_leave d i) c.into_disk-in-Err.ensures left),
-)
+returns-in-Err-clause-left g c = λ digest told keeps was.
+    let before = g.L.Dial.hung_up c.args.dial.now in
+    let after = g.L.Dial.hung_up c.play_on.new.dial in
+    inr (c.args.list.now, was, subst (λ (d : g.row.D.Denot). LeavesLast (g.D.Disk.may_leave d) digest c.args.list.now before after) (sym c.into_disk-in-Err.ensures) (c.play_on.ensures.last digest keeps))

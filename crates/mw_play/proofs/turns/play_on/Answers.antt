@@ -5,7 +5,7 @@ use Rattle.mw_link.specs.Dials.{Exchange, exchange_of}
 use Rattle.mw_model.specs.Items.{NetItem}
 use Rattle.mw_client.specs.Playing.{Play}
 use Rattle.mw_play.specs.Saves.{KeepsList}
-use Rattle.mw_play.specs.Turns.{Follows, HoldsFront, HoldsHeard, texts_in}
+use Rattle.mw_play.specs.Turns.{Follows, HoldsFront, HoldsHeard, HoldsLast, texts_in}
 use Rattle.mw_play.proofs.Following.{list_is}
 use Rattle.mw_play.proofs.turns.play_on.Goals as goal
 
@@ -41,3 +41,27 @@ returns-in-Err-over-clause-moments g c = λ digest keeps.
     (HoldsHeard digest c.args.list.now (g.L.Dial.hung_up c.args.dial.now) (g.L.Dial.hung_up c.hang_up.new.self))
     (c.play_over-over.ensures.moments digest (subst (λ (l : List NetItem). KeepsList g.D.Disk.may_leave digest c.args.journal.now l) (sym begins) keeps))
     (λ i held. inr (line, c.hang_up.ensures.hung_up ∙ ap (λ (xs : List Exchange). xs ++ line ∷ []) c.dial.ensures.hung_up, subst (λ (l : List NetItem). HoldsFront digest l (texts_in line.heard) i) begins held))
+
+pub returns-in-Ok-over-clause-last : goal.returns-in-Ok-over-clause-last
+returns-in-Ok-over-clause-last g c = λ digest keeps.
+    let line = exchange_of g.L.Line.Link.heard g.L.Line.Link.sent c.play_over-over.new.line in
+    let begins : c.in_ok-play.play.list ≡ c.args.list.now = ap (λ (p : Play). p.list) c.in_ok-play.ensures in
+    inr (
+      line,
+      c.hang_up.ensures.hung_up ∙ ap (λ (xs : List Exchange). xs ++ line ∷ []) c.dial.ensures.hung_up,
+      λ i left.
+          subst (λ (l : List NetItem). HoldsLast digest l (texts_in line.heard) i) begins
+          (c.play_over-over.ensures.last digest (subst (λ (l : List NetItem). KeepsList g.D.Disk.may_leave digest c.args.journal.now l) (sym begins) keeps) i left),
+    )
+
+pub returns-in-Err-over-clause-last : goal.returns-in-Err-over-clause-last
+returns-in-Err-over-clause-last g c = λ digest keeps.
+    let line = exchange_of g.L.Line.Link.heard g.L.Line.Link.sent c.play_over-over.new.line in
+    let begins : c.in_ok-play.play.list ≡ c.args.list.now = ap (λ (p : Play). p.list) c.in_ok-play.ensures in
+    inr (
+      line,
+      c.hang_up.ensures.hung_up ∙ ap (λ (xs : List Exchange). xs ++ line ∷ []) c.dial.ensures.hung_up,
+      λ i left.
+          subst (λ (l : List NetItem). HoldsLast digest l (texts_in line.heard) i) begins
+          (c.play_over-over.ensures.last digest (subst (λ (l : List NetItem). KeepsList g.D.Disk.may_leave digest c.args.journal.now l) (sym begins) keeps) i left),
+    )

@@ -6,8 +6,8 @@ use Rattle.mw_client.specs.Playing.{Play, begun}
 use Rattle.mw_play.specs.Turns.{HoldsFront, IsCame, NotEnd, known, said, texts_in}
 use Rattle.mw_play.specs.declared.over.Came.{Came}
 use Rattle.mw_play.specs.declared.over.Came.TheVariants.{More}
-use Rattle.mw_play.proofs.Following.{front_same, unended_on}
-use Rattle.mw_play.proofs.Kept.{moments_then, nothing_left}
+use Rattle.mw_play.proofs.Following.{front_same, last_all, unended_on}
+use Rattle.mw_play.proofs.Kept.{keeps_holds, moments_then, nothing_left}
 use Rattle.mw_play.proofs.turns.play_over.Goals as goal
 
 pub loop-init : goal.loop-init
@@ -67,3 +67,17 @@ loop-preserved g c =
       later = omega (arith, c.loop.invariant.later, c.take_turn.ensures.later);
       later_disk = omega (arith, c.loop.invariant.later_disk, c.take_turn.ensures.later_disk);
     }
+
+pub returns-in_err-take_turn-clause-last : goal.returns-in_err-take_turn-clause-last
+returns-in_err-take_turn-clause-last g c = λ digest keeps. c.take_turn.ensures.last digest c.args.play.now.list c.loop.invariant.follows (c.loop.invariant.keeps digest keeps)
+
+pub returns-in-TurnedAway-clause-last : goal.returns-in-TurnedAway-clause-last
+returns-in-TurnedAway-clause-last g c = λ digest keeps. c.take_turn.ensures.last digest c.args.play.now.list c.loop.invariant.follows (c.loop.invariant.keeps digest keeps)
+
+pub returns-in-AtEnd-clause-last : goal.returns-in-AtEnd-clause-last
+returns-in-AtEnd-clause-last g c = λ digest keeps. c.take_turn.ensures.last digest c.args.play.now.list c.loop.invariant.follows (c.loop.invariant.keeps digest keeps)
+
+pub returns-clause-last : goal.returns-clause-last
+returns-clause-last g c = λ digest keeps i left.
+    last_all i digest c.args.play.now.list (g.L.Link.heard c.loop.line) c.loop.play c.loop.invariant.follows.knows
+    (keeps_holds g.D.Disk.may_leave g.D.Disk.moment g.D.Disk.left_since g.met.D.Disk.only_now digest c.loop.journal c.loop.play.list (c.loop.invariant.keeps digest keeps) i left)

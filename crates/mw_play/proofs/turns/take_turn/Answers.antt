@@ -1,4 +1,4 @@
-use Rattle.std.proofs.Common.{rules, ◌≡◌, ◌⊎◌, ◌++◌, ◌∷◌, ◌∙◌, ℕ, List, [], append-nil, refl, sym}
+use Rattle.std.proofs.Common.{rules, ◌≡◌, ◌⊎◌, ◌++◌, ◌∷◌, ◌∙◌, ℕ, List, [], append-nil, refl, sym, arith}
 use Rattle.std.specs.Prelude.{Err}
 use Rattle.mw_disk.proofs.Moments.{wider}
 use Rattle.mw_journal.specs.Journal.{disk_of}
@@ -8,8 +8,9 @@ use Rattle.mw_client.specs.Playing.{next_all}
 use Rattle.mw_play.specs.Saves.{HoldsList}
 use Rattle.mw_play.specs.Turns.{HoldsFront, texts_in}
 use Rattle.mw_play.specs.declared.over.CutShort.TheVariants.{Full}
-use Rattle.mw_play.proofs.Following.{follows_other, follows_words, front_same, front_words, full_words}
-use Rattle.mw_play.proofs.Kept.{nothing_left}
+use Rattle.mw_play.proofs.Following.{follows_other, follows_words, front_same, front_words, full_words, last_same, last_words}
+use Rattle.mw_play.proofs.Carried.{left_now}
+use Rattle.mw_play.proofs.Kept.{keeps_holds, nothing_left}
 use Rattle.mw_play.proofs.turns.take_turn.Goals as goal
 
 pub returns-in_err-hear_text-in-Ok-Words-clause-moments : goal.returns-in_err-hear_text-in-Ok-Words-clause-moments
@@ -79,3 +80,41 @@ returns-in-Err-clause-moments g c = λ digest list f keeps.
     let heard : g.L.Link.heard c.recv.new.self ≡ g.L.Link.heard c.args.line.now = search rules in
     nothing_left g.D.Disk.may_leave g.D.Disk.moment g.D.Disk.left_since g.met.D.Disk.only_now digest c.args.journal.now c.args.play.now.list (HoldsFront digest list (texts_in (g.L.Link.heard c.recv.new.self))) keeps
     (λ i holds. front_same i digest list (g.L.Link.heard c.args.line.now) [] (g.L.Link.heard c.recv.new.self) c.args.play.now f.knows (heard ∙ sym (append-nil (g.L.Link.heard c.args.line.now))) holds)
+
+pub returns-in_err-hear_text-in-Ok-Words-clause-last : goal.returns-in_err-hear_text-in-Ok-Words-clause-last
+returns-in_err-hear_text-in-Ok-Words-clause-last g c = λ digest list f keeps i left.
+    let heard : g.L.Link.heard c.recv.new.self ≡ g.L.Link.heard c.args.line.now ++ Words c.in-Ok-Words.text ∷ [] = search rules in
+    last_words i digest list (g.L.Link.heard c.args.line.now) (g.L.Link.heard c.hear_text.new.line) c.args.play.now c.in-Ok-Words.text f.knows (c.hear_text.ensures.heard ∙ heard)
+    (left_now g.D.Disk.may_leave g.D.Disk.moment g.D.Disk.left_since g.met.D.Disk.counts_now (disk_of c.args.journal.now) (disk_of c.hear_text.new.journal)
+    (λ (x : List ℕ). HoldsList x digest c.args.play.now.list ⊎ HoldsList x digest (next_all c.args.play.now (news_in c.in-Ok-Words.text)).list) (c.hear_text.ensures.moments digest keeps) i left)
+
+pub returns-in_ok-hear_text-in-Ok-Words-clause-last : goal.returns-in_ok-hear_text-in-Ok-Words-clause-last
+returns-in_ok-hear_text-in-Ok-Words-clause-last g c = λ digest list f keeps i left.
+    let heard : g.L.Link.heard c.recv.new.self ≡ g.L.Link.heard c.args.line.now ++ Words c.in-Ok-Words.text ∷ [] = search rules in
+    last_words i digest list (g.L.Link.heard c.args.line.now) (g.L.Link.heard c.hear_text.new.line) c.args.play.now c.in-Ok-Words.text f.knows (c.hear_text.ensures.heard ∙ heard)
+    (left_now g.D.Disk.may_leave g.D.Disk.moment g.D.Disk.left_since g.met.D.Disk.counts_now (disk_of c.args.journal.now) (disk_of c.hear_text.new.journal)
+    (λ (x : List ℕ). HoldsList x digest c.args.play.now.list ⊎ HoldsList x digest (next_all c.args.play.now (news_in c.in-Ok-Words.text)).list) (c.hear_text.ensures.moments digest keeps) i left)
+
+pub returns-in-Ok-End-clause-last : goal.returns-in-Ok-End-clause-last
+returns-in-Ok-End-clause-last g c = λ digest list f keeps i left.
+    let heard : g.L.Link.heard c.recv.new.self ≡ g.L.Link.heard c.args.line.now ++ End ∷ [] = search rules in
+    last_same i digest list (g.L.Link.heard c.args.line.now) (End ∷ []) (g.L.Link.heard c.recv.new.self) c.args.play.now f.knows heard (omega arith)
+    (keeps_holds g.D.Disk.may_leave g.D.Disk.moment g.D.Disk.left_since g.met.D.Disk.only_now digest c.args.journal.now c.args.play.now.list keeps i left)
+
+pub returns-in-Ok-Binary-clause-last : goal.returns-in-Ok-Binary-clause-last
+returns-in-Ok-Binary-clause-last g c = λ digest list f keeps i left.
+    let heard : g.L.Link.heard c.recv.new.self ≡ g.L.Link.heard c.args.line.now ++ Binary ∷ [] = search rules in
+    last_same i digest list (g.L.Link.heard c.args.line.now) (Binary ∷ []) (g.L.Link.heard c.recv.new.self) c.args.play.now f.knows heard (omega arith)
+    (keeps_holds g.D.Disk.may_leave g.D.Disk.moment g.D.Disk.left_since g.met.D.Disk.only_now digest c.args.journal.now c.args.play.now.list keeps i left)
+
+pub returns-in-Ok-Binary-2-clause-last : goal.returns-in-Ok-Binary-2-clause-last
+returns-in-Ok-Binary-2-clause-last g c = λ digest list f keeps i left.
+    let heard : g.L.Link.heard c.recv.new.self ≡ g.L.Link.heard c.args.line.now ++ NotYet ∷ [] = search rules in
+    last_same i digest list (g.L.Link.heard c.args.line.now) (NotYet ∷ []) (g.L.Link.heard c.recv.new.self) c.args.play.now f.knows heard (omega arith)
+    (keeps_holds g.D.Disk.may_leave g.D.Disk.moment g.D.Disk.left_since g.met.D.Disk.only_now digest c.args.journal.now c.args.play.now.list keeps i left)
+
+pub returns-in-Err-clause-last : goal.returns-in-Err-clause-last
+returns-in-Err-clause-last g c = λ digest list f keeps i left.
+    let heard : g.L.Link.heard c.recv.new.self ≡ g.L.Link.heard c.args.line.now = search rules in
+    last_same i digest list (g.L.Link.heard c.args.line.now) [] (g.L.Link.heard c.recv.new.self) c.args.play.now f.knows (heard ∙ sym (append-nil (g.L.Link.heard c.args.line.now))) (omega arith)
+    (keeps_holds g.D.Disk.may_leave g.D.Disk.moment g.D.Disk.left_since g.met.D.Disk.only_now digest c.args.journal.now c.args.play.now.list keeps i left)
