@@ -38,4 +38,12 @@ fn main(rt: HostRuntime) -> ExitCode {
 }
 
 #[cfg(test)]
-mod tests;
+mod fault_tests;
+#[cfg(test)]
+mod harness;
+#[cfg(test)]
+mod save_tests;
+#[cfg(test)]
+mod turn_tests;
+#[cfg(test)]
+mod word_tests;

@@ -199,7 +199,8 @@ fn play_over<L: Link, D: Disk>(
     requires unsent { L.sent line.old ≡ [] }
     ensures follows { OnOk result
         (Follows L.heard L.sent player.now play.old.list line.new play.new) }
-    ensures ends { IfOk result (λ over. EndsSo over player.now.words.turns (L.heard line.new) play.new) }
+    ensures ends { IfOk result
+        (λ over. EndsSo over player.now.words.turns (L.heard line.new) play.new) }
     ensures keeps { (digest : List ℕ) → KeepsList D.may_leave digest journal.old play.old.list
         → OnOk result (KeepsList D.may_leave digest journal.new play.new.list) }
     ensures moments { (digest : List ℕ) → KeepsList D.may_leave digest journal.old play.old.list

@@ -37,7 +37,8 @@ fn password_in(alloc: Global, rest: &[Text]) -> Result<Option<Text>, WordsError>
 /// file, a number from 1 to 1,000,000 in decimal, and a password or none.
 pub fn read_play_words(alloc: Global, words: &[Text]) -> Result<PlayWords, WordsError>
     ensures ok { IfOk result (IsPlay words.now) }
-    ensures bad { result ≡ Err WordsError.BadWords → (asked : PlayWords) → IsPlay words.now asked → ⊥ }
+    ensures bad { result ≡ Err WordsError.BadWords
+        → (asked : PlayWords) → IsPlay words.now asked → ⊥ }
 {
     let [address, name, game, save, turns, rest @ ..] = words else {
         return Err(WordsError::BadWords);
