@@ -1,4 +1,5 @@
 pub mod FileRuns
+pub mod HostFiles
 pub mod MemoryFiles
 pub mod Moments
 pub mod Ranges

@@ -1,5 +1,5 @@
 -- A seed file as plain data.
-use Rattle.std.specs.Prelude.{ℕ, ℤ, zero, suc, ◌==◌, ◌&&◌, List, [], ◌∷◌, Option, Some, None, slice_get, if◌then◌else◌}
+use Rattle.std.specs.Prelude.{ℕ, ℤ, zero, suc, ◌-◌, ◌==◌, ◌&&◌, ◌||◌, nat_le, List, Bool, false, [], ◌∷◌, Option, Some, None, length, slice_get, if◌then◌else◌}
 use Rattle.std.specs.Ordering.{int_eq}
 
 -- an item that a slot starts with
@@ -13,6 +13,12 @@ pub record Slot : Type 0 where
   pub game : List ℕ
   pub start : List StartItem
 
+-- a receiver that stands for several slots of one game: its members, by number
+pub record Group : Type 0 where
+  pub name : List ℕ
+  pub game : List ℕ
+  pub members : List ℕ
+
 pub record NamedId : Type 0 where
   pub name : List ℕ
   pub id : ℤ
@@ -23,7 +29,7 @@ pub record Game : Type 0 where
   pub item_name_to_id : List NamedId
   pub location_name_to_id : List NamedId
 
--- a location of a slot, with the item that it holds and the slot that receives it
+-- a location of a slot, with the item that it holds and who receives it, a slot or a group
 pub record Held : Type 0 where
   pub slot : ℕ
   pub location : ℤ
@@ -51,6 +57,7 @@ pub record Seed : Type 0 where
   pub server : RoomOptions
   pub games : List Game
   pub slots : List Slot
+  pub groups : List Group
   pub locations : List Held
   pub spheres : List (List Spot)
 
@@ -58,6 +65,24 @@ pub record Seed : Type 0 where
 abbrev pub slot_of : Seed → ℕ → Option Slot
 slot_of seed zero = None
 slot_of seed (suc before) = slice_get seed.slots before
+
+-- the group of a number past the slots', since groups are numbered on from them
+abbrev pub group_of : Seed → ℕ → Option Group
+group_of seed number = slice_get seed.groups (number - suc (length seed.slots))
+
+abbrev pub has_number : List ℕ → ℕ → Bool
+has_number [] number = false
+has_number (first ∷ others) number = (first == number) || has_number others number
+
+abbrev pub is_member : Option Group → ℕ → Bool
+is_member None slot = false
+is_member (Some group) slot = has_number group.members slot
+
+-- whether a slot gets what is for a receiver: a slot's owner is that slot alone, a group's owners are its members
+abbrev pub is_owner : Seed → ℕ → ℕ → Bool
+is_owner seed receiver slot =
+    if nat_le receiver (length seed.slots) then receiver == slot
+    else is_member (group_of seed receiver) slot
 
 -- what stands at a location of a slot
 abbrev pub held_among : List Held → ℕ → ℤ → Option Held

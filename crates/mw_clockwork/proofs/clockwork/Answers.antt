@@ -1,6 +1,6 @@
 use denote.Param.Send.{sendable}
 use Rattle.std.proofs.Crossing.{crosses}
-use Rattle.mw_crossing.proofs.HostFiles.{host_send}
+use Rattle.mw_disk.proofs.HostFiles.{host_send}
 use Rattle.mw_clockwork.proofs.clockwork.Goals as goal
 
 pub run-requires-send-F-Drive : goal.run-requires-send-F-Drive

@@ -1,6 +1,6 @@
 use denote.Param.Send.{sendable}
 use Rattle.std.proofs.Crossing.{crosses}
-use Rattle.mw_crossing.proofs.HostFiles.{host_send}
+use Rattle.mw_disk.proofs.HostFiles.{host_send}
 use Rattle.mw_rows.proofs.edges.system_files_are_written.Goals as goal
 
 pub puts_file-requires-send-F-Drive : goal.puts_file-requires-send-F-Drive
