@@ -2,6 +2,7 @@
 # Prints the time (passed, and of the processor) and memory of `drive` on a journal with 1,000,000 checks and an empty script, which recovers it; of 2,000 checks on a journal
 # with a take after each, after each fiftieth and after the last, with the syncs that it made, and of the same in memory; of one check on a journal that is full; and counts what comes back where a run is killed at a random moment: each run of a script of checks, every third followed by a
 # take, is killed, and the next one must find every check that a taken message showed. How many runs is the first argument, 1,000 without one.
+# Then it does the same with `thin` on a pair room, killed as often at a random moment, after which the room must tell every check that was shown and the last value of each key; and it prints the time and memory of `thin` on a journal of 1,000,000 records, nine in ten of them old values, beside those of its recovery.
 # Before these it runs a second program on a journal that a first one plays on, and says what happened: the second ends with status 5 and changes nothing, and the first goes on.
 # Run after `rt run` in crates/mw_cli, which leaves the program.
 set -eu
@@ -156,4 +157,84 @@ for run in range(kills):
         os.remove(path("killed.journal"))
         subprocess.run([program, "new-room", path("killed.json"), path("killed.journal")], check=True, stdout=subprocess.DEVNULL)
 print("%d runs that were killed: %d checks that were shown are missing, %d came back that were not shown yet" % (kills, losses, extra))
+
+# ---- pair rooms
+
+def measured(words, script=""):
+    """One run to its end, by itself: its status, the time that passed, and its memory in MB."""
+    begin = time.time()
+    child = subprocess.Popen([program] + words[:1] + [path(w) if not w.startswith("--") else w for w in words[1:]], stdin=subprocess.PIPE, stdout=subprocess.PIPE)
+    child.stdin.write(script.encode())
+    child.stdin.close()
+    told = child.stdout.read()
+    _, status, used = os.wait4(child.pid, 0)
+    child.returncode = os.waitstatus_to_exitcode(status)
+    return child.returncode, time.time() - begin, used.ru_maxrss / 1024, told
+
+def batch(records):
+    body = b"".join(records)
+    return b"\x01" + struct.pack(">I", len(body)) + body
+
+def check_record(slot, location):
+    return struct.pack(">BBHIQ", 1, 0, slot, 1, location)
+
+def stored_record(key, value):
+    return b"\x07" + struct.pack(">I", len(key)) + key + struct.pack(">I", len(value)) + value
+
+def write_pair(name, seed, records):
+    """A pair room whose journal 0 has these records, a thousand in each batch."""
+    with open(path(seed), "rb") as f:
+        header = b"MWJRNL1\n" + hashlib.sha256(f.read()).digest()
+    for end in ("", ".1"):
+        with open(path(name + end), "wb") as f:
+            f.write(header + b"\x00")
+    with open(path(name + ".0"), "wb") as f:
+        f.write(header)
+        for first in range(0, len(records), 1000):
+            f.write(batch(records[first:first + 1000]))
+        f.write(b"\x00")
+
+records = [check_record(slot, location) for slot in range(1, 101) for location in range(1, 501)]
+records += [stored_record(b"k%d" % (n % 50000), b"%d" % n) for n in range(950000)]
+write_pair("long", "large.json", records)
+recovered = measured(["drive", "large.json", "long", "--pair"])
+thinned = measured(["thin", "large.json", "long"])
+again = measured(["drive", "large.json", "long", "--pair"])
+print("a pair room of %d records: recovered with status %d in %.2f s, at most %.0f MB; thinned with status %d in %.2f s (%.2f times), at most %.0f MB (%.2f times), %s; recovered then with status %d in %.2f s" % (
+    len(records), recovered[0], recovered[1], recovered[2], thinned[0], thinned[1], thinned[1] / recovered[1], thinned[2], thinned[2] / recovered[2], thinned[3].decode().strip(), again[0], again[1]))
+del records
+
+store = 'text 1 [{"cmd":"Set","default":0,"key":"k%d","operations":[{"operation":"replace","value":%d}],"want_reply":false}]\n'
+get = 'text 1 [{"cmd":"Get","keys":["k0","k1","k2"]}]\n'
+got = re.compile(r'"keys":\{"k0":([0-9]+),"k1":([0-9]+),"k2":([0-9]+)\}')
+write_pair("thin", "killed.json", [])
+shown, values, missing, wrong, switched, refused = set(), [0, 0, 0], 0, 0, 0, 0
+longest = 0.05
+for run in range(kills):
+    first = run % 900 * 10 + 1
+    lines = "open\ntext 1 %s\n" % connect + "".join(check % n for n in range(first, first + 10))
+    for n in range(60):
+        values[n % 3] = run * 60 + n
+        lines += store % (n % 3, values[n % 3])
+    status, _, _, told = measured(["drive", "killed.json", "thin", "--pair"], lines + "take 1\n")
+    refused += status != 0
+    shown |= set(range(first, first + 10))
+    before = content("thin")
+    begin = time.time()
+    child = subprocess.Popen([program, "thin", path("killed.json"), path("thin")], stdout=subprocess.DEVNULL)
+    if run:
+        time.sleep(random.uniform(0.0, 1.2 * longest))
+        child.kill()
+    child.wait()
+    if not run:
+        longest = time.time() - begin
+    switched += content("thin") != before
+    status, _, _, told = measured(["drive", "killed.json", "thin", "--pair"], "open\ntext 1 %s\ntake 1\n" % connect + get + "take 1\n")
+    refused += status != 0
+    text = told.decode()
+    checked = found_first.search(text)
+    missing += len(shown - set(map(int, filter(None, checked.group(1).split(","))))) if checked else len(shown)
+    kept = got.search(text)
+    wrong += not kept or list(map(int, kept.groups())) != values
+print("%d runs of thin that were killed, %d of which had written CHOICE: %d runs of the room refused, %d checks that were shown are missing, %d times a value was another" % (kills, switched, refused, missing, wrong))
 PY

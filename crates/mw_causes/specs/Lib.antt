@@ -6,3 +6,4 @@ pub mod GenerateCauses
 pub mod CheckCauses
 pub mod DriveCauses
 pub mod RoomCauses
+pub mod PairCauses

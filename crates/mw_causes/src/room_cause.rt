@@ -1,10 +1,12 @@
 //! Why `new-room` makes no room.
 ghost use Rattle.std.specs.Prelude.{◌≡◌};
+ghost use Rattle.mw_causes.specs.PairCauses.{IsOfMaking, making_stop as making_stop_lem};
 ghost use Rattle.mw_causes.specs.RoomCauses.{open_stop};
 
 use crate::seed_cause::SeedCause;
 use crate::stop::{Cause, Stop};
 use mw_base::Memory;
+use mw_checkpoint::PairError;
 use mw_journal::OpenError;
 use std::alloc::Global;
 
@@ -70,5 +72,24 @@ pub fn room_stop(error: OpenError) -> Stop<RoomCause>
         OpenError::NotJournal { at: _ } => Stop::Memory,
         OpenError::OtherSeed { found: _ } => Stop::Memory,
         OpenError::Memory => Stop::Memory,
+    }
+}
+
+/// The stop for an error of making the three journals of a pair room: a fault of a disk is a fault.
+pub fn making_stop(error: PairError) -> Stop<RoomCause>
+    requires { IsOfMaking error }
+    ensures { result ≡ making_stop_lem error }
+{
+    match error {
+        PairError::DiskFault { place: _ } => Stop::Fault,
+        PairError::NotEmpty { place: _ } => Stop::Refused {
+            cause: RoomCause::NotEmpty,
+        },
+        PairError::NotJournal { place: _, at: _ }
+        | PairError::OtherSeed { place: _, found: _ }
+        | PairError::BadChoice { at: _ }
+        | PairError::BadRecord { at: _ }
+        | PairError::ChoiceFull { len: _ } => unreachable!(),
+        PairError::Memory => Stop::Memory,
     }
 }

@@ -58,6 +58,7 @@ fn seed_of(alloc: Global, bytes: &[u8]) -> Result<Multidata, Stop<SeedCause>>
 }
 
 /// The bytes of a seed file, and what they hold.
+#[derive(Drop)]
 pub struct SeedBytes {
     /// The bytes.
     pub bytes: Bytes,

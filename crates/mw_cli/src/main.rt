@@ -59,6 +59,8 @@ mod new_room_tests;
 #[cfg(test)]
 mod overrun_tests;
 #[cfg(test)]
+mod pair_tests;
+#[cfg(test)]
 mod party_tests;
 #[cfg(test)]
 mod permission_tests;

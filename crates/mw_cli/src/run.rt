@@ -1,4 +1,4 @@
-ghost use Rattle.std.specs.Prelude.{◌≡◌, ◌⊎◌, ◌<◌, ◌+◌, [], ℕ, List};
+ghost use Rattle.std.specs.Prelude.{◌≡◌, ◌⊎◌, ◌<◌, ◌+◌, [], ℕ, List, None, Some, false, true};
 ghost use Rattle.mw_edges.specs.Causes.{Rose};
 ghost use Rattle.mw_causes.specs.Ends.{told_by, RefusalEnds};
 ghost use Rattle.mw_words.specs.declared.command_line.DriveWords.{DriveWords};
@@ -14,13 +14,18 @@ ghost use Rattle.mw_offline.specs.FilesAround.{files_around};
 ghost use Rattle.mw_offline.specs.NewRooms.{NewRoomEnds};
 ghost use Rattle.mw_words.specs.declared.command_line.ServeWords.{ServeWords};
 ghost use Rattle.mw_words.specs.declared.command_line.StressWords.{StressWords};
+ghost use Rattle.mw_words.specs.declared.command_line.ThinWords.{ThinWords};
+ghost use Rattle.mw_offline.specs.PairDriving.{PairDriveEnds, pair_choice};
+ghost use Rattle.mw_offline.specs.PairRooms.{PairRoomEnds};
 ghost use Rattle.mw_offline.specs.Stressing.{StressEnds};
-ghost use Rattle.mw_words.specs.Words.{IsGenerate, IsCheck, IsReach, IsNewRoom, IsDrive, IsServe, IsStress};
+ghost use Rattle.mw_offline.specs.ThinRuns.{ThinEnds};
+ghost use Rattle.mw_words.specs.Words.{IsGenerate, IsCheck, IsReach, IsNewRoom, IsDrive, IsServe, IsStress, IsThin};
 ghost use Rattle.mw_words.specs.Lines.{IsNoCommand, HasRanges, HasTries};
 ghost use Rattle.mw_session.specs.Desks.{AreAll, IsWithin};
 ghost use Rattle.mw_session.specs.Numbers.{all_numbers, NoneTwice};
 ghost use Rattle.mw_session.specs.Rooms.{count_all};
 ghost use Rattle.mw_serve.specs.Hosted.{ListensAfter};
+ghost use Rattle.mw_serve.specs.PairServing.{PairJournalFound, PairServeEnds};
 ghost use Rattle.mw_serve.specs.Serving.{JournalFound, ServeEnds};
 ghost use Rattle.mw_cli.specs.Ends.{around, LineEnds};
 
@@ -28,7 +33,9 @@ use mw_base::{List, Text};
 use mw_causes::{end_without_memory, tell};
 use mw_edges::{Folder, Sink, Source};
 use mw_link::Gate;
-use mw_offline::{cmd_check, cmd_drive, cmd_generate, cmd_new_room, cmd_reach, cmd_stress};
+use mw_offline::{
+    cmd_check, cmd_drive, cmd_generate, cmd_new_room, cmd_reach, cmd_stress, cmd_thin,
+};
 use mw_serve::cmd_serve;
 use mw_session::Served;
 use mw_words::{CommandLine, WordsError, read_words};
@@ -66,6 +73,11 @@ where
         F.Drive.may_leave status
         (files_around F.holds F.images F.is_open F.may_fail F.faults folder.old folder.new)
         words result.2 (told_by O.held O.faults out.old out.new)
+        (told_by E.held E.refusals err.old err.new))
+        (λ status words. PairServeEnds G.Line.heard G.Line.sent G.Line.faults G.Line.opened
+        G.Line.is_shut F.Drive.may_leave status
+        (files_around F.holds F.images F.is_open F.may_fail F.faults folder.old folder.new)
+        words result.2 (told_by O.held O.faults out.old out.new)
         (told_by E.held E.refusals err.old err.new))) }
     ensures input { ((files : DriveWords) → line.now ≡ CommandLine.Drive files → ⊥) → input.new
         ≡ input.old }
@@ -75,7 +87,8 @@ where
     ensures same { ((wanted : GenerateWords) → line.now ≡ CommandLine.Generate wanted → ⊥)
         → ((room : NewRoomWords) → line.now ≡ CommandLine.NewRoom room → ⊥)
         → ((files : DriveWords) → line.now ≡ CommandLine.Drive files → ⊥)
-        → ((room : ServeWords) → line.now ≡ CommandLine.Serve room → ⊥) → (name : List ℕ)
+        → ((room : ServeWords) → line.now ≡ CommandLine.Serve room → ⊥)
+        → ((room : ThinWords) → line.now ≡ CommandLine.Thin room → ⊥) → (name : List ℕ)
         → F.holds folder.new name ≡ F.holds folder.old name }
     ensures gate { ((room : ServeWords) → line.now ≡ CommandLine.Serve room → ⊥)
         → (result.1 ≡ gate) × (result.2 ≡ []) }
@@ -85,7 +98,11 @@ where
         → IsWithin room.accept (count_all result.2) × (result.0 ≡ 0
         → AreAll room.accept (count_all result.2) (G.left result.1) (G.ended result.1)) }
     ensures listened { (room : ServeWords) → line.now ≡ CommandLine.Serve room
-        → ListensAfter (JournalFound
+        → room.pair ≡ false → ListensAfter (JournalFound
+        (files_around F.holds F.images F.is_open F.may_fail F.faults folder.old folder.new) room)
+        (result.0 ≡ 0) (G.listened gate) (G.listened result.1) room.bind }
+    ensures pair_listened { (room : ServeWords) → line.now ≡ CommandLine.Serve room
+        → room.pair ≡ true → ListensAfter (PairJournalFound
         (files_around F.holds F.images F.is_open F.may_fail F.faults folder.old folder.new) room)
         (result.0 ≡ 0) (G.listened gate) (G.listened result.1) room.bind }
 {
@@ -129,6 +146,13 @@ where
         CommandLine::Stress(words) => {
             (cmd_stress(alloc, words, out, err), gate, List::new(alloc))
         }
+        CommandLine::Thin(words) => {
+            (
+                cmd_thin(alloc, words, folder, out, err),
+                gate,
+                List::new(alloc),
+            )
+        }
     }
 }
 
@@ -147,7 +171,8 @@ where
 /// written; with 5 or 6 it is as it was or is written, or the folder refused to write it; and else
 /// it isn't touched. `new-room` changes one, the journal that its words name, and only where no
 /// byte stands in it and the seed file is accepted. `drive` and `serve` change one, the journal that
-/// their words name, and not where the seed file is refused. The others change none. `drive` alone
+/// their words name, and not where the seed file is refused. With `--pair` these three change the
+/// three files of a pair room, and so does `thin`. The others change none. `drive` alone
 /// reads the input, and not where the seed file is refused, or the journal as the run begins.
 /// `serve` alone uses the gate. `stress` touches neither files nor input.
 ///
@@ -180,20 +205,38 @@ where
     ensures reach { (players : List ℕ) → IsReach words.now players
         → ReachEnds result.0 (F.holds folder.old) (F.may_fail folder.old) players
         (told_by O.held O.faults out.old out.new) (told_by E.held E.refusals err.old err.new) }
-    ensures new_room { (room : NewRoomWords) → IsNewRoom words.now room
+    ensures new_room { (room : NewRoomWords) → IsNewRoom words.now room → room.pair ≡ false
         → NewRoomEnds result.0
         (files_around F.holds F.images F.is_open F.may_fail F.faults folder.old folder.new) room
         (told_by O.held O.faults out.old out.new) (told_by E.held E.refusals err.old err.new) }
-    ensures drive { (files : DriveWords) → IsDrive words.now files
+    ensures new_pair { (room : NewRoomWords) → IsNewRoom words.now room → room.pair ≡ true
+        → PairRoomEnds result.0
+        (files_around F.holds F.images F.is_open F.may_fail F.faults folder.old folder.new) room
+        (told_by O.held O.faults out.old out.new) (told_by E.held E.refusals err.old err.new) }
+    ensures drive { (files : DriveWords) → IsDrive words.now files → pair_choice files ≡ None
         → DriveEnds S.left result.0
         (files_around F.holds F.images F.is_open F.may_fail F.faults folder.old folder.new) files
         input.old input.new (told_by O.held O.faults out.old out.new)
         (told_by E.held E.refusals err.old err.new) }
+    ensures drive_pair { (files : DriveWords) (choice : List ℕ) → IsDrive words.now files
+        → pair_choice files ≡ Some choice → PairDriveEnds S.left result.0
+        (files_around F.holds F.images F.is_open F.may_fail F.faults folder.old folder.new)
+        files.multidata choice input.old input.new (told_by O.held O.faults out.old out.new)
+        (told_by E.held E.refusals err.old err.new) }
+    ensures thin { (room : ThinWords) → IsThin words.now room → ThinEnds result.0
+        (files_around F.holds F.images F.is_open F.may_fail F.faults folder.old folder.new) room
+        (told_by O.held O.faults out.old out.new) (told_by E.held E.refusals err.old err.new) }
     ensures stress { (asked : StressWords) → IsStress words.now asked
         → StressEnds result.0 asked (told_by O.held O.faults out.old out.new)
         (told_by E.held E.refusals err.old err.new) }
-    ensures serve { (room : ServeWords) → IsServe words.now room
+    ensures serve { (room : ServeWords) → IsServe words.now room → room.pair ≡ false
         → ServeEnds G.Line.heard G.Line.sent G.Line.faults G.Line.opened G.Line.is_shut
+        F.Drive.may_leave result.0
+        (files_around F.holds F.images F.is_open F.may_fail F.faults folder.old folder.new) room
+        result.2 (told_by O.held O.faults out.old out.new)
+        (told_by E.held E.refusals err.old err.new) }
+    ensures serve_pair { (room : ServeWords) → IsServe words.now room → room.pair ≡ true
+        → PairServeEnds G.Line.heard G.Line.sent G.Line.faults G.Line.opened G.Line.is_shut
         F.Drive.may_leave result.0
         (files_around F.holds F.images F.is_open F.may_fail F.faults folder.old folder.new) room
         result.2 (told_by O.held O.faults out.old out.new)
@@ -201,8 +244,12 @@ where
     ensures served { (room : ServeWords) → IsServe words.now room
         → IsWithin room.accept (count_all result.2) × (result.0 ≡ 0
         → AreAll room.accept (count_all result.2) (G.left result.1) (G.ended result.1)) }
-    ensures listened { (room : ServeWords) → IsServe words.now room
+    ensures listened { (room : ServeWords) → IsServe words.now room → room.pair ≡ false
         → ListensAfter (JournalFound
+        (files_around F.holds F.images F.is_open F.may_fail F.faults folder.old folder.new) room)
+        (result.0 ≡ 0) (G.listened gate) (G.listened result.1) room.bind }
+    ensures pair_listened { (room : ServeWords) → IsServe words.now room → room.pair ≡ true
+        → ListensAfter (PairJournalFound
         (files_around F.holds F.images F.is_open F.may_fail F.faults folder.old folder.new) room)
         (result.0 ≡ 0) (G.listened gate) (G.listened result.1) room.bind }
     ensures numbers { NoneTwice (all_numbers result.2) }
@@ -222,7 +269,8 @@ where
     ensures same { ((wanted : GenerateWords) → IsGenerate words.now wanted → ⊥)
         → ((room : NewRoomWords) → IsNewRoom words.now room → ⊥)
         → ((files : DriveWords) → IsDrive words.now files → ⊥)
-        → ((room : ServeWords) → IsServe words.now room → ⊥) → (name : List ℕ)
+        → ((room : ServeWords) → IsServe words.now room → ⊥)
+        → ((room : ThinWords) → IsThin words.now room → ⊥) → (name : List ℕ)
         → F.holds folder.new name ≡ F.holds folder.old name }
 {
     match read_words(alloc, words) {

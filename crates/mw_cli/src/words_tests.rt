@@ -18,6 +18,7 @@ fn names_of(line: &CommandLine) -> (&'static str, &str, Option<&str>) {
         },
         CommandLine::Serve(w) => ("serve", w.multidata.as_str(), Some(w.journal.as_str())),
         CommandLine::Stress(_) => ("stress", "", None),
+        CommandLine::Thin(w) => ("thin", w.multidata.as_str(), Some(w.choice.as_str())),
     }
 }
 

@@ -66,9 +66,11 @@ abbrev pub slot_of : Seed → ℕ → Option Slot
 slot_of seed zero = None
 slot_of seed (suc before) = slice_get seed.slots before
 
--- the group of a number past the slots', since groups are numbered on from them
+-- the group of a number; groups are numbered on from the slots
 abbrev pub group_of : Seed → ℕ → Option Group
-group_of seed number = slice_get seed.groups (number - suc (length seed.slots))
+group_of seed number =
+    if nat_le number (length seed.slots) then None
+    else slice_get seed.groups (number - suc (length seed.slots))
 
 abbrev pub has_number : List ℕ → ℕ → Bool
 has_number [] number = false

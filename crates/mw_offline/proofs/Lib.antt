@@ -8,3 +8,5 @@ pub mod OneRun
 pub mod WholeLives
 pub mod Sessions
 pub mod NeverFull
+pub mod PairFiles
+pub mod PairDriving

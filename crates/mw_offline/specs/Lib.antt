@@ -7,3 +7,7 @@ pub mod NewRooms
 pub mod Laws
 pub mod WholeLives
 pub mod Stressing
+pub mod PairFiles
+pub mod PairRooms
+pub mod PairDriving
+pub mod ThinRuns

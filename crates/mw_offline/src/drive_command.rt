@@ -1,5 +1,5 @@
 //! The command `drive`.
-ghost use Rattle.std.specs.Prelude.{◌≡◌, ◌≤◌, ◌⊎◌, [], Some, Ok, IfErr, OnOk, ⊤};
+ghost use Rattle.std.specs.Prelude.{◌≡◌, ◌≤◌, ◌⊎◌, [], ℕ, List, MatchOption, None, Some, Ok, IfErr, OnOk, ⊤};
 ghost use Rattle.mw_edges.specs.Causes.{Rose};
 ghost use Rattle.mw_multidata.specs.Digest.{digest_of};
 ghost use Rattle.mw_multidata.specs.SeedOf.{SeedOf};
@@ -10,8 +10,10 @@ ghost use Rattle.mw_offline.specs.FilesAround.{files_around};
 ghost use Rattle.mw_offline.specs.Driving.{NoImages, IsNewJournal, JournalLeaves, JournalKeeps};
 ghost use Rattle.mw_offline.specs.Driving.{run_of, RunsToEnd, RunsShort};
 ghost use Rattle.mw_offline.specs.Driving.{DriveDone, DriveStopped, DriveEnds, DriveKeeps};
+ghost use Rattle.mw_offline.specs.PairDriving.{PairDriveEnds, pair_choice};
 
 use crate::creating::create_on;
+use crate::drive_pair::drive_pair;
 use mw_base::{Bytes, Text};
 use mw_causes::{DriveCause, SeedBytes, Stop, end, read_seed_bytes};
 use mw_disk::SteadyDisk;
@@ -158,22 +160,19 @@ fn drive<F: Folder, S: Source, O: Sink>(
     Ok(drive_room(alloc, seed, &words.journal, folder, input, out)?)
 }
 
-/// Runs the script of the input on the room of a seed file, and prints the messages that are taken.
-/// The room is kept in a journal: in that of a file, or in a new one in memory.
-///
-/// The seed file is judged first, then the journal, and then the script, which is judged whole
-/// before its first line runs. A journal is judged after its first gate that isn't open was written
-/// 0.
-///
-/// The status is 0 where all is done and the input read to its end; 5 where the folder, the journal's
-/// disk, the input or the out sink failed; 6 where memory ran out; 7 where the seed file, the journal
-/// or the script is refused; 8 where the next batch would pass the journal's limit, or the room has
-/// had 2^63 calls. With a status other than 0 the error sink gets that status's line, or a front of
-/// it where it refuses.
-///
-/// Whatever the status is, what a crash may leave of the journal's file stays settled, and keeps all
-/// that was shown by what was put.
-pub fn cmd_drive<F: Folder, S: Source, O: Sink, E: Sink>(
+/// The name of CHOICE, where the words name a pair room.
+fn choice_of(words: &DriveWords) -> Option<&Text>
+    ensures { MatchOption result (pair_choice words.now ≡ None)
+        (λ choice. pair_choice words.now ≡ Some choice.now) }
+{
+    if !words.pair {
+        return None;
+    }
+    words.journal.as_ref()
+}
+
+/// Runs the script of the input on a room of one journal, and tells how it ended.
+fn drive_single<F: Folder, S: Source, O: Sink, E: Sink>(
     alloc: Global,
     words: &DriveWords,
     folder: &mut F,
@@ -192,4 +191,72 @@ pub fn cmd_drive<F: Folder, S: Source, O: Sink, E: Sink>(
 {
     let outcome = drive(alloc, words, folder, input, out);
     end(alloc, err, outcome)
+}
+
+/// Runs the script of the input on a pair room, and tells how it ended.
+fn drive_chosen<F: Folder, S: Source, O: Sink, E: Sink>(
+    alloc: Global,
+    multidata: &Text,
+    choice: &Text,
+    folder: &mut F,
+    input: &mut S,
+    out: &mut O,
+    err: &mut E,
+) -> u8
+    ensures ends { PairDriveEnds S.left result
+        (files_around F.holds F.images F.is_open F.may_fail F.faults folder.old folder.new)
+        multidata.now choice.now input.old input.new (told_by O.held O.faults out.old out.new)
+        (told_by E.held E.refusals err.old err.new) }
+    ensures fault { result ≡ 5
+        → Rose (F.faults folder.old) (F.faults folder.new)
+        ⊎ (Rose (S.faults input.old) (S.faults input.new)
+        ⊎ Rose (O.faults out.old) (O.faults out.new)) }
+{
+    let outcome = drive_pair(alloc, multidata, choice, folder, input, out);
+    end(alloc, err, outcome)
+}
+
+/// Runs the script of the input on the room of a seed file, and prints the messages that are taken.
+/// The room is kept in a journal: in that of a file, or in a new one in memory. With `--pair` the
+/// words name CHOICE, and the journal is the one that CHOICE names; without a name `--pair` is
+/// ignored.
+///
+/// The seed file is judged first, then CHOICE, once the three files of a pair room are opened, then
+/// the journal, and then the script, which is judged whole before its first line runs. A journal is
+/// judged after its first gate that isn't open was written 0.
+///
+/// The status is 0 where all is done and the input read to its end; 5 where the folder, the journal's
+/// disk, the input or the out sink failed; 6 where memory ran out; 7 where the seed file, the journal
+/// or the script is refused; 8 where the next batch would pass the journal's limit, or the room has
+/// had 2^63 calls. With a status other than 0 the error sink gets that status's line, or a front of
+/// it where it refuses.
+///
+/// Whatever the status is, what a crash may leave of the journal's file stays settled, and keeps all
+/// that was shown by what was put.
+pub fn cmd_drive<F: Folder, S: Source, O: Sink, E: Sink>(
+    alloc: Global,
+    words: &DriveWords,
+    folder: &mut F,
+    input: &mut S,
+    out: &mut O,
+    err: &mut E,
+) -> u8
+    ensures ends { pair_choice words.now ≡ None → DriveEnds S.left result
+        (files_around F.holds F.images F.is_open F.may_fail F.faults folder.old folder.new)
+        words.now input.old input.new (told_by O.held O.faults out.old out.new)
+        (told_by E.held E.refusals err.old err.new) }
+    ensures pair { (choice : List ℕ) → pair_choice words.now ≡ Some choice
+        → PairDriveEnds S.left result
+        (files_around F.holds F.images F.is_open F.may_fail F.faults folder.old folder.new)
+        words.now.multidata choice input.old input.new (told_by O.held O.faults out.old out.new)
+        (told_by E.held E.refusals err.old err.new) }
+    ensures fault { result ≡ 5
+        → Rose (F.faults folder.old) (F.faults folder.new)
+        ⊎ (Rose (S.faults input.old) (S.faults input.new)
+        ⊎ Rose (O.faults out.old) (O.faults out.new)) }
+{
+    match choice_of(words) {
+        Some(choice) => { drive_chosen(alloc, &words.multidata, choice, folder, input, out, err) }
+        None => drive_single(alloc, words, folder, input, out, err),
+    }
 }

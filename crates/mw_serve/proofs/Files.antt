@@ -201,7 +201,7 @@ finishes_ok (Ok n) old new (Err s) total P f done = tt
 finishes_ok (Err e) old new (Ok u) total P f done = let is : Ok u ≡ Err (drive_stop e) = f.0 in cc
 finishes_ok (Err e) old new (Err s) total P f done = tt
 
-finishes_err : (outcome : Result ℕ DriveError) (old new : Option (List ℕ)) (answer : Result (Unit {0}) (Stop DriveCause)) (total : ℕ) (P : Type 0) (Q : DriveError → Type 0) (R : Stop DriveCause → Type 0)
+pub finishes_err : (outcome : Result ℕ DriveError) (old new : Option (List ℕ)) (answer : Result (Unit {0}) (Stop DriveCause)) (total : ℕ) (P : Type 0) (Q : DriveError → Type 0) (R : Stop DriveCause → Type 0)
     → Finishes outcome old new answer → IfOk outcome (λ n. (n ≡ total) × P) → IfErr outcome Q
     → ((error : DriveError) (s : Stop DriveCause) → s ≡ drive_stop error → Keeps old new → Q error → R s)
     → (P → (s : Stop DriveCause) → (s ≡ stop.Fault) ⊎ (s ≡ stop.Memory) → PutsFront old new (sessions_line total) → R s)

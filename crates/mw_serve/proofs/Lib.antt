@@ -6,3 +6,4 @@ mod Hosts
 mod Files
 pub mod Starting
 pub mod WholeLives
+pub mod Pairs

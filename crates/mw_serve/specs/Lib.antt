@@ -4,3 +4,4 @@ pub mod Hosted
 pub mod Runs
 pub mod Serving
 pub mod WholeLives
+pub mod PairServing

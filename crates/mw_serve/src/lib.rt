@@ -4,6 +4,7 @@
 mod hosting;
 mod laws;
 mod serve_command;
+mod serve_pair;
 
 pub use laws::all_runs_keep;
 pub use serve_command::cmd_serve;

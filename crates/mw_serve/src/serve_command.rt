@@ -1,5 +1,5 @@
 //! The command `serve`.
-ghost use Rattle.std.specs.Prelude.{◌≡◌, ◌⊎◌, ◌<◌, ◌≤◌, ◌+◌, ℕ, List, [], Some, Ok, Err, IfOk, IfErr, OnOk};
+ghost use Rattle.std.specs.Prelude.{◌≡◌, ◌⊎◌, ◌<◌, ◌≤◌, ◌+◌, ℕ, List, [], Some, Ok, Err, IfOk, IfErr, OnOk, false, true};
 ghost use Rattle.std.specs.Io.KnownBytes.{Appends, Keeps};
 ghost use Rattle.std.specs.Prelude.{IsTrue, is_ok, is_some, string_bytes};
 ghost use Rattle.mw_edges.specs.Causes.{PutsFront, Rose};
@@ -16,12 +16,14 @@ ghost use Rattle.mw_causes.specs.Ends.{told_by};
 ghost use Rattle.mw_offline.specs.Driving.{JournalLeaves};
 ghost use Rattle.mw_offline.specs.FilesAround.{files_around};
 ghost use Rattle.mw_serve.specs.Hosted.{ListensAfter};
+ghost use Rattle.mw_serve.specs.PairServing.{PairJournalFound, PairServeEnds};
 ghost use Rattle.mw_serve.specs.Sent.{KeepsSent};
 ghost use Rattle.mw_serve.specs.Serving.{FileFinds, FileHostsShort, FileHostsToEnd, Finishes};
 ghost use Rattle.mw_serve.specs.Serving.{JournalFound, ServeEnds, ServeKeeps};
 ghost use Rattle.mw_serve.specs.Serving.{SeedStopped, ServeDone, ServeStopped, sessions_line};
 
 use crate::hosting::{Ending, Terms, host_on};
+use crate::serve_pair::serve_pair;
 use mw_base::{List, Memory, Text};
 use mw_causes::{DriveCause, SeedBytes, Stop, end, put_text, read_seed_bytes};
 use mw_drive::DriveError;
@@ -141,7 +143,7 @@ fn sessions_text(alloc: Global, count: u64) -> Result<String, Memory>
 }
 
 /// Puts how many links were accepted, where that is all.
-fn finish<O: Sink>(
+pub(crate) fn finish<O: Sink>(
     alloc: Global,
     out: &mut O,
     outcome: Result<u64, DriveError>,
@@ -212,24 +214,8 @@ where
     }
 }
 
-/// Hosts the room of a seed file, which is kept in a journal: it listens at the address that the
-/// words name, and serves each link by a session, as many at once as there are workers. It ends
-/// once as many links were accepted as the words say, or where the gate gives no more, and prints
-/// how many there were. The gate is handed back, and for each worker the links that it served.
-///
-/// The seed file is judged first, then the journal; both before the gate listens, which it doesn't
-/// where one of them is refused. A journal is judged after its first gate that isn't open was
-/// written 0.
-///
-/// The status is 0 where all is done; 5 where the folder, the journal's disk, the gate or the out
-/// sink failed; 6 where memory ran out; 7 where the seed file or the journal is refused; 8 where the
-/// next batch would pass the journal's limit, or the room has had 2^63 calls. A room that has
-/// stopped is told first, then the gate, then memory. A link's fault changes no status. With a
-/// status other than 0 the error sink gets that status's line, or a front of it where it refuses.
-///
-/// Whatever the status is, what a crash may leave of the journal's file stays settled, and keeps all
-/// that was sent.
-pub fn cmd_serve<F: Folder, G: Gate + Send, O: Sink, E: Sink, R: Threads + Wait + Sync>(
+/// Hosts a room of one journal, and tells how it ended.
+fn serve_single<F: Folder, G: Gate + Send, O: Sink, E: Sink, R: Threads + Wait + Sync>(
     rt: &R,
     alloc: Global,
     words: &ServeWords,
@@ -262,4 +248,106 @@ where
 {
     let (outcome, gate, served) = serve(rt, alloc, words, folder, gate, out);
     (end(alloc, err, outcome), gate, served)
+}
+
+/// Hosts a pair room, and tells how it ended.
+fn serve_chosen<F: Folder, G: Gate + Send, O: Sink, E: Sink, R: Threads + Wait + Sync>(
+    rt: &R,
+    alloc: Global,
+    words: &ServeWords,
+    folder: &mut F,
+    gate: G,
+    out: &mut O,
+    err: &mut E,
+) -> (u8, G, List<List<Served<G::Line>>>)
+where
+    F::Drive: Drop,
+    requires workers { 1 ≤ words.now.workers }
+    requires faults { G.faults gate ≡ 0 }
+    requires given { G.given gate ≡ 0 }
+    ensures ends { PairServeEnds G.Line.heard G.Line.sent G.Line.faults G.Line.opened
+        G.Line.is_shut F.Drive.may_leave result.0
+        (files_around F.holds F.images F.is_open F.may_fail F.faults folder.old folder.new)
+        words.now result.2 (told_by O.held O.faults out.old out.new)
+        (told_by E.held E.refusals err.old err.new) }
+    ensures numbers { NoneTwice (all_numbers result.2) }
+    ensures given { G.given result.1 ≡ count_all result.2 }
+    ensures within { IsWithin words.now.accept (count_all result.2) }
+    ensures full { result.0 ≡ 0 → AreAll words.now.accept (count_all result.2) (G.left result.1)
+        (G.ended result.1) }
+    ensures listened { ListensAfter (PairJournalFound
+        (files_around F.holds F.images F.is_open F.may_fail F.faults folder.old folder.new)
+        words.now) (result.0 ≡ 0) (G.listened gate) (G.listened result.1) words.now.bind }
+    ensures fault { result.0 ≡ 5
+        → Rose (F.faults folder.old) (F.faults folder.new)
+        ⊎ ((0 < G.faults result.1) ⊎ Rose (O.faults out.old) (O.faults out.new)) }
+{
+    let (outcome, gate, served) = serve_pair(rt, alloc, words, folder, gate, out);
+    (end(alloc, err, outcome), gate, served)
+}
+
+/// Hosts the room of a seed file, which is kept in a journal: it listens at the address that the
+/// words name, and serves each link by a session, as many at once as there are workers. It ends
+/// once as many links were accepted as the words say, or where the gate gives no more, and prints
+/// how many there were. The gate is handed back, and for each worker the links that it served.
+///
+/// With `--pair` the words name CHOICE, and the journal is the one that CHOICE names; nobody else
+/// opens the three files as disks meanwhile.
+///
+/// The seed file is judged first, then CHOICE, once the three files of a pair room are opened, and
+/// then the journal; all before the gate listens, which it doesn't
+/// where one of them is refused. A journal is judged after its first gate that isn't open was
+/// written 0.
+///
+/// The status is 0 where all is done; 5 where the folder, the journal's disk, the gate or the out
+/// sink failed; 6 where memory ran out; 7 where the seed file or the journal is refused; 8 where the
+/// next batch would pass the journal's limit, or the room has had 2^63 calls. A room that has
+/// stopped is told first, then the gate, then memory. A link's fault changes no status. With a
+/// status other than 0 the error sink gets that status's line, or a front of it where it refuses.
+///
+/// Whatever the status is, what a crash may leave of the journal's file stays settled, and keeps all
+/// that was sent.
+pub fn cmd_serve<F: Folder, G: Gate + Send, O: Sink, E: Sink, R: Threads + Wait + Sync>(
+    rt: &R,
+    alloc: Global,
+    words: &ServeWords,
+    folder: &mut F,
+    gate: G,
+    out: &mut O,
+    err: &mut E,
+) -> (u8, G, List<List<Served<G::Line>>>)
+where
+    F::Drive: Drop,
+    requires workers { 1 ≤ words.now.workers }
+    requires faults { G.faults gate ≡ 0 }
+    requires given { G.given gate ≡ 0 }
+    ensures ends { words.now.pair ≡ false → ServeEnds G.Line.heard G.Line.sent G.Line.faults
+        G.Line.opened G.Line.is_shut F.Drive.may_leave result.0
+        (files_around F.holds F.images F.is_open F.may_fail F.faults folder.old folder.new)
+        words.now result.2 (told_by O.held O.faults out.old out.new)
+        (told_by E.held E.refusals err.old err.new) }
+    ensures pair { words.now.pair ≡ true → PairServeEnds G.Line.heard G.Line.sent G.Line.faults
+        G.Line.opened G.Line.is_shut F.Drive.may_leave result.0
+        (files_around F.holds F.images F.is_open F.may_fail F.faults folder.old folder.new)
+        words.now result.2 (told_by O.held O.faults out.old out.new)
+        (told_by E.held E.refusals err.old err.new) }
+    ensures numbers { NoneTwice (all_numbers result.2) }
+    ensures given { G.given result.1 ≡ count_all result.2 }
+    ensures within { IsWithin words.now.accept (count_all result.2) }
+    ensures full { result.0 ≡ 0 → AreAll words.now.accept (count_all result.2) (G.left result.1)
+        (G.ended result.1) }
+    ensures listened { words.now.pair ≡ false → ListensAfter (JournalFound
+        (files_around F.holds F.images F.is_open F.may_fail F.faults folder.old folder.new)
+        words.now) (result.0 ≡ 0) (G.listened gate) (G.listened result.1) words.now.bind }
+    ensures pair_listened { words.now.pair ≡ true → ListensAfter (PairJournalFound
+        (files_around F.holds F.images F.is_open F.may_fail F.faults folder.old folder.new)
+        words.now) (result.0 ≡ 0) (G.listened gate) (G.listened result.1) words.now.bind }
+    ensures fault { result.0 ≡ 5
+        → Rose (F.faults folder.old) (F.faults folder.new)
+        ⊎ ((0 < G.faults result.1) ⊎ Rose (O.faults out.old) (O.faults out.new)) }
+{
+    if words.pair {
+        return serve_chosen(rt, alloc, words, folder, gate, out, err);
+    }
+    serve_single(rt, alloc, words, folder, gate, out, err)
 }

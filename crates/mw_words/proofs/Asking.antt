@@ -1,12 +1,12 @@
 -- Words ask for one thing at most.
-use Rattle.std.proofs.Common.{◌≡◌, ◌<◌, ◌≤◌, ◌^◌, ◌∙◌, ℕ, List, [], ◌∷◌, Option, Some, None, IfSome, true, false, refl, ap, sym, arith, codes, decimal, slice_get}
+use Rattle.std.proofs.Common.{◌≡◌, ◌<◌, ◌≤◌, ◌^◌, ◌∙◌, ℕ, List, [], ◌∷◌, Bool, Option, Some, None, IfSome, true, false, refl, ap, sym, arith, codes, decimal, slice_get}
 use Rattle.std.proofs.lemmas.Fmt.{decimal_injective}
 use Rattle.std.proofs.lemmas.Slice.Eq.{bytes_eq-Decides}
 use Rattle.std.specs.Str.{bytes_eq}
 use Rattle.std.specs.Borrow.{Bor}
 use Rattle.clap.specs.Walk.{texts}
-use Rattle.mw_words.specs.Words.{IsGenerate, IsCheck, IsNewRoom, IsDrive, IsServe, IsStress}
-use Rattle.mw_words.specs.Numbers.{spelt}
+use Rattle.mw_words.specs.Words.{IsGenerate, IsCheck, IsNewRoom, IsDrive, IsServe, IsStress, IsThin}
+use Rattle.mw_words.specs.Numbers.{spelt, said}
 use Rattle.mw_words.specs.Lines.{AsksFor, HasOneMeaning, HasRanges, HasTries}
 use Rattle.mw_words.specs.declared.command_line.CommandLine.{CommandLine}
 use Rattle.mw_words.specs.declared.command_line.GenerateWords.{GenerateWords}
@@ -15,7 +15,8 @@ use Rattle.mw_words.specs.declared.command_line.NewRoomWords.{NewRoomWords}
 use Rattle.mw_words.specs.declared.command_line.DriveWords.{DriveWords}
 use Rattle.mw_words.specs.declared.command_line.ServeWords.{ServeWords}
 use Rattle.mw_words.specs.declared.command_line.StressWords.{StressWords}
-use Rattle.mw_words.specs.declared.command_line.CommandLine.TheVariants.{Generate, Check, Reach, NewRoom, Drive, Serve, Stress}
+use Rattle.mw_words.specs.declared.command_line.CommandLine.TheVariants.{Generate, Check, Reach, NewRoom, Drive, Serve, Stress, Thin}
+use Rattle.mw_words.specs.declared.command_line.ThinWords.{ThinWords}
 
 -- the first of borrowed words
 pub first_text : (words : List (Bor (List ℕ))) (word : Bor (List ℕ)) (name : List ℕ) → Some word ≡ slice_get words 0 → word.now ≡ name → slice_get (texts words) 0 ≡ Some name
@@ -34,6 +35,7 @@ name_of (NewRoom w) = codes "new-room"
 name_of (Drive w) = codes "drive"
 name_of (Serve w) = codes "serve"
 name_of (Stress w) = codes "stress"
+name_of (Thin w) = codes "thin"
 
 named : (words : List (List ℕ)) (line : CommandLine) → AsksFor words line → slice_get words 0 ≡ Some (name_of line)
 named words (Generate w) h = h.taken.named
@@ -43,6 +45,7 @@ named words (NewRoom w) h = h.taken.named
 named words (Drive w) h = h.taken.named
 named words (Serve w) h = h.taken.named
 named words (Stress w) h = h.taken.named
+named words (Thin w) h = h.taken.named
 
 -- what is given is one
 given_one : (o : Option (List ℕ)) (a b : List ℕ) → o ≡ Some a → o ≡ Some b → a ≡ b
@@ -83,6 +86,18 @@ pub only_stress : (words : List (List ℕ)) (line : CommandLine) → slice_get w
 only_stress words (Stress w) first none asks = none _ asks
 only_stress words line first none asks = apart (slice_get words 0) (codes "stress") (name_of line) refl first (named words line asks)
 
+-- the same of `thin`
+pub only_thin : (words : List (List ℕ)) (line : CommandLine) → slice_get words 0 ≡ Some (codes "thin") → ((room : ThinWords) → IsThin words room → ⊥) → AsksFor words line → ⊥
+only_thin words (Thin w) first none asks = none _ asks
+only_thin words line first none asks = apart (slice_get words 0) (codes "thin") (name_of line) refl first (named words line asks)
+
+-- a flag
+said_one : (o : Option (List ℕ)) (a b : Bool) → o ≡ Some (said a) → o ≡ Some (said b) → a ≡ b
+said_one o true true first second = refl
+said_one o false false first second = refl
+said_one o true false first second = absurd (apart o (codes "true") (codes "false") refl first second)
+said_one o false true first second = absurd (apart o (codes "false") (codes "true") refl first second)
+
 number_one : (o : Option (List ℕ)) (m n : ℕ) → m < 2 ^ 64 → n < 2 ^ 64 → o ≡ Some (decimal m) → o ≡ Some (decimal n) → m ≡ n
 number_one o m n m_small n_small first second = decimal_injective m n m_small n_small (given_one o (decimal m) (decimal n) first second)
 
@@ -109,22 +124,29 @@ asks_one words (Reach v) (Reach w) p q =
 asks_one words (NewRoom v) (NewRoom w) p q =
     let multidata = given_one _ v.multidata w.multidata p.multidata q.multidata in
     let journal = given_one _ v.journal w.journal p.journal q.journal in
-    λ i. NewRoom (record { multidata = multidata i; journal = journal i })
+    let pair = said_one _ v.pair w.pair p.pair q.pair in
+    λ i. NewRoom (record { multidata = multidata i; journal = journal i; pair = pair i })
 asks_one words (Drive v) (Drive w) p q =
     let multidata = given_one _ v.multidata w.multidata p.multidata q.multidata in
     let journal = sym p.journal ∙ q.journal in
-    λ i. Drive (record { multidata = multidata i; journal = journal i })
+    let pair = said_one _ v.pair w.pair p.pair q.pair in
+    λ i. Drive (record { multidata = multidata i; journal = journal i; pair = pair i })
 asks_one words (Serve v) (Serve w) p q =
     let multidata = given_one _ v.multidata w.multidata p.multidata q.multidata in
     let journal = given_one _ v.journal w.journal p.journal q.journal in
+    let pair = said_one _ v.pair w.pair p.pair q.pair in
     let bind = given_one _ v.bind w.bind p.bind q.bind in
     let workers = number_one _ v.workers w.workers (omega arith) (omega arith) p.workers q.workers in
     let accept = spelt_one v.accept w.accept p.accept_range q.accept_range (sym p.accept ∙ q.accept) in
-    λ i. Serve (record { multidata = multidata i; journal = journal i; bind = bind i; workers = workers i; accept = accept i })
+    λ i. Serve (record { multidata = multidata i; journal = journal i; pair = pair i; bind = bind i; workers = workers i; accept = accept i })
 asks_one words (Stress v) (Stress w) p q =
     let players = number_one _ v.players w.players (omega arith) (omega arith) p.players q.players in
     let seed = number_one _ v.seed w.seed p.seed_range q.seed_range p.seed q.seed in
     λ i. Stress (record { players = players i; seed = seed i })
+asks_one words (Thin v) (Thin w) p q =
+    let multidata = given_one _ v.multidata w.multidata p.multidata q.multidata in
+    let choice = given_one _ v.choice w.choice p.choice q.choice in
+    λ i. Thin (record { multidata = multidata i; choice = choice i })
 asks_one words a b p q =
     absurd (apart (slice_get words 0) (name_of a) (name_of b) refl (named words a p) (named words b q))
 
@@ -137,6 +159,7 @@ has_tries words (NewRoom w) asks = tt
 has_tries words (Drive w) asks = tt
 has_tries words (Serve w) asks = tt
 has_tries words (Stress w) asks = tt
+has_tries words (Thin w) asks = tt
 
 -- and its workers and connections
 pub has_ranges : (words : List (List ℕ)) (line : CommandLine) → AsksFor words line → HasRanges line
@@ -147,3 +170,4 @@ has_ranges words (NewRoom w) asks = tt
 has_ranges words (Drive w) asks = tt
 has_ranges words (Serve w) asks = (asks.workers_range, asks.accept_range)
 has_ranges words (Stress w) asks = asks.players_range
+has_ranges words (Thin w) asks = tt

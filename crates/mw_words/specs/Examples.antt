@@ -1,22 +1,48 @@
 -- Rows of words beside the definitions.
-use Rattle.std.specs.Prelude.{◌≡◌, List, ℕ, [], ◌∷◌, Some, None, codes, refl}
+use Rattle.std.specs.Prelude.{◌≡◌, List, ℕ, [], ◌∷◌, true, false, Some, None, codes, refl}
 use Rattle.clap.specs.declared.error.kind.ErrorKind.TheVariants.{UnknownArgument, ArgumentConflict, MissingRequiredArgument}
 use Rattle.clap.proofs.OnLiterals.{clap_on_literals}
 use Rattle.mw_words.specs.Words.{IsDrive, drive_app, faults, generate_app, given, serve_app}
 
 -- a file's name
 pub drive_one : IsDrive (codes "drive" ∷ codes "A" ∷ [])
-    (record { multidata = codes "A"; journal = None })
+    (record { multidata = codes "A"; journal = None; pair = false })
 unfolding faults given clap_on_literals
-drive_one =
-    record { taken = record { named = refl; faultless = refl }; multidata = refl; journal = refl }
+drive_one = record {
+  taken = record { named = refl; faultless = refl };
+  multidata = refl;
+  journal = refl;
+  pair = refl;
+}
 
 -- two files' names
 pub drive_two : IsDrive (codes "drive" ∷ codes "A" ∷ codes "J" ∷ [])
-    (record { multidata = codes "A"; journal = Some (codes "J") })
+    (record { multidata = codes "A"; journal = Some (codes "J"); pair = false })
 unfolding faults given clap_on_literals
-drive_two =
-    record { taken = record { named = refl; faultless = refl }; multidata = refl; journal = refl }
+drive_two = record {
+  taken = record { named = refl; faultless = refl };
+  multidata = refl;
+  journal = refl;
+  pair = refl;
+}
+
+-- CHOICE of a pair room; the flag may stand anywhere
+pub drive_pair : IsDrive (codes "drive" ∷ codes "--pair" ∷ codes "A" ∷ codes "C" ∷ [])
+    (record { multidata = codes "A"; journal = Some (codes "C"); pair = true })
+unfolding faults given clap_on_literals
+drive_pair = record {
+  taken = record { named = refl; faultless = refl };
+  multidata = refl;
+  journal = refl;
+  pair = refl;
+}
+
+-- no flag twice
+pub pair_twice : faults drive_app
+    (codes "drive" ∷ codes "A" ∷ codes "C" ∷ codes "--pair" ∷ codes "--pair" ∷ [])
+    ≡ ArgumentConflict ∷ []
+unfolding faults clap_on_literals
+pair_twice = refl
 
 -- a word too many
 pub drive_three : faults drive_app (codes "drive" ∷ codes "A" ∷ codes "J" ∷ codes "K" ∷ [])

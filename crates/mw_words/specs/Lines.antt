@@ -1,8 +1,8 @@
 -- A command line, and the words that ask for it.
 use Rattle.std.specs.Prelude.{◌≡◌, ◌≤◌, ℕ, List, IfSome, ⊤}
-use Rattle.mw_words.specs.Words.{IsGenerate, IsCheck, IsReach, IsNewRoom, IsDrive, IsServe, IsStress}
+use Rattle.mw_words.specs.Words.{IsGenerate, IsCheck, IsReach, IsNewRoom, IsDrive, IsServe, IsStress, IsThin}
 use Rattle.mw_words.specs.declared.command_line.CommandLine.{CommandLine}
-use Rattle.mw_words.specs.declared.command_line.CommandLine.TheVariants.{Generate, Check, Reach, NewRoom, Drive, Serve, Stress}
+use Rattle.mw_words.specs.declared.command_line.CommandLine.TheVariants.{Generate, Check, Reach, NewRoom, Drive, Serve, Stress, Thin}
 
 -- the words ask for this
 abbrev pub AsksFor : List (List ℕ) → CommandLine → Type 0
@@ -13,6 +13,7 @@ AsksFor words (NewRoom w) = IsNewRoom words w
 AsksFor words (Drive w) = IsDrive words w
 AsksFor words (Serve w) = IsServe words w
 AsksFor words (Stress w) = IsStress words w
+AsksFor words (Thin w) = IsThin words w
 
 -- they ask for nothing
 abbrev pub IsNoCommand : List (List ℕ) → Type 0
@@ -33,6 +34,7 @@ HasTries (NewRoom w) = ⊤
 HasTries (Drive w) = ⊤
 HasTries (Serve w) = ⊤
 HasTries (Stress w) = ⊤
+HasTries (Thin w) = ⊤
 
 -- how many workers there are is from 1 to 64, and how many connections are accepted, where it is said, from 1 to
 -- 4,294,967,295; how many players there are is from 1 to 64
@@ -45,3 +47,4 @@ HasRanges (Drive w) = ⊤
 HasRanges (Serve w) =
     ((1 ≤ w.workers) × (w.workers ≤ 64)) × IfSome w.accept (λ n. (1 ≤ n) × (n ≤ 4294967295))
 HasRanges (Stress w) = (1 ≤ w.players) × (w.players ≤ 64)
+HasRanges (Thin w) = ⊤

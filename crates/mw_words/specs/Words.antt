@@ -2,13 +2,15 @@
 use Rattle.std.specs.Prelude.{◌≡◌, ◌<◌, ◌≤◌, ◌^◌, ℕ, true, List, [], ◌∷◌, Option, Some, IfSome, codes, decimal, slice_get}
 use Rattle.clap.specs.Words.{App, Kinds, Rule, fault_of, first_of, matches_of, new_rule}
 use Rattle.clap.specs.Simple.{new_shape}
+use Rattle.clap.specs.declared.builder.action.ArgAction.TheVariants.{SetTrue}
 use Rattle.mw_words.specs.declared.command_line.GenerateWords.{GenerateWords}
 use Rattle.mw_words.specs.declared.command_line.CheckWords.{CheckWords}
 use Rattle.mw_words.specs.declared.command_line.NewRoomWords.{NewRoomWords}
 use Rattle.mw_words.specs.declared.command_line.DriveWords.{DriveWords}
 use Rattle.mw_words.specs.declared.command_line.ServeWords.{ServeWords}
 use Rattle.mw_words.specs.declared.command_line.StressWords.{StressWords}
-use Rattle.mw_words.specs.Numbers.{spelt}
+use Rattle.mw_words.specs.Numbers.{spelt, said}
+use Rattle.mw_words.specs.declared.command_line.ThinWords.{ThinWords}
 
 -- ---- the commands, as clap reads their words
 
@@ -52,6 +54,10 @@ workers_rule = record (option_rule (codes "workers")) { defaults = codes "32" �
 abbrev pub accept_rule : Rule
 accept_rule = option_rule (codes "accept")
 
+-- `--pair`, which may be missing and has no value
+abbrev pub pair_rule : Rule
+pair_rule = record (option_rule (codes "pair")) { action = Some SetTrue }
+
 -- `generate PLAYERS OUT --seed N [--tries N]`
 abbrev pub generate_app : App
 generate_app =
@@ -67,26 +73,33 @@ check_app =
 abbrev pub reach_app : App
 reach_app = command_app (codes "reach") (word_rule (codes "players") ∷ [])
 
--- a command of a seed file and a journal
+-- a command of a seed file and a journal, or CHOICE
 abbrev pub room_app : List ℕ → App
 room_app name =
-    command_app name (word_rule (codes "multidata") ∷ word_rule (codes "journal") ∷ [])
+    command_app name
+    (word_rule (codes "multidata") ∷ word_rule (codes "journal") ∷ pair_rule ∷ [])
 
--- `new-room MULTIDATA JOURNAL`
+-- `new-room MULTIDATA JOURNAL [--pair]`
 abbrev pub new_room_app : App
 new_room_app = room_app (codes "new-room")
 
--- `drive MULTIDATA [JOURNAL]`
+-- `drive MULTIDATA [JOURNAL] [--pair]`
 abbrev pub drive_app : App
 drive_app =
-    command_app (codes "drive") (word_rule (codes "multidata") ∷ last_rule (codes "journal") ∷ [])
+    command_app (codes "drive")
+    (word_rule (codes "multidata") ∷ last_rule (codes "journal") ∷ pair_rule ∷ [])
 
--- `serve MULTIDATA JOURNAL --bind ADDRESS [--workers N] [--accept N]`
+-- `serve MULTIDATA JOURNAL [--pair] --bind ADDRESS [--workers N] [--accept N]`
 abbrev pub serve_app : App
 serve_app =
     command_app (codes "serve")
-    (word_rule (codes "multidata") ∷ word_rule (codes "journal") ∷ bind_rule ∷ workers_rule
-    ∷ accept_rule ∷ [])
+    (word_rule (codes "multidata") ∷ word_rule (codes "journal") ∷ pair_rule ∷ bind_rule
+    ∷ workers_rule ∷ accept_rule ∷ [])
+
+-- `thin MULTIDATA CHOICE`
+abbrev pub thin_app : App
+thin_app =
+    command_app (codes "thin") (word_rule (codes "multidata") ∷ word_rule (codes "choice") ∷ [])
 
 -- `stress N SEED`
 abbrev pub stress_app : App
@@ -129,17 +142,19 @@ pub record IsReach (words : List (List ℕ)) (players : List ℕ) : Type 0 where
   pub taken : IsTaken reach_app words
   pub players_given : given reach_app words (codes "players") ≡ Some players
 
--- `new-room` of a seed file and a journal
+-- `new-room` of a seed file and a journal, or with `--pair` of CHOICE
 pub record IsNewRoom (words : List (List ℕ)) (room : NewRoomWords) : Type 0 where
   pub taken : IsTaken new_room_app words
   pub multidata : given new_room_app words (codes "multidata") ≡ Some room.multidata
   pub journal : given new_room_app words (codes "journal") ≡ Some room.journal
+  pub pair : given new_room_app words (codes "pair") ≡ Some (said room.pair)
 
 -- `drive` of a seed file, and of a journal where one is named
 pub record IsDrive (words : List (List ℕ)) (files : DriveWords) : Type 0 where
   pub taken : IsTaken drive_app words
   pub multidata : given drive_app words (codes "multidata") ≡ Some files.multidata
   pub journal : given drive_app words (codes "journal") ≡ files.journal
+  pub pair : given drive_app words (codes "pair") ≡ Some (said files.pair)
 
 -- `serve` of a seed file and a journal at an address, with a number of workers, and with one of connections where
 -- it is said
@@ -147,6 +162,7 @@ pub record IsServe (words : List (List ℕ)) (room : ServeWords) : Type 0 where
   pub taken : IsTaken serve_app words
   pub multidata : given serve_app words (codes "multidata") ≡ Some room.multidata
   pub journal : given serve_app words (codes "journal") ≡ Some room.journal
+  pub pair : given serve_app words (codes "pair") ≡ Some (said room.pair)
   pub bind : given serve_app words (codes "bind") ≡ Some room.bind
   pub workers : given serve_app words (codes "workers") ≡ Some (decimal room.workers)
   pub workers_range : (1 ≤ room.workers) × (room.workers ≤ 64)
@@ -160,3 +176,9 @@ pub record IsStress (words : List (List ℕ)) (asked : StressWords) : Type 0 whe
   pub players_range : (1 ≤ asked.players) × (asked.players ≤ 64)
   pub seed : given stress_app words (codes "seed") ≡ Some (decimal asked.seed)
   pub seed_range : asked.seed < 2 ^ 64
+
+-- `thin` of a seed file and CHOICE
+pub record IsThin (words : List (List ℕ)) (room : ThinWords) : Type 0 where
+  pub taken : IsTaken thin_app words
+  pub multidata : given thin_app words (codes "multidata") ≡ Some room.multidata
+  pub choice : given thin_app words (codes "choice") ≡ Some room.choice

@@ -1,9 +1,9 @@
 //! What `clap` finds in words.
-ghost use Rattle.std.specs.Prelude.{◌≡◌, ◌≢◌, ◌≤◌, ℕ, List, [], true, Option, Some, None, IfOk, IfSome, decimal};
+ghost use Rattle.std.specs.Prelude.{◌≡◌, ◌≢◌, ◌≤◌, ℕ, List, [], Bool, true, Option, Some, None, IfOk, IfSome, decimal};
 ghost use Rattle.clap.specs.Words.{app_of, is_simple_and_free, found_of, first_value};
 ghost use Rattle.clap.specs.Walk.{texts};
 ghost use Rattle.mw_words.specs.Words.{faults, given};
-ghost use Rattle.mw_words.specs.Numbers.{spelt};
+ghost use Rattle.mw_words.specs.Numbers.{said, spelt};
 
 use crate::error::WordsError;
 use crate::number::number_of;
@@ -101,5 +101,21 @@ pub(crate) fn number_or_none(
     match number_of(value, least, most) {
         Some(number) => Ok(Some(number)),
         None => Err(WordsError::BadWords),
+    }
+}
+
+/// Whether a flag was given.
+pub(crate) fn flag(matches: &ArgMatches, id: &str) -> Result<bool, WordsError>
+    ensures ok { IfOk result (λ b. first_value (found_of matches.now) id.now ≡ Some (said b)) }
+    ensures bad { result ≡ Err WordsError.BadWords → (b : Bool)
+        → first_value (found_of matches.now) id.now ≢ Some (said b) }
+{
+    let Some(value) = matches.get_str(id) else {
+        return Err(WordsError::BadWords);
+    };
+    match value {
+        "true" => Ok(true),
+        "false" => Ok(false),
+        _ => Err(WordsError::BadWords),
     }
 }

@@ -35,8 +35,10 @@ pub struct ReachWords {
 pub struct NewRoomWords {
     /// The seed file's name.
     pub multidata: Text,
-    /// The journal's name.
+    /// The journal's name, or that of CHOICE.
     pub journal: Text,
+    /// Whether the journal's name is that of CHOICE, the first of a pair room's three files.
+    pub pair: bool,
 }
 
 /// The words of `drive`.
@@ -44,8 +46,11 @@ pub struct NewRoomWords {
 pub struct DriveWords {
     /// The seed file's name.
     pub multidata: Text,
-    /// The journal's name; without one the room is kept in a new journal in memory.
+    /// The journal's name, or that of CHOICE; without one the room is kept in a new journal in
+    /// memory.
     pub journal: Option<Text>,
+    /// Whether the journal's name, if there is one, is that of CHOICE.
+    pub pair: bool,
 }
 
 /// The words of `serve`.
@@ -53,8 +58,10 @@ pub struct DriveWords {
 pub struct ServeWords {
     /// The seed file's name.
     pub multidata: Text,
-    /// The journal's name.
+    /// The journal's name, or that of CHOICE.
     pub journal: Text,
+    /// Whether the journal's name is that of CHOICE.
+    pub pair: bool,
     /// The address at which clients connect.
     pub bind: Text,
     /// How many clients are served at once, 1 to 64.
@@ -70,6 +77,15 @@ pub struct StressWords {
     pub players: u32,
     /// The seed's number.
     pub seed: u64,
+}
+
+/// The words of `thin`.
+#[derive(Drop)]
+pub struct ThinWords {
+    /// The seed file's name.
+    pub multidata: Text,
+    /// The name of CHOICE, the first of a pair room's three files.
+    pub choice: Text,
 }
 
 /// What a command line asks for.
@@ -89,4 +105,6 @@ pub enum CommandLine {
     Serve(ServeWords),
     /// A world that many play is to be driven through generator and room.
     Stress(StressWords),
+    /// What still counts of a pair room's journal is to be kept in its other one.
+    Thin(ThinWords),
 }

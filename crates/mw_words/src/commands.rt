@@ -2,9 +2,9 @@
 ghost use Rattle.std.specs.Prelude.{◌≡◌, [], ◌∷◌, IfOk, false, true};
 ghost use Rattle.clap.specs.Words.{app_of, new_rule, rule_of};
 ghost use Rattle.mw_words.specs.Words.{command_app, word_rule, option_rule, seed_rule, tries_rule, generate_app, check_app, reach_app, new_room_app, drive_app};
-ghost use Rattle.mw_words.specs.Words.{last_rule, bind_rule, workers_rule, accept_rule, room_app, serve_app, stress_app};
+ghost use Rattle.mw_words.specs.Words.{last_rule, bind_rule, workers_rule, accept_rule, room_app, serve_app, stress_app, pair_rule, thin_app};
 
-use clap::{Arg, Command};
+use clap::{Arg, ArgAction, Command};
 use std::alloc::{AllocError, Global};
 
 /// A command of this name that offers no help and tells no version.
@@ -80,6 +80,14 @@ fn accept_option<'a>(alloc: Global) -> Arg<'a>
     option(alloc, "accept")
 }
 
+/// `--pair`, which may be missing and has no value.
+fn pair_flag<'a>(alloc: Global) -> Arg<'a>
+    ensures rule { rule_of result ≡ pair_rule }
+    ensures local { result.global ≡ false }
+{
+    option(alloc, "pair").action(ArgAction::SetTrue)
+}
+
 /// `generate PLAYERS OUT --seed N [--tries N]`
 pub(crate) fn generate_command<'a>(alloc: Global) -> Result<Command<'a>, AllocError>
     ensures { IfOk result (λ c. app_of c ≡ generate_app) }
@@ -107,32 +115,34 @@ pub(crate) fn reach_command<'a>(alloc: Global) -> Result<Command<'a>, AllocError
     bare_command(alloc, "reach").arg(word(alloc, "players"))
 }
 
-/// A command of a seed file and a journal.
+/// A command of a seed file and a journal, or CHOICE.
 fn room_command<'a>(alloc: Global, name: &'a str) -> Result<Command<'a>, AllocError>
     ensures { IfOk result (λ c. app_of c ≡ room_app name.entry.now) }
 {
     bare_command(alloc, name)
         .arg(word(alloc, "multidata"))?
-        .arg(word(alloc, "journal"))
+        .arg(word(alloc, "journal"))?
+        .arg(pair_flag(alloc))
 }
 
-/// `new-room MULTIDATA JOURNAL`
+/// `new-room MULTIDATA JOURNAL [--pair]`
 pub(crate) fn new_room_command<'a>(alloc: Global) -> Result<Command<'a>, AllocError>
     ensures { IfOk result (λ c. app_of c ≡ new_room_app) }
 {
     room_command(alloc, "new-room")
 }
 
-/// `drive MULTIDATA [JOURNAL]`
+/// `drive MULTIDATA [JOURNAL] [--pair]`
 pub(crate) fn drive_command<'a>(alloc: Global) -> Result<Command<'a>, AllocError>
     ensures { IfOk result (λ c. app_of c ≡ drive_app) }
 {
     bare_command(alloc, "drive")
         .arg(word(alloc, "multidata"))?
-        .arg(last_word(alloc, "journal"))
+        .arg(last_word(alloc, "journal"))?
+        .arg(pair_flag(alloc))
 }
 
-/// `serve MULTIDATA JOURNAL --bind ADDRESS [--workers N] [--accept N]`
+/// `serve MULTIDATA JOURNAL [--pair] --bind ADDRESS [--workers N] [--accept N]`
 pub(crate) fn serve_command<'a>(alloc: Global) -> Result<Command<'a>, AllocError>
     ensures { IfOk result (λ c. app_of c ≡ serve_app) }
 {
@@ -149,4 +159,13 @@ pub(crate) fn stress_command<'a>(alloc: Global) -> Result<Command<'a>, AllocErro
     bare_command(alloc, "stress")
         .arg(word(alloc, "players"))?
         .arg(word(alloc, "seed"))
+}
+
+/// `thin MULTIDATA CHOICE`
+pub(crate) fn thin_command<'a>(alloc: Global) -> Result<Command<'a>, AllocError>
+    ensures { IfOk result (λ c. app_of c ≡ thin_app) }
+{
+    bare_command(alloc, "thin")
+        .arg(word(alloc, "multidata"))?
+        .arg(word(alloc, "choice"))
 }

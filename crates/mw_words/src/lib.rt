@@ -11,7 +11,7 @@ mod words;
 
 pub use command_line::{
     CheckWords, CommandLine, DriveWords, GenerateWords, NewRoomWords, ReachWords, ServeWords,
-    StressWords,
+    StressWords, ThinWords,
 };
 pub use error::WordsError;
 pub use given::given_words;

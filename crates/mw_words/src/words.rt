@@ -6,17 +6,18 @@ ghost use Rattle.mw_words.specs.declared.command_line.NewRoomWords.{NewRoomWords
 ghost use Rattle.mw_words.specs.declared.command_line.DriveWords.{DriveWords};
 ghost use Rattle.mw_words.specs.declared.command_line.ServeWords.{ServeWords};
 ghost use Rattle.mw_words.specs.declared.command_line.StressWords.{StressWords};
-ghost use Rattle.mw_words.specs.Words.{IsGenerate, IsCheck, IsReach, IsNewRoom, IsDrive, IsServe, IsStress};
+ghost use Rattle.mw_words.specs.Words.{IsGenerate, IsCheck, IsReach, IsNewRoom, IsDrive, IsServe, IsStress, IsThin};
+ghost use Rattle.mw_words.specs.declared.command_line.ThinWords.{ThinWords};
 ghost use Rattle.mw_words.specs.Lines.{AsksFor, IsNoCommand, HasOneMeaning};
 
-use crate::arguments::{number, number_or_none, parse, text, text_or_none};
+use crate::arguments::{flag, number, number_or_none, parse, text, text_or_none};
 use crate::command_line::{
     CheckWords, CommandLine, DriveWords, GenerateWords, NewRoomWords, ReachWords, ServeWords,
-    StressWords,
+    StressWords, ThinWords,
 };
 use crate::commands::{
     check_command, drive_command, generate_command, new_room_command, reach_command, serve_command,
-    stress_command,
+    stress_command, thin_command,
 };
 use crate::error::WordsError;
 use mw_base::Text;
@@ -87,6 +88,7 @@ fn read_new_room(alloc: Global, words: &[&str]) -> Result<NewRoomWords, WordsErr
     Ok(NewRoomWords {
         multidata: text(alloc, &matches, "multidata")?,
         journal: text(alloc, &matches, "journal")?,
+        pair: flag(&matches, "pair")?,
     })
 }
 
@@ -101,6 +103,7 @@ fn read_drive(alloc: Global, words: &[&str]) -> Result<DriveWords, WordsError>
     Ok(DriveWords {
         multidata: text(alloc, &matches, "multidata")?,
         journal: text_or_none(alloc, &matches, "journal")?,
+        pair: flag(&matches, "pair")?,
     })
 }
 
@@ -115,6 +118,7 @@ fn read_serve(alloc: Global, words: &[&str]) -> Result<ServeWords, WordsError>
     Ok(ServeWords {
         multidata: text(alloc, &matches, "multidata")?,
         journal: text(alloc, &matches, "journal")?,
+        pair: flag(&matches, "pair")?,
         bind: text(alloc, &matches, "bind")?,
         workers: number(&matches, "workers", 1, 64)? as u32,
         accept: number_or_none(&matches, "accept", 1, 4_294_967_295)?,
@@ -135,6 +139,20 @@ fn read_stress(alloc: Global, words: &[&str]) -> Result<StressWords, WordsError>
     })
 }
 
+/// The words of `thin`.
+fn read_thin(alloc: Global, words: &[&str]) -> Result<ThinWords, WordsError>
+    requires { slice_get (texts words.now) 0 ≡ Some (codes "thin") }
+    ensures ok { IfOk result (IsThin (texts words.now)) }
+    ensures bad { result ≡ Err WordsError.BadWords → (room : ThinWords)
+        → IsThin (texts words.now) room → ⊥ }
+{
+    let matches = parse(thin_command(alloc)?, words)?;
+    Ok(ThinWords {
+        multidata: text(alloc, &matches, "multidata")?,
+        choice: text(alloc, &matches, "choice")?,
+    })
+}
+
 /// What words ask for, by the first of them.
 fn read_command(alloc: Global, words: &[&str]) -> Result<CommandLine, WordsError>
     ensures ok { IfOk result (AsksFor (texts words.now)) }
@@ -151,6 +169,7 @@ fn read_command(alloc: Global, words: &[&str]) -> Result<CommandLine, WordsError
         "drive" => Ok(CommandLine::Drive(read_drive(alloc, words)?)),
         "serve" => Ok(CommandLine::Serve(read_serve(alloc, words)?)),
         "stress" => Ok(CommandLine::Stress(read_stress(alloc, words)?)),
+        "thin" => Ok(CommandLine::Thin(read_thin(alloc, words)?)),
         _ => Err(WordsError::BadWords),
     }
 }

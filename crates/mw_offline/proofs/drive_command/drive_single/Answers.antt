@@ -1,5 +1,5 @@
 use Rattle.mw_offline.proofs.Driving.{told_so}
-use Rattle.mw_offline.proofs.drive_command.cmd_drive.Goals as goal
+use Rattle.mw_offline.proofs.drive_command.drive_single.Goals as goal
 
 pub returns-clause-ends : goal.returns-clause-ends
 returns-clause-ends g c =

@@ -1,7 +1,7 @@
 use Rattle.mw_offline.proofs.Driving.{told_so}
 use Rattle.mw_serve.proofs.Files.{zero_is_ok}
 use Rattle.mw_serve.proofs.Hosts.{listens_more}
-use Rattle.mw_serve.proofs.serve_command.cmd_serve.Goals as goal
+use Rattle.mw_serve.proofs.serve_command.serve_single.Goals as goal
 
 pub returns-clause-ends : goal.returns-clause-ends
 returns-clause-ends g c =

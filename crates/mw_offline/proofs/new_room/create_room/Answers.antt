@@ -1,5 +1,5 @@
 use Rattle.mw_causes.proofs.Endings.{ends}
-use Rattle.mw_offline.proofs.new_room.cmd_new_room.Goals as goal
+use Rattle.mw_offline.proofs.new_room.create_room.Goals as goal
 
 pub returns-clause-ends : goal.returns-clause-ends
 returns-clause-ends g c =
