@@ -29,7 +29,7 @@ checked-append seed journal more = ap distinct (asked-append seed journal more) 
 pub items_found-append : (seed : Seed) (team slot : ℕ) (xs ys : List Check) → items_found seed team slot (xs ++ ys) ≡ items_found seed team slot xs ++ items_found seed team slot ys
 items_found-append seed team slot [] ys = refl
 items_found-append seed team slot (c ∷ xs) ys =
-    let first = item_for team slot c (held_at seed c.slot c.location) in
+    let first = item_for seed team slot c (held_at seed c.slot c.location) in
     ap (λ is. first ++ is) (items_found-append seed team slot xs ys) ∙ sym (append_assoc first (items_found seed team slot xs) (items_found seed team slot ys))
 
 pub locations_in-append : (team slot : ℕ) (xs ys : List Check) → locations_in team slot (xs ++ ys) ≡ locations_in team slot xs ++ locations_in team slot ys

@@ -4,10 +4,10 @@ use Rattle.std.specs.List.{list_all}
 use Rattle.std.specs.Ordering.{int_eq}
 use Rattle.std.proofs.lemmas.Bool.{and_from, and_parts, cond_both, cond-true}
 use Rattle.std.proofs.lemmas.Bool.Decides.{Decides-int_eq}
-use Rattle.mw_model.specs.Seed.{Seed, Held, slot_of, held_among, held_at}
+use Rattle.mw_model.specs.Seed.{Seed, Held, slot_of, held_among, held_at, is_owner}
 use Rattle.mw_model.specs.Sets.{SetPacket}
 use Rattle.mw_protocol.specs.Asked.{asked_by}
-use Rattle.mw_protocol.specs.Checks.{Check, is_owner, checks_at, unseen}
+use Rattle.mw_protocol.specs.Checks.{Check, checks_at, unseen}
 use Rattle.mw_protocol.specs.Commands.{is_allowed, is_automatic, if_some, where_new, at_goal_released, at_goal, status_after}
 use Rattle.mw_protocol.specs.Connecting.{Member, member_by}
 use Rattle.mw_protocol.specs.Effect.{Effect, telling}

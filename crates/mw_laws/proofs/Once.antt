@@ -4,7 +4,7 @@ use Rattle.std.specs.Ordering.{int_eq}
 use Rattle.std.proofs.lemmas.Bool.{or_parts, and_parts, and_from}
 use Rattle.std.proofs.lemmas.Bool.Decides.{Decides-int_eq}
 use Rattle.mw_model.specs.Items.{NetItem}
-use Rattle.mw_model.specs.Seed.{Seed, Held, held_at, held_among}
+use Rattle.mw_model.specs.Seed.{Seed, Held, held_at, held_among, is_owner}
 use Rattle.mw_protocol.specs.Asked.{asked, checked}
 use Rattle.mw_protocol.specs.Checks.{Check, same_check, has_check, unseen, found_item, item_for, items_found}
 use Rattle.mw_laws.specs.Items.{AreDifferent, IsElsewhere, ItemsComeOnce}
@@ -57,23 +57,23 @@ held_place (g ∷ gs) slot location h e =
 abbrev pub IsFrom : ℕ → Check → NetItem → Type 0
 IsFrom team c i = (c.team ≡ team) × (i.player ≡ c.slot) × (i.location ≡ c.location)
 
-given_from : (team slot : ℕ) (c : Check) (o : Option Held) → ((h : Held) → o ≡ Some h → (h.slot ≡ c.slot) × (h.location ≡ c.location)) → Each (IsFrom team c) (item_for team slot c o)
-given_from team slot c None place = tt
-given_from team slot c (Some h) place =
-    elim ((c.team == team) && (h.receiver == slot)) as (λ b. ((c.team == team) && (h.receiver == slot)) ≡ b → Each (IsFrom team c) (cond b (found_item h ∷ []) [])) [
-      | true ↦ λ for. ((eqb-true c.team team (and_parts (c.team == team) (h.receiver == slot) for).0, (place h refl).0, (place h refl).1), tt)
+given_from : (seed : Seed) (team slot : ℕ) (c : Check) (o : Option Held) → ((h : Held) → o ≡ Some h → (h.slot ≡ c.slot) × (h.location ≡ c.location)) → Each (IsFrom team c) (item_for seed team slot c o)
+given_from seed team slot c None place = tt
+given_from seed team slot c (Some h) place =
+    elim ((c.team == team) && is_owner seed h.receiver slot) as (λ b. ((c.team == team) && is_owner seed h.receiver slot) ≡ b → Each (IsFrom team c) (cond b (found_item h ∷ []) [])) [
+      | true ↦ λ for. ((eqb-true c.team team (and_parts (c.team == team) (is_owner seed h.receiver slot) for).0, (place h refl).0, (place h refl).1), tt)
       | false ↦ λ _. tt
     ] refl
 
-given_once : (R : NetItem → NetItem → Type 0) (team slot : ℕ) (c : Check) (o : Option Held) → Pairs R (item_for team slot c o)
-given_once R team slot c None = tt
-given_once R team slot c (Some h) = elim ((c.team == team) && (h.receiver == slot)) as (λ b. Pairs R (cond b (found_item h ∷ []) [])) [ true ↦ (tt, tt) | false ↦ tt ]
+given_once : (R : NetItem → NetItem → Type 0) (seed : Seed) (team slot : ℕ) (c : Check) (o : Option Held) → Pairs R (item_for seed team slot c o)
+given_once R seed team slot c None = tt
+given_once R seed team slot c (Some h) = elim ((c.team == team) && is_owner seed h.receiver slot) as (λ b. Pairs R (cond b (found_item h ∷ []) [])) [ true ↦ (tt, tt) | false ↦ tt ]
 
 abbrev pub given : Seed → ℕ → ℕ → Check → List NetItem
-given seed team slot c = item_for team slot c (held_at seed c.slot c.location)
+given seed team slot c = item_for seed team slot c (held_at seed c.slot c.location)
 
 pub from : (seed : Seed) (team slot : ℕ) (c : Check) → Each (IsFrom team c) (given seed team slot c)
-from seed team slot c = given_from team slot c (held_at seed c.slot c.location) (held_place seed.locations c.slot c.location)
+from seed team slot c = given_from seed team slot c (held_at seed c.slot c.location) (held_place seed.locations c.slot c.location)
 
 -- items of different checks are elsewhere
 apart : (team : ℕ) (c d : Check) (i j : NetItem) → IsFrom team c i → IsFrom team d j → same_check c d ≡ false → IsElsewhere i j
@@ -95,7 +95,7 @@ items_once : (seed : Seed) (team slot : ℕ) (cs : List Check) → Pairs AreDiff
 items_once seed team slot [] h = tt
 items_once seed team slot (c ∷ cs) h =
     pairs_append IsElsewhere (given seed team slot c) (items_found seed team slot cs)
-    (given_once IsElsewhere team slot c (held_at seed c.slot c.location)) (items_once seed team slot cs h.1)
+    (given_once IsElsewhere seed team slot c (held_at seed c.slot c.location)) (items_once seed team slot cs h.1)
     (each_weaker (IsFrom team c) (λ i. Each (IsElsewhere i) (items_found seed team slot cs)) (λ i of_c. later_apart seed team slot c i of_c cs h.0) (given seed team slot c) (from seed team slot c))
 
 pub items_come_once : ItemsComeOnce

@@ -7,7 +7,7 @@ use Rattle.std.proofs.lemmas.Slice.Eq.{bytes_eq-Decides}
 use Rattle.std.specs.Cmp.Lexicographic.{slice_cmp}
 use Rattle.std.specs.List.{position_or_len, before_first, after_first}
 use Rattle.mw_model.specs.Json.{Json, Members, no_members, member}
-use Rattle.mw_model.specs.Seed.{Seed, Held, slot_of, held_at}
+use Rattle.mw_model.specs.Seed.{Seed, Held, slot_of, held_at, is_owner}
 use Rattle.mw_model.specs.Trees.{items_of}
 use Rattle.mw_protocol.specs.Checks.{Check}
 use Rattle.mw_protocol.specs.Heard.{Announced, hears, heard, wants_no_text}
@@ -74,7 +74,7 @@ module _ (seed : Seed) (now : Standing) (cs : List Check) (more : (c : Check) â†
   hint_among h (Some at) place = (
     Î» sending m heard.
         let found = is_checked now h.team h.finder h.location in
-        let named = and_parts (not (wants_no_text m) && (m.team == h.team)) ((m.slot == h.finder) || (m.slot == at.receiver)) heard in
+        let named = and_parts (not (wants_no_text m) && (m.team == h.team)) ((m.slot == h.finder) || is_owner seed at.receiver m.slot) heard in
         let team = eqb-true m.team h.team (and_parts (not (wants_no_text m)) (m.team == h.team) named.0).1 in
         let here = place at refl in
         let c : Check = record { team = m.team; slot = at.slot; location = at.location } in

@@ -4,7 +4,7 @@ use Rattle.std.proofs.lemmas.Bool.{and_parts, cond-true, cond-false, false≢tru
 use Rattle.std.proofs.lemmas.List.Elements.{filter-append}
 use Rattle.std.specs.List.{list_all}
 use Rattle.mw_model.specs.Items.{NetItem}
-use Rattle.mw_model.specs.Seed.{Seed}
+use Rattle.mw_model.specs.Seed.{Seed, is_owner}
 use Rattle.mw_protocol.specs.Connecting.{Member}
 use Rattle.mw_protocol.specs.Effect.{Effect}
 use Rattle.mw_protocol.specs.Effects.{effect_of}
@@ -31,7 +31,7 @@ is_other a = not (is_of_print a.audience)
 -- of an audience of prints nobody is who wants no text
 unheard : (seed : Seed) (a : Audience) (sends : Bool) (m : Member) → IsTrue (wants_no_text m) → is_of_print a ≡ true → hears seed a sends m ≡ false
 unheard seed (team_hears team) sends m silence is = ap (λ w. not w && (m.team == team)) silence
-unheard seed (slots_hear team a b) sends m silence is = ap (λ w. not w && (m.team == team) && ((m.slot == a) || (m.slot == b))) silence
+unheard seed (slots_hear team a b) sends m silence is = ap (λ w. not w && (m.team == team) && ((m.slot == a) || is_owner seed b m.slot)) silence
 unheard seed sender_hears sends m silence is = ap (λ w. not w && sends) silence
 unheard seed (watchers_hear key replies) sends m silence is = absurd (false≢true is)
 unheard seed (named_hear team n) sends m silence is = absurd (false≢true is)
@@ -47,7 +47,7 @@ other_hears seed (named_hear team n) sends m tags is both = ap (λ b. (m.team ==
 hears_alike : (seed : Seed) (a : Audience) (sends : Bool) (m : Member) (tags : List (List ℕ)) → wants_no_text m ≡ wants_no_text (with_tags tags m) → NamesBoth seed a m (with_tags tags m)
     → hears seed a sends m ≡ hears seed a sends (with_tags tags m)
 hears_alike seed (team_hears team) sends m tags same both = ap (λ w. not w && (m.team == team)) same
-hears_alike seed (slots_hear team a b) sends m tags same both = ap (λ w. not w && (m.team == team) && ((m.slot == a) || (m.slot == b))) same
+hears_alike seed (slots_hear team a b) sends m tags same both = ap (λ w. not w && (m.team == team) && ((m.slot == a) || is_owner seed b m.slot)) same
 hears_alike seed sender_hears sends m tags same both = ap (λ w. not w && sends) same
 hears_alike seed (watchers_hear key replies) sends m tags same both = refl
 hears_alike seed (named_hear team n) sends m tags same both = ap (λ b. (m.team == team) && b) both

@@ -1,9 +1,9 @@
 -- The checks that a journal's records ask for.
 use Rattle.std.specs.Prelude.{ℕ, ℤ, ◌==◌, ◌++◌, ◌∷◌, [], List, if◌then◌else◌}
-use Rattle.mw_model.specs.Seed.{Seed, Held}
+use Rattle.mw_model.specs.Seed.{Seed, Held, is_owner}
 use Rattle.mw_model.specs.Items.{NetItem}
 use Rattle.mw_protocol.specs.Records.{Record, checks, release, collect, status, hint, hint_status, store}
-use Rattle.mw_protocol.specs.Checks.{Check, checks_at, distinct, is_owner, received_in, view_in}
+use Rattle.mw_protocol.specs.Checks.{Check, checks_at, distinct, received_in, view_in}
 
 -- the locations of a slot, by id
 abbrev pub locations_among : ℕ → List Held → List ℤ

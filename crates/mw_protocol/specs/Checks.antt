@@ -1,7 +1,7 @@
 -- Checks, and the items that they give.
 use Rattle.std.specs.Prelude.{ℕ, ℤ, negsuc, ◌/◌, ◌%◌, ◌==◌, ◌&&◌, ◌||◌, ◌++◌, ◌∷◌, [], List, Bool, Option, Some, None, false, map, filter, if◌then◌else◌}
 use Rattle.std.specs.Ordering.{int_eq}
-use Rattle.mw_model.specs.Seed.{Seed, Slot, StartItem, Held, slot_of, held_at}
+use Rattle.mw_model.specs.Seed.{Seed, Slot, StartItem, Held, slot_of, is_owner, held_at}
 use Rattle.mw_model.specs.Items.{NetItem}
 
 -- a location of a slot, checked in a team
@@ -61,21 +61,17 @@ start_items (Some slot) = map start_item slot.start
 abbrev pub found_item : Held → NetItem
 found_item h = record { item = h.item; location = h.location; player = h.slot; flags = h.flags }
 
--- whether a slot gets what is for a receiver
-abbrev pub is_owner : Seed → ℕ → ℕ → Bool
-is_owner seed receiver slot = receiver == slot
-
 -- the item that a check gives to a slot of a team, if it does
-abbrev pub item_for : ℕ → ℕ → Check → Option Held → List NetItem
-item_for team slot check None = []
-item_for team slot check (Some h) =
-    if (check.team == team) && (h.receiver == slot) then found_item h ∷ [] else []
+abbrev pub item_for : Seed → ℕ → ℕ → Check → Option Held → List NetItem
+item_for seed team slot check None = []
+item_for seed team slot check (Some h) =
+    if (check.team == team) && is_owner seed h.receiver slot then found_item h ∷ [] else []
 
 -- the items that checks give to a slot of a team, in order
 abbrev pub items_found : Seed → ℕ → ℕ → List Check → List NetItem
 items_found seed team slot [] = []
 items_found seed team slot (check ∷ others) =
-    item_for team slot check (held_at seed check.slot check.location)
+    item_for seed team slot check (held_at seed check.slot check.location)
     ++ items_found seed team slot others
 
 -- Received: the starting items, then the items of the distinct checks in journal order

@@ -67,6 +67,7 @@ automatic = record {
   };
   games = room_a.games;
   slots = room_a.slots;
+  groups = [];
   locations = room_a.locations;
   spheres = room_a.spheres;
 }

@@ -1,9 +1,9 @@
 -- What the commands of a text do: their records, and the text that answers them.
 use Rattle.std.specs.Prelude.{ℕ, ℤ, ◌+◌, ◌/◌, ◌%◌, ◌==◌, ◌&&◌, ◌||◌, ◌++◌, ◌∷◌, [], List, Bool, false, not, Option, Some, None, filter, map, length, decimal, codes, if◌then◌else◌}
 use Rattle.std.specs.Ordering.{int_eq}
-use Rattle.mw_model.specs.Seed.{Seed, Slot, Game, NamedId, Held, slot_of}
+use Rattle.mw_model.specs.Seed.{Seed, Slot, Game, NamedId, Held, slot_of, is_owner}
 use Rattle.mw_protocol.specs.Asked.{asked_by, locations_of}
-use Rattle.mw_protocol.specs.Checks.{CheckedAt, is_owner, unseen}
+use Rattle.mw_protocol.specs.Checks.{CheckedAt, unseen}
 use Rattle.mw_protocol.specs.Connecting.{Member}
 use Rattle.mw_protocol.specs.Hints.{game_played}
 use Rattle.mw_protocol.specs.Players.{name_in}

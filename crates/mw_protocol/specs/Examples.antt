@@ -46,6 +46,7 @@ room_a = record {
     start = record { item = pos 5; flags = 0 } ∷ [];
   }
       ∷ record { names = codes "Bob" ∷ []; game = codes "G"; start = [] } ∷ [];
+  groups = [];
   locations = held 1 (pos 101) (pos 7) 2 1 ∷ held 1 (pos 102) (pos 8) 1 0
       ∷ held 2 (pos 201) (pos 9) 1 2 ∷ [];
   spheres = [];
@@ -159,6 +160,7 @@ locked = record {
   };
   games = room_a.games;
   slots = room_a.slots;
+  groups = [];
   locations = room_a.locations;
   spheres = room_a.spheres;
 }

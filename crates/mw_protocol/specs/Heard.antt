@@ -1,7 +1,7 @@
 -- Who hears what is told to several sessions.
 use Rattle.std.specs.Prelude.{ℕ, ℤ, pos, ◌==◌, ◌&&◌, ◌||◌, ◌∷◌, [], List, Bool, false, Option, Some, None, not, codes, if◌then◌else◌}
 use Rattle.std.specs.Ordering.{int_eq}
-use Rattle.mw_model.specs.Seed.{Seed, Slot, slot_of}
+use Rattle.mw_model.specs.Seed.{Seed, Slot, slot_of, is_owner}
 use Rattle.mw_model.specs.Texts.{has_text}
 use Rattle.mw_protocol.specs.Connecting.{Member}
 use Rattle.mw_protocol.specs.Messages.{ServerPacket}
@@ -15,7 +15,7 @@ pub record Named : Type 0 where
 pub data Audience : Type 0 where
   -- of a print: everybody of a team
   team_hears : ℕ → Audience
-  -- of a print: in a team those who play either slot
+  -- of a print: in a team those who play a slot, or one of a receiver's owners
   slots_hear : ℕ → ℕ → ℕ → Audience
   -- of a print: who sent the packet
   sender_hears : Audience
@@ -56,8 +56,9 @@ is_named seed n m =
 -- whether a member hears what is for an audience, which sent the packet or not
 abbrev pub hears : Seed → Audience → Bool → Member → Bool
 hears seed (team_hears team) sends m = not (wants_no_text m) && (m.team == team)
-hears seed (slots_hear team a b) sends m =
-    not (wants_no_text m) && (m.team == team) && ((m.slot == a) || (m.slot == b))
+hears seed (slots_hear team slot receiver) sends m =
+    not (wants_no_text m) && (m.team == team)
+    && ((m.slot == slot) || is_owner seed receiver m.slot)
 hears seed sender_hears sends m = not (wants_no_text m) && sends
 hears seed (watchers_hear key replies) sends m = (sends && replies) || has_text m.keys key
 hears seed (named_hear team n) sends m = (m.team == team) && is_named seed n m

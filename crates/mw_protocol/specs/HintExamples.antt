@@ -26,6 +26,7 @@ with_names = record {
   server = room_a.server;
   games = game_g ∷ [];
   slots = room_a.slots;
+  groups = [];
   locations = room_a.locations;
   spheres = room_a.spheres;
 }

@@ -1,8 +1,8 @@
 -- Hints: who gets which, and how they are told.
 use Rattle.std.specs.Prelude.{ℕ, ℤ, ◌==◌, ◌&&◌, ◌||◌, ◌++◌, ◌∷◌, [], List, Bool, true, false, not, Option, Some, None, nat_lt, is_some, bytes_eq, if◌then◌else◌}
 use Rattle.std.specs.Ordering.{int_eq}
-use Rattle.mw_model.specs.Seed.{Seed, Slot, Game, NamedId, Held, slot_of, held_at}
-use Rattle.mw_protocol.specs.Checks.{Check, CheckedAt, is_owner}
+use Rattle.mw_model.specs.Seed.{Seed, Slot, Game, NamedId, Held, slot_of, held_at, is_owner}
+use Rattle.mw_protocol.specs.Checks.{Check, CheckedAt}
 use Rattle.mw_protocol.specs.HintList.{hint_at}
 use Rattle.mw_protocol.specs.Locations.{known_checks}
 use Rattle.mw_protocol.specs.Records.{Hint}
@@ -178,7 +178,7 @@ told_hint is_found h (Some at) = record {
   status = shown_status (is_found h.team h.finder h.location) h.status;
 } ∷ []
 
--- the hints of a team whose finder or receiver is the slot, in the order in which they were made
+-- the hints of a team whose finder is the slot, or whose receiver has it among its owners, in the order in which they were made
 abbrev pub told_hints : Seed → CheckedAt → ℕ → ℕ → List Hint → List ToldHint
 told_hints seed is_found team slot [] = []
 told_hints seed is_found team slot (h ∷ hs) =

@@ -9,6 +9,7 @@ pub mod Effects
 pub mod Entering
 pub mod Equal
 pub mod Examples
+pub mod GroupExamples
 pub mod Further
 pub mod Heard
 pub mod HintExamples

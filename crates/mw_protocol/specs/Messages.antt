@@ -27,10 +27,12 @@ pub record NetworkPlayer : Type 0 where
   pub slot : ℕ
   pub name : List ℕ
 
+-- a player or a group, which has members
 pub record NetworkSlot : Type 0 where
   pub slot : ℕ
   pub name : List ℕ
   pub game : List ℕ
+  pub members : List ℕ
 
 pub record Connected : Type 0 where
   pub team : ℕ
@@ -106,13 +108,21 @@ player_json p =
     (member (codes "slot") (whole (pos p.slot))
     (member (codes "team") (whole (pos p.team)) no_members)))))
 
+abbrev pub number_json : ℕ → Json
+number_json n = whole (pos n)
+
+-- a player's type is 1, a group's is 2
+abbrev pub slot_type : List ℕ → ℕ
+slot_type [] = 1
+slot_type (first ∷ others) = 2
+
 abbrev pub slot_json : NetworkSlot → Json
 slot_json s =
     members (member (codes "class") (words (codes "NetworkSlot"))
     (member (codes "game") (words s.game)
-    (member (codes "group_members") (many no_items)
+    (member (codes "group_members") (many (items_of (map number_json s.members)))
     (member (codes "name") (words s.name)
-    (member (codes "type") (whole (pos 1)) no_members)))))
+    (member (codes "type") (number_json (slot_type s.members)) no_members)))))
 
 -- each slot under its number in decimal, in byte order
 abbrev pub slot_info_members : List NetworkSlot → Members

@@ -1,7 +1,7 @@
 -- Who plays what, as RoomInfo and Connected tell it.
 use Rattle.std.specs.Prelude.{ℕ, zero, suc, ◌+◌, ◌==◌, ◌||◌, ◌++◌, ◌∷◌, [], List, Bool, false, not, length, filter, slice_get, unwrap_or, bytes_eq, if◌then◌else◌}
 use Rattle.mw_model.specs.Games.{checksum_of}
-use Rattle.mw_model.specs.Seed.{Seed, Slot, Game}
+use Rattle.mw_model.specs.Seed.{Seed, Slot, Group, Game}
 use Rattle.mw_protocol.specs.Asked.{locations_of}
 use Rattle.mw_protocol.specs.Connecting.{Member}
 use Rattle.mw_protocol.specs.Messages.{GameSum, RoomInfo, NetworkPlayer, NetworkSlot, Connected}
@@ -48,10 +48,19 @@ abbrev pub players_of : ℕ → List Slot → List NetworkPlayer
 players_of zero slots = []
 players_of (suc team) slots = players_of team slots ++ team_players team 1 slots
 
+-- the slots of a team, from a number on
 abbrev pub slot_infos : ℕ → ℕ → List Slot → List NetworkSlot
 slot_infos team number [] = []
 slot_infos team number (s ∷ ss) =
-    record { slot = number; name = name_in team s; game = s.game } ∷ slot_infos team (number + 1) ss
+    record { slot = number; name = name_in team s; game = s.game; members = [] }
+    ∷ slot_infos team (number + 1) ss
+
+-- the groups, from a number on
+abbrev pub group_infos : ℕ → List Group → List NetworkSlot
+group_infos number [] = []
+group_infos number (g ∷ gs) =
+    record { slot = number; name = g.name; game = g.game; members = g.members }
+    ∷ group_infos (number + 1) gs
 
 -- what a session is told when it has become a member
 abbrev pub connected_of : Seed → Standing → Member → Connected
@@ -61,6 +70,6 @@ connected_of seed now m = record {
   players = players_of seed.teams seed.slots;
   missing_locations = filter (λ l. not (is_checked now m.team m.slot l)) (locations_of seed m.slot);
   checked_locations = filter (λ l. is_checked now m.team m.slot l) (locations_of seed m.slot);
-  slot_info = slot_infos m.team 1 seed.slots;
+  slot_info = slot_infos m.team 1 seed.slots ++ group_infos (length seed.slots + 1) seed.groups;
   hint_points = points seed now m.team m.slot;
 }
