@@ -1,13 +1,13 @@
 -- What keeps the rules of a seed's parts is read as it is written.
-use Rattle.std.proofs.Common.{◌≡◌, ◌≤◌, ◌<◌, ◌+◌, ◌==◌, ℕ, ℤ, pos, negsuc, List, [], ◌∷◌, true, false, Some, Result, Ok, length, map, refl, subst, sym, arith}
-use Rattle.std.specs.Prelude.{All, codes, chars, nat_lt}
+use Rattle.std.proofs.Common.{◌≡◌, ◌≤◌, ◌<◌, ◌+◌, ◌-◌, ◌++◌, ◌==◌, ℕ, ℤ, pos, negsuc, List, [], ◌∷◌, Bool, true, false, Some, Result, Ok, length, map, refl, subst, sym, arith}
+use Rattle.std.specs.Prelude.{All, bytes_eq, codes, chars, nat_lt}
 use Rattle.std.proofs.lemmas.Grind.{common_steps}
 use Rattle.std.proofs.lemmas.Int.{ints}
 use Rattle.std.proofs.lemmas.List.Elements.{All-head, All-tail}
-use Rattle.mw_model.specs.Json.{Json, whole, words, many, members, Items, no_items, item, Members, no_members, find_member}
+use Rattle.mw_model.specs.Json.{Json, whole, words, many, members, Items, no_items, item, Members, no_members, member, find_member}
 use Rattle.mw_model.specs.Games.{game_json, ids_members}
 use Rattle.mw_model.specs.Trees.{items_of, text_json}
-use Rattle.mw_model.specs.Seed.{Slot, StartItem, Game, NamedId, Held, RoomOptions, Spot}
+use Rattle.mw_model.specs.Seed.{Slot, Group, StartItem, Game, NamedId, Held, RoomOptions, Spot}
 use Rattle.mw_json.specs.Grammar.{Breach, number_at, has_control, short_text, name_of, name_at, items_length, list_up_to, field_at}
 use Rattle.mw_json.specs.Parts.{id_at, item_at, list_of_length, element_at, not_empty}
 use Rattle.mw_json.specs.Readers.{each_from, list_of_at, each_member_at}
@@ -15,8 +15,8 @@ use Rattle.mw_json.specs.Settings.{password_at, permission_at, remaining_at}
 use Rattle.mw_json.specs.View.{members_of}
 use Rattle.mw_multidata.specs.Parts.{slot_number_at, flags_at}
 use Rattle.mw_multidata.specs.SeedKept.{IsName, IsId, is_class, is_remaining, is_permission, ServerKept, EntryKept, GameKept}
-use Rattle.mw_multidata.specs.Shape.{server_at, named_id_at, ids_at, game_at, games_at, names_at, start_item_at, slot_at, slots_at, held_at, spot_at, sphere_at, spheres_at}
-use Rattle.mw_multidata.specs.Written.{number_json, permission_json, server_json, game_member, games_json, start_json, slot_json, held_json, spot_json, sphere_json}
+use Rattle.mw_multidata.specs.Shape.{server_at, named_id_at, ids_at, game_at, games_at, names_at, start_item_at, slot_at, slots_at, several_of, group_members_at, group_at, groups_at, form_at, held_at, spot_at, sphere_at, spheres_at}
+use Rattle.mw_multidata.specs.Written.{number_json, permission_json, server_json, game_member, games_json, start_json, slot_json, group_json, form_word, groups_member, held_json, spot_json, sphere_json}
 use Rattle.mw_multidata.proofs.Bools.{by_two, both_false}
 
 -- it is read again
@@ -223,6 +223,62 @@ slots_again teams ss some few h =
       some_again ws (omega (arith, some, items_count slot_json ss)),
       each_again (SlotShape teams) (slot_at teams) slot_json (slot_again teams) ss h 0,
     ) refl
+
+-- ---- the groups
+
+-- a number that a slot may have
+abbrev pub IsNumber : ℕ → Type 0
+IsNumber n = (1 ≤ n) × (n ≤ 1024)
+
+pub record GroupShape (g : Group) : Type 0 where
+  pub name : IsName 16 g.name
+  pub game : IsName 128 g.game
+  pub some : 2 ≤ length g.members
+  pub numbers : All IsNumber g.members
+
+slot_number_again : (n : ℕ) → IsNumber n → IsAgain slot_number_at number_json n
+slot_number_again n h = number_again 1 1024 n h.0 h.1
+
+several_again : (js : Items) → 2 ≤ items_length js → several_of js ≡ Ok js
+several_again js h = grind arith
+
+group_members_again : (ns : List ℕ) → 2 ≤ length ns → All IsNumber ns → IsAgain group_members_at (λ xs. many (items_of (map number_json xs))) ns
+unfolding group_members_at
+group_members_again ns some h =
+    rw (several_again (items_of (map number_json ns)) (omega (arith, some, items_count number_json ns)), each_again IsNumber slot_number_at number_json slot_number_again ns h 0) refl
+
+group_again : (g : Group) → GroupShape g → IsAgain group_at group_json g
+unfolding group_at
+group_again g h =
+    let ms = members_in (group_json g) in
+    rw (
+      field_again (name_at 16) (codes "name") ms (words g.name) g.name refl (named_again 16 g.name h.name),
+      field_again (name_at 128) (codes "game") ms (words g.game) g.game refl (named_again 128 g.game h.game),
+      field_again group_members_at (codes "members") ms (many (items_of (map number_json g.members))) g.members refl (group_members_again g.members h.some h.numbers),
+    ) refl
+
+-- whether the form of these groups is the second
+abbrev pub is_second : List Group → Bool
+is_second [] = false
+is_second (g ∷ gs) = true
+
+pub form_again : (gs : List Group) → form_at (words (form_word gs)) ≡ Ok (is_second gs)
+unfolding form_at
+form_again [] = refl
+form_again (g ∷ gs) = refl
+
+-- beside so many slots, among members of which the first two have other names
+pub groups_again : (slots : ℕ) (gs : List Group) (a b : Json) (others : List (List ℕ × Json)) → length gs ≤ 1024 - slots → All GroupShape gs
+    → groups_at (is_second gs) slots (member (codes "format") a (member (codes "games") b (members_of (groups_member gs ++ others)))) ≡ Ok gs
+groups_again slots [] a b others few h = refl
+groups_again slots (g ∷ gs) a b others few h =
+    let ms = member (codes "format") a (member (codes "games") b (members_of (groups_member (g ∷ gs) ++ others))) in
+    field_again (list_of_at (1024 - slots) group_at) (codes "groups") ms (many (items_of (map group_json (g ∷ gs)))) (g ∷ gs) refl (list_again GroupShape group_at group_json group_again (1024 - slots) (g ∷ gs) few h)
+
+-- whoever looks for another member finds none of them
+pub past_groups : (name : List ℕ) (gs : List Group) (others : List (List ℕ × Json)) → bytes_eq (codes "groups") name ≡ false → find_member name (members_of (groups_member gs ++ others)) ≡ find_member name (members_of others)
+past_groups name [] others e = refl
+past_groups name (g ∷ gs) others e = rw e refl
 
 -- ---- the locations
 

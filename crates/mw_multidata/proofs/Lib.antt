@@ -2,8 +2,11 @@ pub mod Again
 pub mod Among
 pub mod Bools
 pub mod Entries
+pub mod GroupsKept
 pub mod Ids
+pub mod Judged
 pub mod Kept
+pub mod Listed
 pub mod Names
 pub mod NamesAgain
 pub mod NamesKept

@@ -1,17 +1,19 @@
 -- The names of a seed whose parts know each other have nothing to refuse.
-use Rattle.std.proofs.Common.{◌≡◌, ◌+◌, ℕ, ℤ, List, [], ◌∷◌, ◌++◌, true, false, Option, Some, None, Ok, map, refl, sym, ap, subst, ◌∙◌, arith, append_assoc}
+use Rattle.std.proofs.Common.{◌≡◌, ◌+◌, ℕ, ℤ, List, [], ◌∷◌, ◌++◌, true, false, Option, Some, None, Ok, nat_cmp, map, refl, sym, ap, subst, ◌∙◌, arith, append_assoc}
 use Rattle.std.specs.Prelude.{All, bytes_eq}
 use Rattle.std.specs.List.{IsDistinct, AllByRecursion}
 use Rattle.std.specs.Ordering.{int_eq}
 use Rattle.std.specs.declared.cmp.Ordering.TheVariants.{Less}
+use Rattle.std.proofs.lemmas.List.{map-append}
 use Rattle.std.proofs.lemmas.List.Elements.{All-head, All-tail}
-use Rattle.mw_model.specs.Seed.{Seed, Slot, StartItem, Game, NamedId, Held, Spot}
+use Rattle.mw_model.specs.Seed.{Seed, Slot, Group, StartItem, Game, NamedId, Held, Spot}
 use Rattle.mw_model.specs.Ascending.{Ascend}
-use Rattle.mw_multidata.specs.Names.{known, has_id, ids_differ, game_named, games_named, find_game, has_name, names_differ, start_named, all_names, slot_named, slots_named, played_by, comes_after, held_named, locations_named, spot_named, sphere_named, spheres_named, names_named}
-use Rattle.mw_multidata.specs.SeedKept.{entry_id, GameKept, StartKept, has_item, has_location, held_cmp}
+use Rattle.mw_multidata.specs.Names.{known, has_id, ids_differ, game_named, games_named, find_game, has_name, names_differ, start_named, all_names, slot_named, slots_named, group_name, is_above, member_named, members_named, names_with, group_named, groups_named, played_by, received_by, comes_after, held_named, locations_named, spot_named, sphere_named, spheres_named, names_named}
+use Rattle.mw_multidata.specs.SeedKept.{entry_id, GameKept, StartKept, GroupKept, GroupsKept, has_item, has_location, held_cmp}
 use Rattle.mw_multidata.proofs.Bools.{both_false}
+use Rattle.mw_multidata.proofs.GroupsKept.{IsPlayer}
 use Rattle.mw_multidata.proofs.NamesKept.{IsKnown}
-use Rattle.mw_multidata.proofs.Plays.{PlayAll}
+use Rattle.mw_multidata.proofs.Plays.{PlayAll, GroupsPlay}
 
 abbrev NamesDiffer : List (List ℕ) → Type 0
 NamesDiffer ns = IsDistinct bytes_eq ns
@@ -93,6 +95,54 @@ slots_pass games earlier i (s ∷ ss) (p ∷ ps) differ start play =
       slots_pass games (earlier ++ s ∷ []) (i + 1) ss ps again (All-tail (HasStart games) s ss start) play.1,
     ) refl
 
+-- ---- groups
+
+member_passes : (seed : Seed) (game : List ℕ) (before : Option ℕ) (n : ℕ) → IsPlayer seed game n → is_above before n ≡ true → member_named seed game before n ≡ Ok tt
+unfolding member_named
+member_passes seed game before n plays above = rw (plays, above) refl
+
+abbrev IsBelow : Option ℕ → List ℕ → Type 0
+IsBelow before [] = Unit {0}
+IsBelow before (n ∷ ns) = is_above before n ≡ true
+
+rises : (n m : ℕ) → nat_cmp n m ≡ Less → is_above (Some n) m ≡ true
+rises n m e = grind (arith, e)
+
+first_below : (n : ℕ) (ns : List ℕ) → Ascend nat_cmp (n ∷ ns) → IsBelow (Some n) ns
+first_below n [] a = tt
+first_below n (m ∷ ns) a = rises n m a.0.0
+
+members_follow : (seed : Seed) (game : List ℕ) (before : Option ℕ) (i : ℕ) (ns : List ℕ) → All (IsPlayer seed game) ns → Ascend nat_cmp ns → IsBelow before ns → members_named seed game before i ns ≡ Ok tt
+members_follow seed game before i [] plays a below = refl
+members_follow seed game before i (n ∷ ns) plays a below =
+    rw (member_passes seed game before n (All-head (IsPlayer seed game) n ns plays) below)
+    (members_follow seed game (Some n) (i + 1) ns (All-tail (IsPlayer seed game) n ns plays) a.1 (first_below n ns a))
+
+start_below : (ns : List ℕ) → IsBelow None ns
+start_below [] = tt
+start_below (n ∷ ns) = refl
+
+group_passes : (games : List Game) (seed : Seed) (earlier : List Group) (g : Group) (p : Game) → has_name (names_with seed earlier) g.name ≡ false → find_game games g.game ≡ Some p → GroupKept seed g → group_named games seed earlier g ≡ Ok p
+unfolding group_named
+group_passes games seed earlier g p new found h =
+    rw (new, found, members_follow seed g.game None 0 g.members h.each h.ascend (start_below g.members)) refl
+
+names_with-append : (seed : Seed) (xs ys : List Group) → names_with seed (xs ++ ys) ≡ names_with seed xs ++ map group_name ys
+names_with-append seed xs ys =
+    ap (λ (ns : List (List ℕ)). all_names seed.slots ++ ns) (map-append group_name xs ys) ∙ sym (append_assoc (all_names seed.slots) (map group_name xs) (map group_name ys))
+
+groups_pass : (games : List Game) (seed : Seed) (earlier : List Group) (i : ℕ) (gs : List Group) (ps : List Game) → NamesDiffer (names_with seed (earlier ++ gs)) → All (GroupKept seed) gs → GroupsPlay games gs ps → groups_named games seed earlier i gs ≡ Ok ps
+groups_pass games seed earlier i [] [] differ h play = refl
+groups_pass games seed earlier i [] (p ∷ ps) differ h play = absurd play
+groups_pass games seed earlier i (g ∷ gs) [] differ h play = absurd play
+groups_pass games seed earlier i (g ∷ gs) (p ∷ ps) differ h play =
+    let new : has_name (names_with seed earlier) g.name ≡ false = new_name (names_with seed earlier) g.name (map group_name gs) (subst NamesDiffer (names_with-append seed earlier (g ∷ gs)) differ) in
+    let again : NamesDiffer (names_with seed ((earlier ++ g ∷ []) ++ gs)) = subst (λ xs. NamesDiffer (names_with seed xs)) (sym (append_assoc earlier (g ∷ []) gs)) differ in
+    rw (
+      group_passes games seed earlier g p new play.0 (All-head (GroupKept seed) g gs h),
+      groups_pass games seed (earlier ++ g ∷ []) (i + 1) gs ps again (All-tail (GroupKept seed) g gs h) play.1,
+    ) refl
+
 -- ---- locations
 
 -- it is there, and has what is asked of it
@@ -104,11 +154,11 @@ with_item : (found : Option Game) (id : ℤ) → has_item found id ≡ true → 
 with_item (Some g) id e = (g, refl, e)
 with_item None id e = cc
 
-held_passes : (ps : List Game) (before : Option Held) (h : Held) → IsKnown ps h → comes_after before h ≡ true → held_named ps before h ≡ Ok tt
+held_passes : (ps gs : List Game) (before : Option Held) (h : Held) → IsKnown ps gs h → comes_after before h ≡ true → held_named ps gs before h ≡ Ok tt
 unfolding held_named
-held_passes ps before h k follows =
+held_passes ps gs before h k follows =
     let finder = with_location (played_by ps h.slot) h.location k.location in
-    let receiver = with_item (played_by ps h.receiver) h.item k.item in
+    let receiver = with_item (received_by ps gs h.receiver) h.item k.item in
     rw (finder.1, finder.2, receiver.1, receiver.2, follows) refl
 
 ascends : (a b : Held) → held_cmp a b ≡ Less → comes_after (Some a) b ≡ true
@@ -122,18 +172,18 @@ first_follows : (h : Held) (hs : List Held) → Ascend held_cmp (h ∷ hs) → F
 first_follows h [] a = tt
 first_follows h (k ∷ hs) a = ascends h k a.0.0
 
-locations_follow : (ps : List Game) (before : Option Held) (i : ℕ) (hs : List Held) → All (IsKnown ps) hs → Ascend held_cmp hs → Follows before hs → locations_named ps before i hs ≡ Ok tt
-locations_follow ps before i [] known a follows = refl
-locations_follow ps before i (h ∷ hs) known a follows =
-    rw (held_passes ps before h (All-head (IsKnown ps) h hs known) follows)
-    (locations_follow ps (Some h) (i + 1) hs (All-tail (IsKnown ps) h hs known) a.1 (first_follows h hs a))
+locations_follow : (ps gs : List Game) (before : Option Held) (i : ℕ) (hs : List Held) → All (IsKnown ps gs) hs → Ascend held_cmp hs → Follows before hs → locations_named ps gs before i hs ≡ Ok tt
+locations_follow ps gs before i [] known a follows = refl
+locations_follow ps gs before i (h ∷ hs) known a follows =
+    rw (held_passes ps gs before h (All-head (IsKnown ps gs) h hs known) follows)
+    (locations_follow ps gs (Some h) (i + 1) hs (All-tail (IsKnown ps gs) h hs known) a.1 (first_follows h hs a))
 
 start_follows : (hs : List Held) → Follows None hs
 start_follows [] = tt
 start_follows (h ∷ hs) = refl
 
-locations_pass : (ps : List Game) (hs : List Held) → All (IsKnown ps) hs → Ascend held_cmp hs → locations_named ps None 0 hs ≡ Ok tt
-locations_pass ps hs known a = locations_follow ps None 0 hs known a (start_follows hs)
+locations_pass : (ps gs : List Game) (hs : List Held) → All (IsKnown ps gs) hs → Ascend held_cmp hs → locations_named ps gs None 0 hs ≡ Ok tt
+locations_pass ps gs hs known a = locations_follow ps gs None 0 hs known a (start_follows hs)
 
 -- ---- spheres
 
@@ -156,12 +206,13 @@ spheres_pass ps i (s ∷ ss) h =
 
 -- ---- the whole
 
-pub names_pass_all : (seed : Seed) (ps : List Game) → All GameKept seed.games → NamesDiffer (all_names seed.slots) → All (HasStart seed.games) seed.slots → PlayAll seed.games seed.slots ps
-    → All (IsKnown ps) seed.locations → Ascend held_cmp seed.locations → All (All (IsPlayedSlot ps)) seed.spheres → names_named seed ≡ Ok tt
+pub names_pass_all : (seed : Seed) (ps gs : List Game) → All GameKept seed.games → NamesDiffer (all_names seed.slots) → All (HasStart seed.games) seed.slots → PlayAll seed.games seed.slots ps
+    → GroupsKept seed → GroupsPlay seed.games seed.groups gs → All (IsKnown ps gs) seed.locations → Ascend held_cmp seed.locations → All (All (IsPlayedSlot ps)) seed.spheres → names_named seed ≡ Ok tt
 unfolding names_named
-names_pass_all seed ps games differ start play known ascend spots = rw (
+names_pass_all seed ps gs games differ start play groups group_play known ascend spots = rw (
   games_pass seed.games games,
   slots_pass seed.games [] 0 seed.slots ps differ start play,
-  locations_pass ps seed.locations known ascend,
+  groups_pass seed.games seed [] 0 seed.groups gs groups.differ groups.each group_play,
+  locations_pass ps gs seed.locations known ascend,
   spheres_pass ps 0 seed.spheres spots,
 ) refl

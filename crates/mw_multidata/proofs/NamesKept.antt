@@ -15,20 +15,13 @@ use Rattle.mw_json.specs.declared.refusal.Kind.TheVariants.{DuplicateName, Dupli
 use Rattle.mw_json.specs.declared.refusal.Step.TheVariants.{Name, Index}
 use Rattle.mw_json.proofs.Passing.{after, within}
 use Rattle.mw_model.specs.Ascending.{Ascend, ComesBefore}
-use Rattle.mw_multidata.specs.Names.{demand, known, has_id, ids_differ, game_named, games_named, find_game, has_name, names_differ, start_named, all_names, slot_named, slots_named, played_by, comes_after, held_named, locations_named, spot_named, sphere_named, spheres_named, names_named}
+use Rattle.mw_multidata.specs.Names.{demand, known, has_id, ids_differ, game_named, games_named, find_game, has_name, names_differ, start_named, all_names, slot_named, slots_named, played_by, received_by, names_with, groups_named, comes_after, held_named, locations_named, spot_named, sphere_named, spheres_named, names_named}
 use Rattle.mw_multidata.specs.SeedKept.{entry_id, has_item, has_location, held_cmp}
 use Rattle.mw_multidata.proofs.Bools.{neither}
 use Rattle.mw_multidata.proofs.Ids.{has_id_push}
-use Rattle.mw_multidata.proofs.Names.{has_name_append}
-use Rattle.mw_multidata.proofs.Plays.{PlayAll}
-
-not_false : (kind : Kind) (b : Bool) → IfOk (demand kind (not b)) (λ _. b ≡ false)
-not_false kind true = tt
-not_false kind false = refl
-
-demanded : (kind : Kind) (b : Bool) → IfOk (demand kind b) (λ _. b ≡ true)
-demanded kind true = refl
-demanded kind false = tt
+use Rattle.mw_multidata.proofs.GroupsKept.{AreGrouped, groups_kept}
+use Rattle.mw_multidata.proofs.Judged.{not_false, demanded, known_kept, NewNames, Differ, split_names, both_new, apart_from, both_differ}
+use Rattle.mw_multidata.proofs.Plays.{PlayAll, GroupsPlay}
 
 -- ---- ids
 
@@ -84,43 +77,6 @@ games_kept (g ∷ gs) =
 
 -- ---- names
 
--- none of these is among those before
-abbrev NewNames : List (List ℕ) → List (List ℕ) → Type 0
-NewNames before [] = Unit {0}
-NewNames before (n ∷ ns) = (has_name before n ≡ false) × NewNames before ns
-
-abbrev Differ : List (List ℕ) → Type 0
-Differ ns = IsDistinct bytes_eq ns
-
-split_names : (xs ys ns : List (List ℕ)) → NewNames (xs ++ ys) ns → NewNames xs ns × NewNames ys ns
-split_names xs ys [] h = (tt, tt)
-split_names xs ys (n ∷ ns) h =
-    let both : (has_name xs n ≡ false) × (has_name ys n ≡ false) = neither (has_name xs n) (has_name ys n) (sym (has_name_append xs ys n) ∙ h.0) in
-    let rest : NewNames xs ns × NewNames ys ns = split_names xs ys ns h.1 in
-    ((both.0, rest.0), (both.1, rest.1))
-
-both_new : (before xs ys : List (List ℕ)) → NewNames before xs → NewNames before ys → NewNames before (xs ++ ys)
-both_new before [] ys h k = k
-both_new before (x ∷ xs) ys h k = (h.0, both_new before xs ys h.1 k)
-
-apart_from : (x : List ℕ) (xs ys : List (List ℕ)) → NewNames (x ∷ xs) ys → AllByRecursion (λ y. bytes_eq x y ≡ false) ys × NewNames xs ys
-apart_from x xs [] h = (tt, tt)
-apart_from x xs (y ∷ ys) h =
-    let both : (bytes_eq x y ≡ false) × (has_name xs y ≡ false) = neither (bytes_eq x y) (has_name xs y) h.0 in
-    let rest : AllByRecursion (λ y. bytes_eq x y ≡ false) ys × NewNames xs ys = apart_from x xs ys h.1 in
-    ((both.0, rest.0), (both.1, rest.1))
-
-all_apart : (x : List ℕ) (xs ys : List (List ℕ)) → AllByRecursion (λ y. bytes_eq x y ≡ false) xs → AllByRecursion (λ y. bytes_eq x y ≡ false) ys → AllByRecursion (λ y. bytes_eq x y ≡ false) (xs ++ ys)
-all_apart x [] ys h k = k
-all_apart x (z ∷ xs) ys h k = (h.0, all_apart x xs ys h.1 k)
-
-both_differ : (xs ys : List (List ℕ)) → Differ xs → Differ ys → NewNames xs ys → Differ (xs ++ ys)
-unfolding IsDistinct
-both_differ [] ys d e h = e
-both_differ (x ∷ xs) ys d e h =
-    let apart : AllByRecursion (λ y. bytes_eq x y ≡ false) ys × NewNames xs ys = apart_from x xs ys h in
-    (all_apart x xs ys d.0 apart.0, both_differ xs ys d.1 e apart.1)
-
 names_kept : (before : List (List ℕ)) (i : ℕ) (ns : List (List ℕ)) → IfOk (names_differ before i ns) (λ _. NewNames before ns × Differ ns)
 unfolding IsDistinct
 names_kept before i [] = (tt, tt)
@@ -145,10 +101,6 @@ start_kept game i (s ∷ ss) =
     let there = demand UnknownName (has_id game.item_name_to_id s.item) in
     after P (λ _. All (HasStart game) (s ∷ ss)) (under (Index i) (under (Index 0) there)) _ (within P (Index i) (under (Index 0) there) (within P (Index 0) there (demanded UnknownName (has_id game.item_name_to_id s.item)))) (λ _ a.
     IfOk-weaker (start_named game (i + 1) ss) (λ _. All (HasStart game) ss) (λ _. All (HasStart game) (s ∷ ss)) (λ _ b. All-cons (HasStart game) s ss a b) (start_kept game (i + 1) ss))
-
-known_kept : {A : Type 0} (found : Option A) → IfOk (known found) (λ x. found ≡ Some x)
-known_kept None = tt
-known_kept (Some x) = refl
 
 -- the game of a slot is there, and has the items to begin with
 pub record PlayKept (games : List Game) (s : Slot) : Type 0 where
@@ -222,21 +174,21 @@ follows : (before : Option Held) (h : Held) → comes_after before h ≡ true �
 follows None h e = tt
 follows (Some before) h e = after_it before h e
 
--- where these are the games that the slots play
-pub record IsKnown (ps : List Game) (h : Held) : Type 0 where
+-- where these are the games that the slots and the groups play
+pub record IsKnown (ps gs : List Game) (h : Held) : Type 0 where
   pub location : has_location (played_by ps h.slot) h.location ≡ true
-  pub item : has_item (played_by ps h.receiver) h.item ≡ true
+  pub item : has_item (received_by ps gs h.receiver) h.item ≡ true
 
-held_kept : (ps : List Game) (before : Option Held) (h : Held) → IfOk (held_named ps before h) (λ _. IsKnown ps h × Follows before h)
+held_kept : (ps gs : List Game) (before : Option Held) (h : Held) → IfOk (held_named ps gs before h) (λ _. IsKnown ps gs h × Follows before h)
 unfolding held_named
-held_kept ps before h =
-    let Q : Unit {0} → Type 0 = λ _. IsKnown ps h × Follows before h in
+held_kept ps gs before h =
+    let Q : Unit {0} → Type 0 = λ _. IsKnown ps gs h × Follows before h in
     let F : Game → Type 0 = λ g. played_by ps h.slot ≡ Some g in
-    let R : Game → Type 0 = λ g. played_by ps h.receiver ≡ Some g in
+    let R : Game → Type 0 = λ g. received_by ps gs h.receiver ≡ Some g in
     after F Q (under (Index 0) (known (played_by ps h.slot))) _ (within F (Index 0) (known (played_by ps h.slot)) (known_kept (played_by ps h.slot))) (λ finder a.
     let L : Unit {0} → Type 0 = λ _. has_id finder.location_name_to_id h.location ≡ true in
     after L Q (under (Index 1) (demand UnknownName (has_id finder.location_name_to_id h.location))) _ (within L (Index 1) (demand UnknownName (has_id finder.location_name_to_id h.location)) (demanded UnknownName (has_id finder.location_name_to_id h.location))) (λ location b.
-    after R Q (under (Index 3) (known (played_by ps h.receiver))) _ (within R (Index 3) (known (played_by ps h.receiver)) (known_kept (played_by ps h.receiver))) (λ receiver c.
+    after R Q (under (Index 3) (known (received_by ps gs h.receiver))) _ (within R (Index 3) (known (received_by ps gs h.receiver)) (known_kept (received_by ps gs h.receiver))) (λ receiver c.
     let I : Unit {0} → Type 0 = λ _. has_id receiver.item_name_to_id h.item ≡ true in
     after I Q (under (Index 2) (demand UnknownName (has_id receiver.item_name_to_id h.item))) _ (within I (Index 2) (demand UnknownName (has_id receiver.item_name_to_id h.item)) (demanded UnknownName (has_id receiver.item_name_to_id h.item))) (λ held d.
     IfOk-weaker (demand WrongOrder (comes_after before h)) (λ _. comes_after before h ≡ true) Q (λ _ e. (
@@ -248,8 +200,8 @@ held_kept ps before h =
     )) (demanded WrongOrder (comes_after before h))))))
 
 -- they ascend, the first following this one
-record AreFollowing (ps : List Game) (before : Option Held) (hs : List Held) : Type 0 where
-  known : All (IsKnown ps) hs
+record AreFollowing (ps gs : List Game) (before : Option Held) (hs : List Held) : Type 0 where
+  known : All (IsKnown ps gs) hs
   first : All (Follows before) hs
   rest : Ascend held_cmp hs
 
@@ -261,16 +213,16 @@ through : (before : Option Held) (h : Held) (hs : List Held) → Follows before 
 through None h hs f a = λ k d l. tt
 through (Some before) h hs f a = λ k d l. held_total.trans before h (get_or hs k d) f (a k d l)
 
-locations_kept : (ps : List Game) (before : Option Held) (i : ℕ) (hs : List Held) → IfOk (locations_named ps before i hs) (λ _. AreFollowing ps before hs)
-locations_kept ps before i [] = record { known = All-nil (IsKnown ps); first = All-nil (Follows before); rest = tt }
-locations_kept ps before i (h ∷ hs) =
-    let P : Unit {0} → Type 0 = λ _. IsKnown ps h × Follows before h in
-    after P (λ _. AreFollowing ps before (h ∷ hs)) (under (Index i) (held_named ps before h)) _ (within P (Index i) (held_named ps before h) (held_kept ps before h)) (λ first f.
-    IfOk-weaker (locations_named ps (Some h) (i + 1) hs) (λ _. AreFollowing ps (Some h) hs) (λ _. AreFollowing ps before (h ∷ hs)) (λ _ r. record {
-      known = All-cons (IsKnown ps) h hs f.0 r.known;
+locations_kept : (ps gs : List Game) (before : Option Held) (i : ℕ) (hs : List Held) → IfOk (locations_named ps gs before i hs) (λ _. AreFollowing ps gs before hs)
+locations_kept ps gs before i [] = record { known = All-nil (IsKnown ps gs); first = All-nil (Follows before); rest = tt }
+locations_kept ps gs before i (h ∷ hs) =
+    let P : Unit {0} → Type 0 = λ _. IsKnown ps gs h × Follows before h in
+    after P (λ _. AreFollowing ps gs before (h ∷ hs)) (under (Index i) (held_named ps gs before h)) _ (within P (Index i) (held_named ps gs before h) (held_kept ps gs before h)) (λ first f.
+    IfOk-weaker (locations_named ps gs (Some h) (i + 1) hs) (λ _. AreFollowing ps gs (Some h) hs) (λ _. AreFollowing ps gs before (h ∷ hs)) (λ _ r. record {
+      known = All-cons (IsKnown ps gs) h hs f.0 r.known;
       first = All-cons (Follows before) h hs f.1 (through before h hs f.1 r.first);
       rest = (come_before h hs r.first, r.rest);
-    }) (locations_kept ps (Some h) (i + 1) hs))
+    }) (locations_kept ps gs (Some h) (i + 1) hs))
 
 -- ---- spheres
 
@@ -315,7 +267,9 @@ pub record NamesKept (seed : Seed) : Type 0 where
   pub differ : Differ (all_names seed.slots)
   pub games : List Game
   pub played : PlayAll seed.games seed.slots games
-  pub known : All (IsKnown games) seed.locations
+  pub grouped : List Game
+  pub groups : AreGrouped seed.games seed [] seed.groups grouped
+  pub known : All (IsKnown games grouped) seed.locations
   pub ascend : Ascend held_cmp seed.locations
   pub there : All (All (IsThere games)) seed.spheres
 
@@ -328,8 +282,10 @@ seed_names_kept seed =
     let S : List Game → Type 0 = λ ps. AreNamed games seed.slots ps × NewNames [] (all_names seed.slots) in
     after S Q (under (Name (codes "slots")) (slots_named games [] 0 seed.slots)) _ (within S (Name (codes "slots")) (slots_named games [] 0 seed.slots) (slots_kept games [] 0 seed.slots)) (λ ps b.
     let named : AreNamed seed.games seed.slots ps = subst (λ gs. AreNamed gs seed.slots ps) a.0 b.0 in
-    let L : Unit {0} → Type 0 = λ _. AreFollowing ps None seed.locations in
-    after L Q (under (Name (codes "locations")) (locations_named ps None 0 seed.locations)) _ (within L (Name (codes "locations")) (locations_named ps None 0 seed.locations) (locations_kept ps None 0 seed.locations)) (λ locations c.
+    let R : List Game → Type 0 = AreGrouped games seed [] seed.groups in
+    after R Q (under (Name (codes "groups")) (groups_named games seed [] 0 seed.groups)) _ (within R (Name (codes "groups")) (groups_named games seed [] 0 seed.groups) (groups_kept games seed [] 0 seed.groups)) (λ gs r.
+    let L : Unit {0} → Type 0 = λ _. AreFollowing ps gs None seed.locations in
+    after L Q (under (Name (codes "locations")) (locations_named ps gs None 0 seed.locations)) _ (within L (Name (codes "locations")) (locations_named ps gs None 0 seed.locations) (locations_kept ps gs None 0 seed.locations)) (λ locations c.
     let T : Unit {0} → Type 0 = λ _. All (All (IsThere ps)) seed.spheres in
     IfOk-weaker (under (Name (codes "spheres")) (spheres_named ps 0 seed.spheres)) T Q (λ _ d. record {
       ids = a.1;
@@ -337,7 +293,9 @@ seed_names_kept seed =
       differ = named.differ;
       games = ps;
       played = named.plays;
+      grouped = gs;
+      groups = subst (λ games. AreGrouped games seed [] seed.groups gs) a.0 r;
       known = c.known;
       ascend = c.rest;
       there = d;
-    }) (within T (Name (codes "spheres")) (spheres_named ps 0 seed.spheres) (spheres_kept ps 0 seed.spheres)))))
+    }) (within T (Name (codes "spheres")) (spheres_named ps 0 seed.spheres) (spheres_kept ps 0 seed.spheres))))))

@@ -1,20 +1,23 @@
 -- What a seed file's shape gives keeps the rules of kinds and ranges.
-use Rattle.std.proofs.Common.{◌≡◌, ◌≤◌, ℕ, List, [], length, map, refl, arith}
+use Rattle.std.proofs.Common.{◌≡◌, ◌≤◌, ◌-◌, ℕ, List, Bool, true, false, length, map, arith}
 use Rattle.std.specs.Prelude.{All, IfOk, codes}
+use Rattle.std.proofs.lemmas.Grind.{common_steps}
+use Rattle.std.proofs.lemmas.List.Elements.{All-nil}
 use Rattle.std.proofs.lemmas.Result.{IfOk-weaker}
-use Rattle.mw_model.specs.Json.{Json, Members}
-use Rattle.mw_model.specs.Seed.{Seed, Slot, StartItem, Game, NamedId, Held, RoomOptions, Spot}
+use Rattle.mw_model.specs.Json.{Json, Items, Members}
+use Rattle.mw_model.specs.Seed.{Seed, Slot, Group, StartItem, Game, NamedId, Held, RoomOptions, Spot}
 use Rattle.mw_json.specs.Grammar.{number_at, name_of, name_at, items_length, list_at, list_up_to, object_at, field_at}
 use Rattle.mw_json.specs.Parts.{id_at, not_empty, list_of_length, element_at}
 use Rattle.mw_json.specs.Readers.{each_from, list_of_at, each_member_at}
 use Rattle.mw_json.specs.Settings.{password_at, remaining_at, permission_at}
 use Rattle.mw_json.specs.Valid.{IsValid, MembersAreValid}
 use Rattle.mw_json.proofs.Kept.{IsBetween, number_kept, counted, bounded, some_kept, AreKept, each_kept, list_kept, element_kept, object_valid, in_valid_field, AreNamed, members_kept}
-use Rattle.mw_json.proofs.Passing.{past, after, in_field}
+use Rattle.mw_json.proofs.Passing.{past, after, in_field, where_true}
+use Rattle.mw_json.specs.declared.refusal.Kind.TheVariants.{WrongKind}
 use Rattle.mw_model.specs.Ascending.{NamesAscend}
 use Rattle.mw_multidata.specs.Parts.{slot_number_at, flags_at}
 use Rattle.mw_multidata.specs.SeedKept.{IsName, IsId, ServerKept, EntryKept, entry_name, game_name}
-use Rattle.mw_multidata.specs.Shape.{server_at, named_id_at, ids_at, game_at, games_at, names_at, start_item_at, slot_at, slots_at, held_at, spot_at, sphere_at, spheres_at, format_at, seed_name_at, members_at, shape_at}
+use Rattle.mw_multidata.specs.Shape.{server_at, named_id_at, ids_at, game_at, games_at, names_at, start_item_at, slot_at, slots_at, several_of, group_members_at, group_at, groups_at, held_at, spot_at, sphere_at, spheres_at, form_at, seed_name_at, members_at, shape_at}
 use Rattle.mw_multidata.proofs.Kept.{id_kept, IsClass, flags_kept, IsShort, name_kept, named_kept, password_kept, IsSeedName, seed_name_kept, IsRemaining, IsPermission, remaining_kept, permission_kept}
 
 -- ---- the settings
@@ -134,6 +137,43 @@ slots_kept teams j =
     IfOk-weaker (each_from (slot_at teams) 0 some) (AreKept (SlotShape teams) (items_length some)) (AreSlots teams) (λ ss l.
     record { some = omega (arith, k.0, l.0); few = omega (arith, h, k.1, l.0); each = l.1 }) (each_kept (SlotShape teams) (slot_at teams) (slot_kept teams) 0 some)))
 
+-- ---- the groups
+
+pub record GroupShape (g : Group) : Type 0 where
+  pub name : IsName 16 g.name
+  pub some : 2 ≤ length g.members
+
+abbrev AreSeveral : List ℕ → Type 0
+AreSeveral ns = 2 ≤ length ns
+
+several_kept : (js : Items) → IfOk (several_of js) (λ several. 2 ≤ items_length several)
+several_kept js = where_true (λ several. 2 ≤ items_length several) _ js WrongKind (λ e. grind (arith, common_steps, e))
+
+group_members_kept : (j : Json) → IfOk (group_members_at j) AreSeveral
+unfolding group_members_at
+group_members_kept j =
+    let N : ℕ → Type 0 = IsBetween 1 1024 in
+    past AreSeveral (list_at j) _ (λ js.
+    after (λ several. 2 ≤ items_length several) AreSeveral (several_of js) _ (several_kept js) (λ several h.
+    IfOk-weaker (each_from slot_number_at 0 several) (AreKept N (items_length several)) AreSeveral (λ ns k. omega (arith, h, k.0)) (each_kept N slot_number_at (number_kept 1 1024) 0 several)))
+
+group_kept : (j : Json) → IfOk (group_at j) GroupShape
+unfolding group_at
+group_kept j =
+    past GroupShape (object_at j) _ (λ ms.
+    after (IsName 16) GroupShape (field_at (codes "name") (name_at 16) ms) _ (in_field (IsName 16) (codes "name") (name_at 16) ms (named_kept 16)) (λ name a.
+    past GroupShape (field_at (codes "game") (name_at 128) ms) _ (λ game.
+    after AreSeveral GroupShape (field_at (codes "members") group_members_at ms) _ (in_field AreSeveral (codes "members") group_members_at ms group_members_kept) (λ numbers b.
+    record { name = a; some = b }))))
+
+-- beside so many slots
+abbrev pub AreGroups : ℕ → List Group → Type 0
+AreGroups slots gs = (length gs ≤ 1024 - slots) × All GroupShape gs
+
+groups_kept : (second : Bool) (slots : ℕ) (ms : Members) → IfOk (groups_at second slots ms) (AreGroups slots)
+groups_kept false slots ms = (omega arith, All-nil GroupShape)
+groups_kept true slots ms = in_field (AreGroups slots) (codes "groups") (list_of_at (1024 - slots) group_at) ms (list_kept GroupShape group_at group_kept (1024 - slots))
+
 -- ---- the locations
 
 abbrev pub HeldShape : Held → Type 0
@@ -191,7 +231,7 @@ pub record IsShape (seed : Seed) : Type 0 where
   pub server : ServerKept seed.server
   pub games : AreGames seed.games
   pub slots : AreSlots seed.teams seed.slots
-  pub groups : seed.groups ≡ []
+  pub groups : AreGroups (length seed.slots) seed.groups
   pub few_locations : length seed.locations ≤ 16777216
   pub locations : All HeldShape seed.locations
   pub spheres : All SphereShape seed.spheres
@@ -201,12 +241,13 @@ unfolding members_at
 members_shaped ms o =
     let P : Seed → Type 0 = IsShape in
     let Teams : ℕ → Type 0 = IsBetween 1 8 in
-    past P (field_at (codes "format") format_at ms) _ (λ format.
+    past P (field_at (codes "format") form_at ms) _ (λ second.
     after IsSeedName P (field_at (codes "seed_name") seed_name_at ms) _ (in_field IsSeedName (codes "seed_name") seed_name_at ms seed_name_kept) (λ seed_name a.
     after Teams P (field_at (codes "teams") (number_at 1 8) ms) _ (in_field Teams (codes "teams") (number_at 1 8) ms (number_kept 1 8)) (λ teams b.
     after ServerKept P (field_at (codes "server") server_at ms) _ (in_field ServerKept (codes "server") server_at ms server_kept) (λ server c.
     after AreGames P (field_at (codes "games") games_at ms) _ (in_valid_field AreGames (codes "games") games_at ms o games_kept) (λ games d.
     after (AreSlots teams) P (field_at (codes "slots") (slots_at teams) ms) _ (in_field (AreSlots teams) (codes "slots") (slots_at teams) ms (slots_kept teams)) (λ slots e.
+    after (AreGroups (length slots)) P (groups_at second (length slots) ms) _ (groups_kept second (length slots) ms) (λ groups h.
     after FewHeld P (field_at (codes "locations") (list_of_at 16777216 held_at) ms) _ (in_field FewHeld (codes "locations") (list_of_at 16777216 held_at) ms (list_kept HeldShape held_at held_kept 16777216)) (λ locations f.
     after (All SphereShape) P (field_at (codes "spheres") spheres_at ms) _ (in_field (All SphereShape) (codes "spheres") spheres_at ms spheres_kept) (λ spheres g. record {
       name = a;
@@ -215,11 +256,11 @@ members_shaped ms o =
       server = c;
       games = d;
       slots = e;
-      groups = refl;
+      groups = h;
       few_locations = f.0;
       locations = f.1;
       spheres = g;
-    }))))))))
+    })))))))))
 
 pub shape_kept : (j : Json) → IsValid j → IfOk (shape_at j) IsShape
 unfolding shape_at

@@ -1,13 +1,13 @@
 -- The text that is written of a seed stands for that very seed.
-use Rattle.std.proofs.Common.{◌≡◌, ◌≤◌, ◌<◌, ℕ, ℤ, zero, suc, List, [], ◌∷◌, Bool, true, false, nat_cmp, Option, Some, None, Result, Ok, Err, inr, length, map, is_some, refl, sym, ap, subst, ◌∙◌, arith}
-use Rattle.std.specs.Prelude.{All, IfOk, IsUtf8, bytes_eq, chars, codes, slice_get, slice_index_or, if◌then◌else◌}
+use Rattle.std.proofs.Common.{◌≡◌, ◌≤◌, ◌<◌, ◌++◌, ℕ, ℤ, zero, suc, List, [], ◌∷◌, Bool, true, false, nat_cmp, Option, Some, None, Result, Ok, Err, inr, length, map, is_some, refl, sym, ap, subst, ◌∙◌, arith}
+use Rattle.std.specs.Prelude.{All, IfOk, IsUtf8, bytes_eq, chars, codes, nat_le, slice_get, slice_index_or, if◌then◌else◌}
 use Rattle.std.specs.Cmp.Lexicographic.{slice_cmp}
 use Rattle.std.specs.Ordering.{int_eq}
 use Rattle.std.proofs.lemmas.List.Elements.{All-head, All-tail}
 use Rattle.std.proofs.lemmas.Slice.Eq.{bytes_eq-Decides}
 use Rattle.mw_model.specs.Json.{words, many, Members, find_member, depth, ComeAfter, IsWritable, IsOrdered, MembersAreOrdered}
 use Rattle.mw_model.specs.Games.{game_json, ids_members}
-use Rattle.mw_model.specs.Seed.{Seed, Slot, Game, NamedId, Held, Spot, slot_of}
+use Rattle.mw_model.specs.Seed.{Seed, Slot, Group, Game, NamedId, Held, Spot, slot_of, group_of}
 use Rattle.mw_json.specs.Grammar.{number_at, field_at}
 use Rattle.mw_json.specs.Reading.{reading, max_depth}
 use Rattle.mw_json.specs.Readers.{list_of_at}
@@ -16,16 +16,16 @@ use Rattle.mw_json.specs.View.{members_of}
 use Rattle.mw_json.proofs.Again.{reads_back}
 use Rattle.mw_model.specs.Ascending.{ComesBefore, NamesAscend}
 use Rattle.mw_multidata.specs.Names.{has_id, find_game, played_by, names_named}
-use Rattle.mw_multidata.specs.SeedKept.{IsName, IsId, EntryKept, GameKept, SlotKept, HeldKept, SpotKept, SphereKept, IsSeed, entry_name, game_name, has_item, has_location, game_of, played}
+use Rattle.mw_multidata.specs.SeedKept.{IsName, IsId, EntryKept, GameKept, SlotKept, GroupKept, HeldKept, SpotKept, SphereKept, IsSeed, entry_name, game_name, has_item, has_location, game_of, game_of_group, played, received}
 use Rattle.mw_multidata.specs.SeedOf.{seed_at, SeedOf}
-use Rattle.mw_multidata.specs.Shape.{format_at, seed_name_of, seed_name_at, server_at, games_at, slots_at, held_at, spheres_at, members_at, shape_at}
-use Rattle.mw_multidata.specs.Written.{number_json, server_json, game_member, games_json, slot_json, held_json, sphere_json, seed_json, seed_text}
+use Rattle.mw_multidata.specs.Shape.{form_at, seed_name_of, seed_name_at, server_at, games_at, slots_at, held_at, spheres_at, members_at, shape_at}
+use Rattle.mw_multidata.specs.Written.{number_json, server_json, game_member, games_json, slot_json, form_word, groups_member, other_members, held_json, sphere_json, seed_json, seed_text}
 use Rattle.mw_multidata.proofs.Bools.{by_two}
-use Rattle.mw_multidata.proofs.Again.{members_in, field_again, number_again, short_again, server_again, games_again, SlotShape, slots_again, HeldShape, held_again, list_again, SpotShape, SphereShape, spheres_again}
+use Rattle.mw_multidata.proofs.Again.{members_in, field_again, number_again, short_again, server_again, games_again, SlotShape, slots_again, GroupShape, is_second, form_again, groups_again, past_groups, HeldShape, held_again, list_again, SpotShape, SphereShape, spheres_again}
 use Rattle.mw_multidata.proofs.NamesAgain.{IsPlayedSlot, names_pass_all}
 use Rattle.mw_multidata.proofs.NamesKept.{IsKnown, IsWithin}
 use Rattle.mw_multidata.proofs.Orders.{seed_ordered, seed_plain, seed_shallow}
-use Rattle.mw_multidata.proofs.Plays.{PlayAll, played_same, plays, number_within, some_item, received_slot}
+use Rattle.mw_multidata.proofs.Plays.{PlayAll, GroupsPlay, slot_game, group_game, all_play, played_same, received_same, number_within, player_within, receiver_within}
 
 -- ---- what is known by a look-up
 
@@ -70,13 +70,30 @@ slot_found : (gs : List Game) (slot : Option Slot) → All GameKept gs → IsFou
 slot_found gs (Some s) h = found_kept gs s.game h
 slot_found gs None h = tt
 
+-- the game of a group that may be there
+abbrev group_game_name : Option Group → List ℕ
+group_game_name (Some g) = g.game
+group_game_name None = []
+
+group_found : (gs : List Game) (group : Option Group) → All GameKept gs → IsFound (group_game_name group) (game_of_group gs group)
+group_found gs (Some g) h = found_kept gs g.game h
+group_found gs None h = tt
+
+either_id : (low : Bool) (x y : Option Game) (id : ℤ) → (has_item x id ≡ true → IsId id) → (has_item y id ≡ true → IsId id) → has_item (if low then x else y) id ≡ true → IsId id
+either_id true x y id f g e = f e
+either_id false x y id f g e = g e
+
+some_item : (found : Option Game) (id : ℤ) → has_item found id ≡ true → is_some found ≡ true
+some_item (Some g) id e = refl
+some_item None id e = e
+
 some_location : (found : Option Game) (id : ℤ) → has_location found id ≡ true → is_some found ≡ true
 some_location (Some g) id e = refl
 some_location None id e = e
 
 -- ---- its parts by their shape
 
-module _ (seed : Seed) (h : IsSeed seed) (none : seed.groups ≡ []) where
+module _ (seed : Seed) (h : IsSeed seed) where
   slot_shape : (s : Slot) → SlotKept seed.teams seed.games s → SlotShape seed.teams s
   slot_shape s k =
       let found : IsFound s.game (find_game seed.games s.game) = found_kept seed.games s.game h.games.each in
@@ -90,18 +107,33 @@ module _ (seed : Seed) (h : IsSeed seed) (none : seed.groups ≡ []) where
             record { id = item_id s.game (find_game seed.games s.game) (slice_index_or s.start i d).item found one.item; class = one.class };
       }
 
+  group_shape : (g : Group) → GroupKept seed g → GroupShape g
+  group_shape g k = record {
+    name = k.name;
+    game = found_name g.game (find_game seed.games g.game) (found_kept seed.games g.game h.games.each) k.game;
+    some = k.some;
+    numbers = λ i d l.
+        let number = player_within seed (slice_index_or g.members i d) g.game (k.each i d l) in
+        (number.0, omega (arith, number.1, h.slots.few));
+  }
+
+  received_id : (x : Held) → has_item (received seed x.receiver) x.item ≡ true → IsId x.item
+  received_id x =
+      either_id (nat_le x.receiver (length seed.slots)) (played seed x.receiver) (game_of_group seed.games (group_of seed x.receiver)) x.item
+      (item_id (slot_name (slot_of seed x.receiver)) (played seed x.receiver) x.item (slot_found seed.games (slot_of seed x.receiver) h.games.each))
+      (item_id (group_game_name (group_of seed x.receiver)) (game_of_group seed.games (group_of seed x.receiver)) x.item (group_found seed.games (group_of seed x.receiver) h.games.each))
+
   held_shape : (x : Held) → HeldKept seed x → HeldShape x
   held_shape x k =
       let finder = number_within seed x.slot (some_location (played seed x.slot) x.location k.location) in
-      let own = received_slot seed x.receiver x.item none k.item in
-      let receiver = number_within seed x.receiver (some_item (played seed x.receiver) x.item own) in
+      let receiver = receiver_within seed x.receiver (some_item (received seed x.receiver) x.item k.item) in
       record {
         slot_low = finder.0;
         slot_high = omega (arith, finder.1, h.slots.few);
         location = location_id (slot_name (slot_of seed x.slot)) (played seed x.slot) x.location (slot_found seed.games (slot_of seed x.slot) h.games.each) k.location;
-        held = item_id (slot_name (slot_of seed x.receiver)) (played seed x.receiver) x.item (slot_found seed.games (slot_of seed x.receiver) h.games.each) own;
+        held = received_id x k.item;
         receiver_low = receiver.0;
-        receiver_high = omega (arith, receiver.1, h.slots.few);
+        receiver_high = omega (arith, receiver.1, h.groups.few);
         class = k.class;
       }
 
@@ -111,10 +143,10 @@ module _ (seed : Seed) (h : IsSeed seed) (none : seed.groups ≡ []) where
   sphere_shape : (spots : List Spot) → SphereKept (length seed.slots) spots → SphereShape spots
   sphere_shape spots k = record { some = k.some; each = λ i d l. spot_shape (slice_index_or spots i d) (k.each i d l) }
 
-  held_known : (ps : List Game) → PlayAll seed.games seed.slots ps → (x : Held) → HeldKept seed x → IsKnown ps x
-  held_known ps play x k = record {
+  held_known : (ps gs : List Game) → PlayAll seed.games seed.slots ps → GroupsPlay seed.games seed.groups gs → (x : Held) → HeldKept seed x → IsKnown ps gs x
+  held_known ps gs play group_play x k = record {
     location = subst (λ f. has_location f x.location ≡ true) (sym (played_same seed ps play x.slot)) k.location;
-    item = subst (λ f. has_item f x.item ≡ true) (sym (played_same seed ps play x.receiver)) (received_slot seed x.receiver x.item none k.item);
+    item = subst (λ f. has_item f x.item ≡ true) (sym (received_same seed ps gs play group_play x.receiver)) k.item;
   }
 
 -- the game of a slot that is there
@@ -162,42 +194,43 @@ seed_name_again : (s : List ℕ) → seed_name_of s ≡ Ok s → seed_name_at (w
 unfolding seed_name_at
 seed_name_again s h = h
 
-format_read : (ms : Members) → find_member (codes "format") ms ≡ Some (words (codes "mw-multidata-1")) → field_at (codes "format") format_at ms ≡ Ok (codes "mw-multidata-1")
-unfolding format_at
-format_read ms h = field_again format_at (codes "format") ms (words (codes "mw-multidata-1")) (codes "mw-multidata-1") h refl
-
-module _ (seed : Seed) (h : IsSeed seed) (none : seed.groups ≡ []) where
+module _ (seed : Seed) (h : IsSeed seed) where
   shape_read : shape_at (seed_json seed) ≡ Ok seed
   unfolding shape_at members_at
   shape_read =
       let ms = members_in (seed_json seed) in
-      let slots : All (SlotShape seed.teams) seed.slots = λ k d l. slot_shape seed h none (slice_index_or seed.slots k d) (h.slots.each k d l) in
-      let locations : All HeldShape seed.locations = λ k d l. held_shape seed h none (slice_index_or seed.locations k d) (h.locations.each k d l) in
-      let spheres : All SphereShape seed.spheres = λ k d l. sphere_shape seed h none (slice_index_or seed.spheres k d) (h.spheres k d l) in
+      let past : (name : List ℕ) → bytes_eq (codes "groups") name ≡ false → find_member name (members_of (groups_member seed.groups ++ other_members seed)) ≡ find_member name (members_of (other_members seed)) =
+      λ name. past_groups name seed.groups (other_members seed) in
+      let slots : All (SlotShape seed.teams) seed.slots = λ k d l. slot_shape seed h (slice_index_or seed.slots k d) (h.slots.each k d l) in
+      let groups : All GroupShape seed.groups = λ k d l. group_shape seed h (slice_index_or seed.groups k d) (h.groups.each k d l) in
+      let locations : All HeldShape seed.locations = λ k d l. held_shape seed h (slice_index_or seed.locations k d) (h.locations.each k d l) in
+      let spheres : All SphereShape seed.spheres = λ k d l. sphere_shape seed h (slice_index_or seed.spheres k d) (h.spheres k d l) in
       rw (
-        format_read ms refl,
-        field_again seed_name_at (codes "seed_name") ms (words seed.seed_name) seed.seed_name refl (seed_name_again seed.seed_name (seed_name_read seed.seed_name h.name_there h.name_short)),
-        field_again (number_at 1 8) (codes "teams") ms (number_json seed.teams) seed.teams refl (number_again 1 8 seed.teams h.some_team h.few_teams),
-        field_again server_at (codes "server") ms (server_json seed.server) seed.server refl (server_again seed.server h.server),
+        field_again form_at (codes "format") ms (words (form_word seed.groups)) (is_second seed.groups) refl (form_again seed.groups),
+        field_again seed_name_at (codes "seed_name") ms (words seed.seed_name) seed.seed_name (past (codes "seed_name") refl) (seed_name_again seed.seed_name (seed_name_read seed.seed_name h.name_there h.name_short)),
+        field_again (number_at 1 8) (codes "teams") ms (number_json seed.teams) seed.teams (past (codes "teams") refl) (number_again 1 8 seed.teams h.some_team h.few_teams),
+        field_again server_at (codes "server") ms (server_json seed.server) seed.server (past (codes "server") refl) (server_again seed.server h.server),
         field_again games_at (codes "games") ms (games_json seed.games) seed.games refl (games_again seed.games h.games.each),
-        field_again (slots_at seed.teams) (codes "slots") ms (many (items_of (map slot_json seed.slots))) seed.slots refl (slots_again seed.teams seed.slots h.slots.some h.slots.few slots),
-        field_again (list_of_at 16777216 held_at) (codes "locations") ms (many (items_of (map held_json seed.locations))) seed.locations refl
+        field_again (slots_at seed.teams) (codes "slots") ms (many (items_of (map slot_json seed.slots))) seed.slots (past (codes "slots") refl) (slots_again seed.teams seed.slots h.slots.some h.slots.few slots),
+        groups_again (length seed.slots) seed.groups (words (form_word seed.groups)) (games_json seed.games) (other_members seed) (omega (arith, h.groups.few)) groups,
+        field_again (list_of_at 16777216 held_at) (codes "locations") ms (many (items_of (map held_json seed.locations))) seed.locations (past (codes "locations") refl)
             (list_again HeldShape held_at held_json held_again 16777216 seed.locations h.locations.few locations),
-        sym none,
-        field_again spheres_at (codes "spheres") ms (many (items_of (map sphere_json seed.spheres))) seed.spheres refl (spheres_again seed.spheres spheres),
+        field_again spheres_at (codes "spheres") ms (many (items_of (map sphere_json seed.spheres))) seed.spheres (past (codes "spheres") refl) (spheres_again seed.spheres spheres),
       ) refl
 
   names_read : names_named seed ≡ Ok tt
   names_read =
-      let play = plays seed.games seed.slots (λ k d l. (h.slots.each k d l).game) in
+      let play = all_play slot_game seed.games seed.slots (λ k d l. (h.slots.each k d l).game) in
+      let group_play = all_play group_game seed.games seed.groups (λ k d l. (h.groups.each k d l).game) in
       let ps = play.0 in
+      let gs = group_play.0 in
       let spots : All (All (IsPlayedSlot ps)) seed.spheres =
       λ k d l i e m.
       let kept = (h.spheres k d l).each i e m in
       let spot = slice_index_or (slice_index_or seed.spheres k d) i e in
       spot_played seed.games seed.slots ps play.1 spot spot.slot refl kept.low kept.high in
-      names_pass_all seed ps h.games.each h.slots.differ (λ k d l. (h.slots.each k d l).start) play.1
-      (λ k d l. held_known seed h none ps play.1 (slice_index_or seed.locations k d) (h.locations.each k d l)) h.locations.ascend spots
+      names_pass_all seed ps gs h.games.each h.slots.differ (λ k d l. (h.slots.each k d l).start) play.1 h.groups group_play.1
+      (λ k d l. held_known seed h ps gs play.1 group_play.1 (slice_index_or seed.locations k d) (h.locations.each k d l)) h.locations.ascend spots
 
   seed_read : seed_at (seed_json seed) ≡ Ok seed
   unfolding seed_at

@@ -1,7 +1,7 @@
 -- The names of a seed file that has its shape: the first one that stands twice, isn't there, or stands out of order.
-use Rattle.std.specs.Prelude.{ℕ, ℤ, zero, suc, ◌+◌, ◌==◌, ◌&&◌, ◌||◌, not, nat_lt, int_lt, List, [], ◌∷◌, ◌++◌, Bool, true, false, Option, Some, None, Result, Ok, bytes_eq, slice_get, codes, if◌then◌else◌}
+use Rattle.std.specs.Prelude.{ℕ, ℤ, zero, suc, ◌+◌, ◌-◌, ◌==◌, ◌&&◌, ◌||◌, not, nat_le, nat_lt, int_lt, List, [], ◌∷◌, ◌++◌, Bool, true, false, Option, Some, None, Result, Ok, bytes_eq, slice_get, codes, length, map, if◌then◌else◌}
 use Rattle.std.specs.Ordering.{int_eq}
-use Rattle.mw_model.specs.Seed.{Seed, Slot, StartItem, Game, NamedId, Held, Spot}
+use Rattle.mw_model.specs.Seed.{Seed, Slot, Group, StartItem, Game, NamedId, Held, Spot, slot_of}
 use Rattle.mw_json.specs.Grammar.{Breach, ◌>>=◌, refused, under}
 use Rattle.mw_json.specs.declared.refusal.Kind.{Kind}
 use Rattle.mw_json.specs.declared.refusal.Kind.TheVariants.{DuplicateName, DuplicateId, UnknownName, WrongOrder}
@@ -99,6 +99,60 @@ abbrev pub played_by : List Game → ℕ → Option Game
 played_by played zero = None
 played_by played (suc before) = slice_get played before
 
+-- ---- groups
+
+abbrev pub group_name : Group → List ℕ
+group_name g = g.name
+
+-- the slot is there and plays the game of this name
+abbrev pub plays_game : Option Slot → List ℕ → Bool
+plays_game (Some s) name = bytes_eq s.game name
+plays_game None name = false
+
+abbrev pub is_above : Option ℕ → ℕ → Bool
+is_above None number = true
+is_above (Some before) number = nat_lt before number
+
+-- a slot of the game, above the member before it
+unfoldable pub member_named : Seed → List ℕ → Option ℕ → ℕ → Check
+member_named seed game before number = do
+  plays ← demand UnknownName (plays_game (slot_of seed number) game)
+  demand WrongOrder (is_above before number)
+
+abbrev pub members_named : Seed → List ℕ → Option ℕ → ℕ → List ℕ → Check
+members_named seed game before i [] = Ok tt
+members_named seed game before i (number ∷ numbers) = do
+  first ← under (Index i) (member_named seed game before number)
+  members_named seed game (Some number) (i + 1) numbers
+
+-- the names of all players and of these groups
+abbrev pub names_with : Seed → List Group → List (List ℕ)
+names_with seed groups = all_names seed.slots ++ map group_name groups
+
+-- the game of a group, after these groups
+unfoldable pub group_named : List Game → Seed → List Group → Group → Result Game Breach
+group_named games seed earlier g = do
+  differs ← under (Name (codes "name"))
+      (demand DuplicateName (not (has_name (names_with seed earlier) g.name)))
+  game ← under (Name (codes "game")) (known (find_game games g.game))
+  numbers ← under (Name (codes "members")) (members_named seed g.game None 0 g.members)
+  Ok game
+
+-- the games of the groups, in order
+abbrev pub groups_named : List Game → Seed → List Group → ℕ → List Group
+    → Result (List Game) Breach
+groups_named games seed earlier i [] = Ok []
+groups_named games seed earlier i (g ∷ gs) = do
+  first ← under (Index i) (group_named games seed earlier g)
+  others ← groups_named games seed (earlier ++ g ∷ []) (i + 1) gs
+  Ok (first ∷ others)
+
+-- the game of the receiver of a number: a slot or, numbered on from the slots, a group
+abbrev pub received_by : List Game → List Game → ℕ → Option Game
+received_by played grouped number =
+    if nat_le number (length played) then played_by played number
+    else slice_get grouped (number - suc (length played))
+
 -- ---- locations
 
 -- by slot, then by location
@@ -108,19 +162,19 @@ comes_after (Some before) h =
     nat_lt before.slot h.slot || ((before.slot == h.slot) && int_lt before.location h.location)
 
 -- the receiver is judged before the item that it receives
-unfoldable pub held_named : List Game → Option Held → Held → Check
-held_named played before h = do
+unfoldable pub held_named : List Game → List Game → Option Held → Held → Check
+held_named played grouped before h = do
   finder ← under (Index 0) (known (played_by played h.slot))
   location ← under (Index 1) (demand UnknownName (has_id finder.location_name_to_id h.location))
-  receiver ← under (Index 3) (known (played_by played h.receiver))
+  receiver ← under (Index 3) (known (received_by played grouped h.receiver))
   held ← under (Index 2) (demand UnknownName (has_id receiver.item_name_to_id h.item))
   demand WrongOrder (comes_after before h)
 
-abbrev pub locations_named : List Game → Option Held → ℕ → List Held → Check
-locations_named played before i [] = Ok tt
-locations_named played before i (h ∷ hs) = do
-  first ← under (Index i) (held_named played before h)
-  locations_named played (Some h) (i + 1) hs
+abbrev pub locations_named : List Game → List Game → Option Held → ℕ → List Held → Check
+locations_named played grouped before i [] = Ok tt
+locations_named played grouped before i (h ∷ hs) = do
+  first ← under (Index i) (held_named played grouped before h)
+  locations_named played grouped (Some h) (i + 1) hs
 
 -- ---- spheres
 
@@ -147,5 +201,7 @@ unfoldable pub names_named : Seed → Check
 names_named seed = do
   games ← under (Name (codes "games")) (games_named seed.games)
   played ← under (Name (codes "slots")) (slots_named games [] 0 seed.slots)
-  locations ← under (Name (codes "locations")) (locations_named played None 0 seed.locations)
+  grouped ← under (Name (codes "groups")) (groups_named games seed [] 0 seed.groups)
+  locations ← under (Name (codes "locations"))
+      (locations_named played grouped None 0 seed.locations)
   under (Name (codes "spheres")) (spheres_named played 0 seed.spheres)

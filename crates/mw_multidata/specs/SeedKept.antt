@@ -1,11 +1,11 @@
 -- What a seed keeps, rule by rule of its file's format. Each text is UTF-8 by its type.
-use Rattle.std.specs.Prelude.{◌≡◌, ℕ, ℤ, pos, ◌<◌, ◌≤◌, ◌≤ℤ◌, ◌<ℤ◌, ◌^◌, ◌+◌, ◌++◌, ◌==◌, ◌||◌, nat_le, List, Bool, true, false, Option, Some, None, All, bytes_eq, chars, length, map, is_some, if◌then◌else◌}
+use Rattle.std.specs.Prelude.{◌≡◌, ℕ, ℤ, pos, ◌<◌, ◌≤◌, ◌≤ℤ◌, ◌<ℤ◌, ◌^◌, ◌+◌, ◌==◌, ◌||◌, nat_le, List, Bool, true, false, Option, Some, None, All, bytes_eq, chars, length, map, is_some, if◌then◌else◌}
 use Rattle.std.specs.List.{IsDistinct}
 use Rattle.std.specs.Ordering.{nat_cmp, int_cmp, int_eq, ordering_then}
 use Rattle.std.specs.declared.cmp.Ordering.{Ordering}
 use Rattle.mw_model.specs.Seed.{Seed, Slot, Group, StartItem, Game, NamedId, Held, RoomOptions, Spot, slot_of, group_of}
 use Rattle.mw_model.specs.Ascending.{Ascend, NamesAscend}
-use Rattle.mw_multidata.specs.Names.{has_id, find_game, all_names}
+use Rattle.mw_multidata.specs.Names.{has_id, find_game, all_names, plays_game, names_with}
 
 -- 1 to so many characters, none below U+0020
 pub record IsName (most : ℕ) (name : List ℕ) : Type 0 where
@@ -97,11 +97,6 @@ pub record SlotsKept (seed : Seed) : Type 0 where
 
 -- ---- the groups
 
--- the slot is there and plays the game of this name
-abbrev pub plays_game : Option Slot → List ℕ → Bool
-plays_game (Some s) name = bytes_eq s.game name
-plays_game None name = false
-
 -- several slots, in order, that all play one of the games
 pub record GroupKept (seed : Seed) (g : Group) : Type 0 where
   pub name : IsName 16 g.name
@@ -110,13 +105,10 @@ pub record GroupKept (seed : Seed) (g : Group) : Type 0 where
   pub each : All (λ number. plays_game (slot_of seed number) g.game ≡ true) g.members
   pub ascend : Ascend nat_cmp g.members
 
-abbrev pub group_name : Group → List ℕ
-group_name g = g.name
-
 pub record GroupsKept (seed : Seed) : Type 0 where
   pub few : length seed.slots + length seed.groups ≤ 1024
   pub each : All (GroupKept seed) seed.groups
-  pub differ : IsDistinct bytes_eq (all_names seed.slots ++ map group_name seed.groups)
+  pub differ : IsDistinct bytes_eq (names_with seed seed.groups)
 
 -- ---- the locations
 

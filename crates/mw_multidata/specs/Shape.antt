@@ -1,8 +1,8 @@
 -- The shape of a seed file: its value by kinds and ranges alone, or the first breach of them.
-use Rattle.std.specs.Prelude.{ℕ, List, [], ◌∷◌, Result, Ok, bytes_eq, codes, if◌then◌else◌}
-use Rattle.mw_model.specs.Json.{Json, Members}
-use Rattle.mw_model.specs.Seed.{Seed, Slot, StartItem, Game, NamedId, Held, RoomOptions, Spot}
-use Rattle.mw_json.specs.Grammar.{Breach, ◌>>=◌, refused, number_at, text_at, short_text, name_of, name_at, list_at, list_up_to, object_at, field_at}
+use Rattle.std.specs.Prelude.{ℕ, ◌-◌, List, [], ◌∷◌, Bool, true, false, Result, Ok, bytes_eq, codes, length, nat_le, if◌then◌else◌}
+use Rattle.mw_model.specs.Json.{Json, Items, Members}
+use Rattle.mw_model.specs.Seed.{Seed, Slot, Group, StartItem, Game, NamedId, Held, RoomOptions, Spot}
+use Rattle.mw_json.specs.Grammar.{Breach, ◌>>=◌, refused, number_at, text_at, short_text, name_of, name_at, items_length, list_at, list_up_to, object_at, field_at}
 use Rattle.mw_json.specs.declared.refusal.Kind.TheVariants.{WrongKind, OtherFormat}
 use Rattle.mw_json.specs.Parts.{id_at, not_empty, list_of_length, element_at}
 use Rattle.mw_json.specs.Readers.{each_from, list_of_at, each_member_at}
@@ -85,6 +85,31 @@ slots_at teams j = do
   some ← not_empty js
   each_from (slot_at teams) 0 some
 
+-- ---- the groups
+
+-- at least two
+abbrev pub several_of : Items → Result Items Breach
+several_of js = if nat_le 2 (items_length js) then Ok js else refused WrongKind
+
+unfoldable pub group_members_at : Json → Result (List ℕ) Breach
+group_members_at j = do
+  js ← list_at j
+  several ← several_of js
+  each_from slot_number_at 0 several
+
+unfoldable pub group_at : Json → Result Group Breach
+group_at j = do
+  ms ← object_at j
+  name ← field_at (codes "name") (name_at 16) ms
+  game ← field_at (codes "game") (name_at 128) ms
+  numbers ← field_at (codes "members") group_members_at ms
+  Ok record { name = name; game = game; members = numbers }
+
+-- what stands under groups in the second form, beside so many slots; the first form has no groups
+abbrev pub groups_at : Bool → ℕ → Members → Result (List Group) Breach
+groups_at false slots ms = Ok []
+groups_at true slots ms = field_at (codes "groups") (list_of_at (1024 - slots) group_at) ms
+
 -- ---- the locations
 
 unfoldable pub held_at : Json → Result Held Breach
@@ -119,14 +144,16 @@ spheres_at j = do
 
 -- ---- the whole
 
--- the one format
-abbrev pub format_of : List ℕ → Result (List ℕ) Breach
-format_of s = if bytes_eq s (codes "mw-multidata-1") then Ok s else refused OtherFormat
+-- whether it is the second form
+abbrev pub form_of : List ℕ → Result Bool Breach
+form_of s =
+    if bytes_eq s (codes "mw-multidata-1") then Ok false
+    else (if bytes_eq s (codes "mw-multidata-2") then Ok true else refused OtherFormat)
 
-unfoldable pub format_at : Json → Result (List ℕ) Breach
-format_at j = do
+unfoldable pub form_at : Json → Result Bool Breach
+form_at j = do
   s ← text_at j
-  format_of s
+  form_of s
 
 -- a text of 1 to 128 characters
 abbrev pub seed_name_of : List ℕ → Result (List ℕ) Breach
@@ -140,12 +167,13 @@ seed_name_at j = do
 
 unfoldable pub members_at : Members → Result Seed Breach
 members_at ms = do
-  format ← field_at (codes "format") format_at ms
+  second ← field_at (codes "format") form_at ms
   seed_name ← field_at (codes "seed_name") seed_name_at ms
   teams ← field_at (codes "teams") (number_at 1 8) ms
   server ← field_at (codes "server") server_at ms
   games ← field_at (codes "games") games_at ms
   slots ← field_at (codes "slots") (slots_at teams) ms
+  groups ← groups_at second (length slots) ms
   locations ← field_at (codes "locations") (list_of_at 16777216 held_at) ms
   spheres ← field_at (codes "spheres") spheres_at ms
   Ok record {
@@ -154,7 +182,7 @@ members_at ms = do
     server = server;
     games = games;
     slots = slots;
-    groups = [];
+    groups = groups;
     locations = locations;
     spheres = spheres;
   }

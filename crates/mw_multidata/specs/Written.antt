@@ -1,9 +1,9 @@
 -- The seed file of a seed: its members in ascending byte order, without white space.
-use Rattle.std.specs.Prelude.{ℕ, pos, ◌==◌, List, [], ◌∷◌, codes, map, if◌then◌else◌}
+use Rattle.std.specs.Prelude.{ℕ, pos, ◌==◌, List, [], ◌∷◌, ◌++◌, codes, map, if◌then◌else◌}
 use Rattle.mw_model.specs.Json.{Json, whole, words, many, members, no_members, member}
 use Rattle.mw_model.specs.Games.{game_json}
 use Rattle.mw_model.specs.Trees.{items_of, text_json}
-use Rattle.mw_model.specs.Seed.{Seed, Slot, StartItem, Game, Held, RoomOptions, Spot}
+use Rattle.mw_model.specs.Seed.{Seed, Slot, Group, StartItem, Game, Held, RoomOptions, Spot}
 use Rattle.mw_model.specs.Spelling.{spelling}
 use Rattle.mw_json.specs.View.{members_of}
 
@@ -47,7 +47,23 @@ slot_json s =
     (member (codes "names") (many (items_of (map text_json s.names)))
     (member (codes "start") (many (items_of (map start_json s.start))) no_members)))
 
--- a location: the slot that finds it, the location, the item there, the slot that receives it, its class
+abbrev pub group_json : Group → Json
+group_json g =
+    members (member (codes "game") (words g.game)
+    (member (codes "members") (many (items_of (map number_json g.members)))
+    (member (codes "name") (words g.name) no_members)))
+
+-- the second form is written exactly where there is a group
+abbrev pub form_word : List Group → List ℕ
+form_word [] = codes "mw-multidata-1"
+form_word (g ∷ gs) = codes "mw-multidata-2"
+
+-- the groups under their name, where there is one
+abbrev pub groups_member : List Group → List (List ℕ × Json)
+groups_member [] = []
+groups_member (g ∷ gs) = (codes "groups", many (items_of (map group_json (g ∷ gs)))) ∷ []
+
+-- a location: the slot that finds it, the location, the item there, who receives it, its class
 abbrev pub held_json : Held → Json
 held_json h =
     many (items_of
@@ -61,16 +77,26 @@ spot_json s = many (items_of (number_json s.slot ∷ number_json s.index ∷ [])
 abbrev pub sphere_json : List Spot → Json
 sphere_json spots = many (items_of (map spot_json spots))
 
+-- the members before the locations
+abbrev pub first_members : Seed → List (List ℕ × Json)
+first_members seed =
+    (codes "format", words (form_word seed.groups))
+    ∷ (codes "games", games_json seed.games)
+    ∷ groups_member seed.groups
+
+-- the others
+abbrev pub other_members : Seed → List (List ℕ × Json)
+other_members seed =
+    (codes "locations", many (items_of (map held_json seed.locations)))
+    ∷ (codes "seed_name", words seed.seed_name)
+    ∷ (codes "server", server_json seed.server)
+    ∷ (codes "slots", many (items_of (map slot_json seed.slots)))
+    ∷ (codes "spheres", many (items_of (map sphere_json seed.spheres)))
+    ∷ (codes "teams", number_json seed.teams)
+    ∷ []
+
 abbrev pub seed_json : Seed → Json
-seed_json seed =
-    members (member (codes "format") (words (codes "mw-multidata-1"))
-    (member (codes "games") (games_json seed.games)
-    (member (codes "locations") (many (items_of (map held_json seed.locations)))
-    (member (codes "seed_name") (words seed.seed_name)
-    (member (codes "server") (server_json seed.server)
-    (member (codes "slots") (many (items_of (map slot_json seed.slots)))
-    (member (codes "spheres") (many (items_of (map sphere_json seed.spheres)))
-    (member (codes "teams") (number_json seed.teams) no_members))))))))
+seed_json seed = members (members_of (first_members seed ++ other_members seed))
 
 -- the seed file's text
 abbrev pub seed_text : Seed → List ℕ

@@ -2,7 +2,7 @@ ghost use Rattle.std.specs.Prelude.{◌≡◌, Some, None};
 ghost use Rattle.std.specs.Option.{option_copied};
 ghost use Rattle.mw_json.specs.Grammar.{Gives};
 ghost use Rattle.mw_json.specs.declared.refusal.Kind.TheVariants.{UnknownName, WrongOrder};
-ghost use Rattle.mw_multidata.specs.Names.{demand, has_id, played_by, comes_after, held_named, locations_named};
+ghost use Rattle.mw_multidata.specs.Names.{demand, has_id, played_by, received_by, comes_after, held_named, locations_named};
 
 use crate::catalog::{Catalog, Plays};
 use crate::seed::Held;
@@ -17,6 +17,22 @@ pub(crate) fn played_in<'a, 'b>(played: &'a [Plays<'b>], slot: u16) -> Option<&'
         None
     } else {
         played.get(slot as usize - 1)
+    }
+}
+
+/// The game that a receiver plays: a slot or, numbered on from the slots, a group; None exactly where there is none.
+fn received_in<'a, 'b>(
+    played: &'a [Plays<'b>],
+    grouped: &'a [Plays<'b>],
+    number: u16,
+) -> Option<&'a Plays<'b>>
+    ensures { option_copied result ≡ received_by played.now grouped.now number }
+{
+    let slots = played.len();
+    if usize::from(number) <= slots {
+        played_in(played, number)
+    } else {
+        grouped.get(usize::from(number) - slots - 1)
     }
 }
 
@@ -70,33 +86,35 @@ fn judge_order(alloc: Global, before: Option<Held>, held: &Held) -> Result<(), R
 fn judge_held(
     alloc: Global,
     played: &[Plays],
+    grouped: &[Plays],
     before: Option<Held>,
     held: &Held,
 ) -> Result<(), Refusal>
-    ensures { Gives result (held_named played.now before held.now) }
+    ensures { Gives result (held_named played.now grouped.now before held.now) }
 {
     let Some(finder) = played_in(played, held.slot.get()) else {
         return at_index(refuse(alloc, Kind::UnknownName), 0);
     };
     at_index(judge_location(alloc, finder.catalog(), held), 1)?;
-    let Some(receiver) = played_in(played, held.receiver) else {
+    let Some(receiver) = received_in(played, grouped, held.receiver) else {
         return at_index(refuse(alloc, Kind::UnknownName), 3);
     };
     at_index(judge_item(alloc, receiver.catalog(), held), 2)?;
     judge_order(alloc, before, held)
 }
 
-/// The entries of a seed file, in the games that the slots play.
+/// The entries of a seed file, in the games that the slots and the groups play.
 pub(crate) fn judge_locations(
     alloc: Global,
     played: &[Plays],
+    grouped: &[Plays],
     locations: &[Held],
 ) -> Result<(), Refusal>
-    ensures { Gives result (locations_named played.now None 0 locations.now) }
+    ensures { Gives result (locations_named played.now grouped.now None 0 locations.now) }
 {
     let mut before = None;
     for (i, held) in locations.iter().enumerate() {
-        at_index(judge_held(alloc, played, before, held), i as u64)?;
+        at_index(judge_held(alloc, played, grouped, before, held), i as u64)?;
         before = Some(*held);
     }
     Ok(())

@@ -7,6 +7,7 @@ ghost use Rattle.mw_multidata.specs.SeedKept.{IsSeed};
 ghost use Rattle.mw_multidata.specs.SeedOf.{seed_at};
 
 use crate::catalog::catalogs_of;
+use crate::group_names::judge_groups;
 use crate::location_names::judge_locations;
 use crate::multidata::Multidata;
 use crate::shape::{Shape, shape_of};
@@ -23,8 +24,11 @@ fn judge_names(alloc: Global, shape: &Shape) -> Result<(), Refusal>
     let catalogs = at_name(alloc, catalogs_of(alloc, shape.games.as_slice()), "games")?;
     let played = judge_slots(alloc, catalogs.as_slice(), shape.slots.as_slice());
     let played = at_name(alloc, played, "slots")?;
+    let grouped = judge_groups(alloc, catalogs.as_slice(), shape, shape.groups.as_slice());
+    let grouped = at_name(alloc, grouped, "groups")?;
     let played = played.as_slice();
-    let locations = judge_locations(alloc, played, shape.locations.as_slice());
+    let grouped = grouped.as_slice();
+    let locations = judge_locations(alloc, played, grouped, shape.locations.as_slice());
     at_name(alloc, locations, "locations")?;
     let spheres = judge_spheres(alloc, played, shape.spheres.as_slice());
     at_name(alloc, spheres, "spheres")
@@ -77,9 +81,12 @@ fn accepted(shape: Shape) -> Multidata
 
 /// The seed that a file's bytes stand for, or the first refusal.
 ///
+/// The file is of the form `mw-multidata-1`, which has no groups and in which a member of that name is ignored, or of
+/// the form `mw-multidata-2`, which has `groups`, a list of objects of `name`, `game` and `members`.
+///
 /// `NoJson` and `TooDeep` stand at the whole. Then comes the first value that isn't of its kind or in its range, in
-/// the order format, seed_name, teams, server, games, slots, locations, spheres. Then comes the first name or id that
-/// stands twice, isn't there or stands out of order, in that same order. `Memory` is want of memory.
+/// the order format, seed_name, teams, server, games, slots, groups, locations, spheres. Then comes the first name or
+/// id that stands twice, isn't there or stands out of order, in that same order. `Memory` is want of memory.
 pub fn read(alloc: Global, bytes: &[u8]) -> Result<Multidata, Refusal>
     ensures { GivesFile result seed_at bytes.now }
 {

@@ -2,15 +2,16 @@ ghost use Rattle.std.specs.Prelude.{◌≡◌};
 ghost use Rattle.mw_json.specs.View.{view};
 ghost use Rattle.mw_json.specs.Grammar.{Gives, number_at};
 ghost use Rattle.mw_json.specs.Readers.{list_of_at};
-ghost use Rattle.mw_multidata.specs.Shape.{format_of, format_at, seed_name_of, seed_name_at, held_at, shape_at};
+ghost use Rattle.mw_multidata.specs.Shape.{form_of, form_at, seed_name_of, seed_name_at, held_at, shape_at};
 
 use crate::games::games_of;
+use crate::groups::groups_in;
 use crate::locations::held_of;
 use crate::seed::{Game, Group, Held, Slot};
 use crate::server::server_of;
 use crate::slots::slots_of;
 use crate::spheres::spheres_of;
-use mw_base::{List, RoomOptions, SphereList, Text};
+use mw_base::{List, RoomOptions, SlotId, SphereList, Text};
 use mw_json::{
     Kind, Refusal, Tree, copy_short, field_in, list, number_between, object_of, refuse, text_of,
 };
@@ -47,22 +48,40 @@ impl Model for Shape {
     } };
 }
 
-fn judge_format(alloc: Global, word: &str) -> Result<Text, Refusal>
-    ensures { Gives result (format_of word.now) }
+impl Shape {
+    ghost use Rattle.std.specs.Prelude.{◌≡◌};
+    ghost use Rattle.std.specs.Option.{option_copied};
+    ghost use Rattle.mw_model.specs.Seed.{slot_of};
+
+    /// The slot of a number; None where there is none.
+    #[tactic(auto, using(crate::proofs::Numbered::slot_of_before))]
+    pub(crate) fn slot(&self, number: SlotId) -> Option<&Slot>
+        ensures { option_copied result ≡ slot_of self.now number }
+    {
+        let at = number.get() - 1;
+        self.slots.get(usize::from(at))
+    }
+}
+
+/// Whether it is the second form.
+fn judge_form(alloc: Global, word: &str) -> Result<bool, Refusal>
+    ensures { Gives result (form_of word.now) }
 {
     if word == "mw-multidata-1" {
-        Ok(Text::of(alloc, word)?)
+        Ok(false)
+    } else if word == "mw-multidata-2" {
+        Ok(true)
     } else {
         refuse(alloc, Kind::OtherFormat)
     }
 }
 
-#[tactic(auto, unfolding(crate::specs::Shape::format_at))]
-fn format_in(alloc: Global, tree: &Tree) -> Result<Text, Refusal>
-    ensures { Gives result (format_at (view tree.now)) }
+#[tactic(auto, unfolding(crate::specs::Shape::form_at))]
+fn form_in(alloc: Global, tree: &Tree) -> Result<bool, Refusal>
+    ensures { Gives result (form_at (view tree.now)) }
 {
     let word = text_of(alloc, tree)?;
-    judge_format(alloc, word)
+    judge_form(alloc, word)
 }
 
 fn judge_seed_name(alloc: Global, text: &str) -> Result<Text, Refusal>
@@ -102,12 +121,13 @@ pub(crate) fn shape_of(alloc: Global, tree: &Tree) -> Result<Shape, Refusal>
     ensures { Gives result (shape_at (view tree.now)) }
 {
     let members = object_of(alloc, tree)?;
-    field_in(alloc, members, "format", format_in)?;
+    let second = field_in(alloc, members, "format", form_in)?;
     let seed_name = field_in(alloc, members, "seed_name", seed_name_in)?;
     let teams = field_in(alloc, members, "teams", teams_in)?;
     let server = field_in(alloc, members, "server", server_of)?;
     let games = field_in(alloc, members, "games", games_of)?;
     let slots = field_in(alloc, members, "slots", |a, t| slots_of(a, t, teams))?;
+    let groups = groups_in(alloc, members, second, slots.len())?;
     let locations = field_in(alloc, members, "locations", locations_of)?;
     let spheres = field_in(alloc, members, "spheres", spheres_of)?;
     Ok(Shape {
@@ -116,7 +136,7 @@ pub(crate) fn shape_of(alloc: Global, tree: &Tree) -> Result<Shape, Refusal>
         server,
         games,
         slots,
-        groups: List::new(alloc),
+        groups,
         locations,
         spheres,
     })

@@ -24,7 +24,7 @@ fn has_name(names: &[Text], name: &str) -> bool
 
 /// Whether a slot has a name.
 #[tactic(auto, using(crate::proofs::Names::has_name_append))]
-fn some_slot_has(slots: &[Slot], name: &str) -> bool
+pub(crate) fn some_slot_has(slots: &[Slot], name: &str) -> bool
     ensures { result ≡ has_name (all_names slots.now) name.now }
 {
     for slot in slots {
@@ -56,7 +56,11 @@ fn judge_names(alloc: Global, earlier: &[Slot], names: &[Text]) -> Result<(), Re
 }
 
 /// The game of a name that has to be there.
-fn game_in<'a>(alloc: Global, catalogs: &'a [Catalog<'a>], name: &str) -> Result<Plays<'a>, Refusal>
+pub(crate) fn game_in<'a>(
+    alloc: Global,
+    catalogs: &'a [Catalog<'a>],
+    name: &str,
+) -> Result<Plays<'a>, Refusal>
     ensures { Gives result (known (find_game catalogs.now name.now)) }
 {
     match find_game(catalogs, name) {

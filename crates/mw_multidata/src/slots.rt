@@ -12,15 +12,15 @@ use mw_json::{
 };
 use std::alloc::Global;
 
-/// A player's name, of at most 16 characters.
-fn player_name_in(alloc: Global, tree: &Tree) -> Result<Text, Refusal>
+/// A player's or a group's name, of at most 16 characters.
+pub(crate) fn player_name_in(alloc: Global, tree: &Tree) -> Result<Text, Refusal>
     ensures { Gives result (name_at 16 (view tree.now)) }
 {
     name_in(alloc, tree, 16)
 }
 
 /// A game's name, of at most 128 characters.
-fn game_name_in(alloc: Global, tree: &Tree) -> Result<Text, Refusal>
+pub(crate) fn game_name_in(alloc: Global, tree: &Tree) -> Result<Text, Refusal>
     ensures { Gives result (name_at 128 (view tree.now)) }
 {
     name_in(alloc, tree, 128)

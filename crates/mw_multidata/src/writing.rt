@@ -3,9 +3,10 @@ ghost use Rattle.mw_model.specs.Json.{IsWritable, MembersAreWritable};
 ghost use Rattle.mw_model.specs.Games.{game_json};
 ghost use Rattle.mw_json.specs.View.{view, member_view, members_view};
 ghost use Rattle.mw_multidata.specs.SeedOf.{SeedOf};
-ghost use Rattle.mw_multidata.specs.Written.{games_json, seed_json, seed_text};
+ghost use Rattle.mw_multidata.specs.Written.{games_json, first_members, other_members, seed_json, seed_text};
 
 use crate::game_trees::game_tree;
+use crate::group_trees::{form_of, put_groups};
 use crate::location_trees::locations_tree;
 use crate::multidata::Multidata;
 use crate::seed::Game;
@@ -13,7 +14,7 @@ use crate::server_tree::server_tree;
 use crate::slot_trees::slots_tree;
 use crate::sphere_trees::spheres_tree;
 use mw_base::{Bytes, List, Memory};
-use mw_json::{Field, Member, Tree, compact, object, object_tree, put};
+use mw_json::{Field, Member, Tree, compact, members, object_tree, put};
 use std::alloc::Global;
 
 /// A game's names under its name, after the others.
@@ -40,19 +41,33 @@ fn games_tree(alloc: Global, games: &[Game]) -> Result<Tree, Memory>
     Ok(object_tree(trees))
 }
 
-/// A seed, as an object.
-fn seed_tree(alloc: Global, seed: &Multidata) -> Result<Tree, Memory>
-    ensures value { IfOk result (λ t. view t ≡ seed_json seed.now) }
-    ensures writable { IfOk result (λ t. IsWritable (view t)) }
+/// The members before the locations.
+fn first_members(alloc: Global, seed: &Multidata) -> Result<List<Member>, Memory>
+    ensures value { IfOk result (λ ms. map member_view ms ≡ first_members seed.now) }
+    ensures writable { IfOk result (λ ms. MembersAreWritable (members_view ms)) }
 {
-    object(
+    let mut parts = members(
         alloc,
         &mut [
-            ("format", Field::Words("mw-multidata-1")),
+            ("format", Field::Words(form_of(seed.groups.as_slice()))),
             (
                 "games",
                 Field::Built(games_tree(alloc, seed.games.as_slice())),
             ),
+        ],
+    )?;
+    put_groups(alloc, &mut parts, seed.groups.as_slice())?;
+    Ok(parts)
+}
+
+/// The members from the locations on.
+fn other_members(alloc: Global, seed: &Multidata) -> Result<List<Member>, Memory>
+    ensures value { IfOk result (λ ms. map member_view ms ≡ other_members seed.now) }
+    ensures writable { IfOk result (λ ms. MembersAreWritable (members_view ms)) }
+{
+    members(
+        alloc,
+        &mut [
             (
                 "locations",
                 Field::Built(locations_tree(alloc, seed.locations.as_slice())),
@@ -72,11 +87,32 @@ fn seed_tree(alloc: Global, seed: &Multidata) -> Result<Tree, Memory>
     )
 }
 
-/// The seed file of a seed: compact, the members of each object in ascending byte order of their names. Read again
-/// it gives this very seed. Memory is its only error.
+/// These members, then others.
+fn joined(first: List<Member>, others: List<Member>) -> Result<List<Member>, Memory>
+    ensures { IfOk result (λ ms. map member_view ms
+        ≡ map member_view first ++ map member_view others) }
+{
+    let mut members = first.into_vec();
+    let mut others = others.into_vec();
+    members.append(&mut others)?;
+    Ok(List::from_vec(members))
+}
+
+/// A seed, as an object.
+fn seed_tree(alloc: Global, seed: &Multidata) -> Result<Tree, Memory>
+    ensures value { IfOk result (λ t. view t ≡ seed_json seed.now) }
+    ensures writable { IfOk result (λ t. IsWritable (view t)) }
+{
+    let first = first_members(alloc, seed)?;
+    let others = other_members(alloc, seed)?;
+    Ok(object_tree(joined(first, others)?))
+}
+
+/// The seed file of a seed: compact, the members of each object in ascending byte order of their names. It is of the
+/// form `mw-multidata-2` exactly where the seed has a group. Read again it gives this very seed. Memory is its only error.
 pub fn write(alloc: Global, multidata: &Multidata) -> Result<Bytes, Memory>
     ensures text { IfOk result (λ b. b ≡ seed_text multidata.now) }
-    ensures reads_back { multidata.now.groups ≡ [] → IfOk result (λ b. SeedOf b (Ok multidata.now)) }
+    ensures reads_back { IfOk result (λ b. SeedOf b (Ok multidata.now)) }
 {
     let _ = &multidata.seed_name;
     let tree = seed_tree(alloc, multidata)?;
