@@ -1,8 +1,6 @@
-use Rattle.std.proofs.Common.{◌≡◌, ◌+◌, ◌≤◌, ◌==◌, ℕ, List, length, get_or, ap, ◌∙◌, arith}
+use Rattle.std.proofs.Common.{◌≡◌, ℕ, List, length, get_or, ap, ◌∙◌, arith}
 use Rattle.std.proofs.lemmas.List.{length-replicate}
-use Rattle.mw_model.specs.Seed.{Held}
-use Rattle.mw_checks.specs.Rows.{one_if, finder_of}
-use Rattle.mw_checks.proofs.Counting.{counted_next, few_of, get_or-replicate_same}
+use Rattle.mw_checks.proofs.Counting.{get_or-replicate_same}
 use Rattle.mw_checks.proofs.counts.sizes_of.Goals as goal
 
 pub loop-held-init : goal.loop-held-init

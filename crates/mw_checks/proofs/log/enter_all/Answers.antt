@@ -17,7 +17,7 @@ enter-requires c =
     let places = places_more seed seen _ _ _ (check_of c.args.team pair) c.unwrap-number.result c.at.result.now l.invariant.kept
     (enters seed seen c.args.team pair _ c.unwrap-number.result c.at.result.now c.number_of.result first l.invariant.team c.number_of.ensures.slot c.number_of.ensures.value c.unwrap-number.ensures c.at.ensures.value) in
     let whole : c.multidata-multidata.result.now ≡ seed = c.multidata-multidata.ensures.value ∙ c.tables.ensures in
-    record { flag = places.0; received = subst (λ (s : Seed). HavePlaces (receivers_of s c.at.result.now) c.args.team _) (sym whole) places.1.0; found = places.1.1 }
+    record { flag = places.0; received = subst (λ (s : Seed). HavePlaces (receivers_of s c.at.result.now) c.args.team l.rows.received.items) (sym whole) places.1.0; found = places.1.1 }
 
 pub loop-slot-preserved : goal.loop-slot-preserved
 loop-slot-preserved c =
@@ -35,7 +35,7 @@ loop-slot-preserved c =
     subst (λ (bs : List Bool). Keeps seed (seen ++ check ∷ []) bs c.enter.new.self.received.items c.enter.new.self.found.items) (sym c.enter.ensures.flag)
     (keeps_more seed seen _ _ _ c.enter.new.self.received.items c.enter.new.self.found.items check c.unwrap-number.result c.at.result.now l.invariant.kept
     (enters seed seen c.args.team pair _ c.unwrap-number.result c.at.result.now c.number_of.result first l.invariant.team c.number_of.ensures.slot c.number_of.ensures.value c.unwrap-number.ensures c.at.ensures.value)
-    (subst (λ (s : Seed). PutFor (receivers_of s c.at.result.now) c.args.team c.unwrap-number.result _ c.enter.new.self.received.items) (c.multidata-multidata.ensures.value ∙ c.tables.ensures) c.enter.ensures.received) c.enter.ensures.found) in
+    (subst (λ (s : Seed). PutFor (receivers_of s c.at.result.now) c.args.team c.unwrap-number.result l.rows.received.items c.enter.new.self.received.items) (c.multidata-multidata.ensures.value ∙ c.tables.ensures) c.enter.ensures.received) c.enter.ensures.found) in
     record {
       listed = ap (λ (cs : List Check). cs ++ checks_of c.args.team (drop (l.slot-index + 1) fresh)) more ∙ append_assoc l.checks.items (check ∷ []) (checks_of c.args.team (drop (l.slot-index + 1) fresh))
           ∙ ap (λ (ps : List (ℕ × ℤ)). l.checks.items ++ checks_of c.args.team ps) (sym rest) ∙ l.invariant.listed;

@@ -1,10 +1,8 @@
-use Rattle.std.proofs.Common.{◌≡◌, ◌≢◌, ◌+◌, ◌<◌, ◌≤◌, ◌==◌, ◌++◌, ◌∷◌, [], ℕ, Vec, Global, List, Bool, true, length, drop, get_or, cond, sym, ap, ◌∙◌, subst, arith}
-use Rattle.std.specs.Prelude.{vec_len, vec_capacity}
+use Rattle.std.proofs.Common.{◌≡◌, ◌+◌, ◌≤◌, ◌==◌, ◌++◌, ◌∷◌, [], ℕ, List, true, drop, get_or, cond, sym, ap, ◌∙◌, subst, arith}
 use Rattle.std.specs.Ordering.{nat_cmp}
 use Rattle.mw_model.specs.Ascending.{Ascend}
 use Rattle.mw_model.specs.Seed.{has_number}
 use Rattle.mw_checks.specs.Rows.{HasPlace, Put, PutFor, one_if, seat}
-use Rattle.mw_checks.proofs.Counting.{few_of}
 use Rattle.mw_checks.proofs.Keeping.{put_for_one}
 use Rattle.mw_checks.proofs.Owning.{among_all, counted_apart, first_among, next_of, put_apart}
 use Rattle.mw_checks.proofs.rows.put_for_each.Goals as goal

@@ -1,8 +1,8 @@
-use Rattle.std.proofs.Common.{◌≡◌, ◌<◌, ◌≤◌, ◌==◌, ℕ, List, Some, true, length, refl, sym, ap, ◌∙◌, subst, arith}
+use Rattle.std.proofs.Common.{◌<◌, ◌≤◌, ℕ, List, length, refl, sym, ap, ◌∙◌, subst, arith}
 use Rattle.std.specs.Ordering.{nat_cmp}
 use Rattle.std.proofs.lemmas.Bool.{eq-eqb}
 use Rattle.mw_model.specs.Ascending.{Ascend}
-use Rattle.mw_model.specs.Seed.{Seed, Group, group_of, has_number, is_owner}
+use Rattle.mw_model.specs.Seed.{Seed, Group, has_number}
 use Rattle.mw_multidata.specs.SeedKept.{IsSeed}
 use Rattle.mw_checks.specs.Rows.{HasPlace, seat}
 use Rattle.mw_checks.proofs.Owning.{members_ascend, members_own, slot_owns}
