@@ -1,7 +1,7 @@
 ghost use Rattle.std.specs.Prelude.{◌≡◌, ◌&&◌, IsOk, IfOk};
 ghost use Rattle.std.specs.Option.{option_copied};
 ghost use Rattle.std.specs.Ordering.{int_eq};
-ghost use Rattle.mw_protocol.specs.Checks.{is_owner};
+ghost use Rattle.mw_model.specs.Seed.{is_owner};
 ghost use Rattle.mw_protocol.specs.Hints.{bought_for, bought_status, first_where, held_named};
 ghost use Rattle.mw_protocol.specs.Hints.{is_open, item_bought, item_named};
 ghost use Rattle.mw_protocol.specs.Hints.{location_bought, location_named, paid};
@@ -55,8 +55,9 @@ impl HintBook {
             && is_open (C.is_found log.now) self.now.hints team h)
             (C.seed log.now).locations }
     {
-        for held in log.tables().multidata().locations.as_slice() {
-            if held.receiver == slot.get()
+        let seed = log.tables().multidata();
+        for held in seed.locations.as_slice() {
+            if seed.is_owner(held.receiver, slot)
                 && held.item.get() == item
                 && self.is_open(team, held, log)
             {

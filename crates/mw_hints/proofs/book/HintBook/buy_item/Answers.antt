@@ -1,9 +1,8 @@
 use Rattle.std.proofs.Common.{◌≡◌, ◌&&◌, ℤ, pos, ◌≤ℤ◌, ◌<ℤ◌, ◌^◌, Option, Some, sym, ap, ◌∙◌, subst, arith, to_z, of_z, w64, to_z-of_z}
 use Rattle.std.specs.Ordering.{int_eq}
 use Rattle.std.specs.Option.{option_copied}
-use Rattle.mw_model.specs.Seed.{Seed, Held}
+use Rattle.mw_model.specs.Seed.{Seed, Held, is_owner}
 use Rattle.mw_protocol.specs.Hints.{first_where, is_open, item_bought, item_named, paid}
-use Rattle.mw_protocol.specs.Checks.{is_owner}
 use Rattle.mw_multidata.specs.SeedKept.{IsId}
 use Rattle.mw_hints.proofs.Numbers.{item_id}
 use Rattle.mw_protocol.specs.Standing.{cost, points_left}

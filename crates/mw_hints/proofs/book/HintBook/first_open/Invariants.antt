@@ -1,6 +1,6 @@
 use Rattle.std.proofs.Common.{◌≡◌, ◌&&◌, drop}
 use Rattle.std.specs.Ordering.{int_eq}
-use Rattle.mw_protocol.specs.Checks.{is_owner}
+use Rattle.mw_model.specs.Seed.{is_owner}
 use Rattle.mw_protocol.specs.Hints.{first_where, is_open}
 use Rattle.mw_hints.proofs.book.HintBook.first_open.Given as goal
 
