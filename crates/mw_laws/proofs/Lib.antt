@@ -24,6 +24,7 @@ mod Recording
 mod Runs
 mod Sessions
 mod Setting
+mod Sharing
 mod Showing
 mod ShownEffects
 mod Shows

@@ -3,7 +3,7 @@ ghost use Rattle.mw_laws.specs.Applied.{ClientsApply};
 ghost use Rattle.mw_laws.specs.Bounced.{BouncesReach};
 ghost use Rattle.mw_laws.specs.Clients.{ClientsFollow};
 ghost use Rattle.mw_laws.specs.Hinted.{HintsStand, HintsCostOnce, SlotsNeverOwe};
-ghost use Rattle.mw_laws.specs.Items.{ItemsComeOnce};
+ghost use Rattle.mw_laws.specs.Items.{ItemsComeOnce, OwnersShare};
 ghost use Rattle.mw_laws.specs.Journals.{JournalsGrow};
 ghost use Rattle.mw_laws.specs.Kept.{LivesKeep};
 ghost use Rattle.mw_laws.specs.Naming.{JournalsAreNamed};
@@ -73,6 +73,12 @@ pub fn clients_follow()
 /// each that a run of lives comes to.
 pub fn no_item_twice()
     ensures { ItemsComeOnce }
+{}
+
+/// What came for a receiver is the same, in the same order, for each of its owners: each member of
+/// a group gets each of the group's items, whoever found it.
+pub fn shared_items_are_one()
+    ensures { OwnersShare }
 {}
 
 /// What is checked stays checked as a journal grows, a hint of it shows that it is found, and a

@@ -1,13 +1,13 @@
 -- Rows of Room A with a group of Ann and Bob beside the definitions: Duo has number 3, and gets what stands at Ann's 102.
-use Rattle.std.specs.Prelude.{ℕ, ℤ, pos, ◌≡◌, ◌∷◌, [], List, Some, false, refl, codes}
+use Rattle.std.specs.Prelude.{pos, ◌≡◌, ◌∷◌, [], List, Some, false, refl, codes}
 use Rattle.mw_model.specs.Seed.{Seed}
 use Rattle.mw_protocol.specs.Asked.{checked}
 use Rattle.mw_protocol.specs.Connecting.{Member}
 use Rattle.mw_protocol.specs.Examples.{ann, bob, check_of, held, net_item, room_a}
-use Rattle.mw_protocol.specs.Messages.{ServerPacket, NetworkSlot, received_items, room_update}
+use Rattle.mw_protocol.specs.Messages.{ServerPacket, received_items, room_update}
 use Rattle.mw_protocol.specs.Owed.{growth_owed}
 use Rattle.mw_protocol.specs.Players.{connected_of}
-use Rattle.mw_protocol.specs.Records.{Record, checks, collect}
+use Rattle.mw_protocol.specs.Records.{checks, collect}
 use Rattle.mw_protocol.specs.Standing.{start, standing}
 
 abbrev pub room_of_duo : Seed

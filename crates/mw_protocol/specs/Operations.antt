@@ -1,9 +1,7 @@
 -- What an operation of the data storage makes of a value.
 use Rattle.std.specs.Prelude.{ℕ, zero, suc, ℤ, pos, negsuc, ◌+◌, ◌/◌, ◌^◌, ◌+ℤ◌, ◌-ℤ◌, ◌*ℤ◌, List, Bool, Option, Some, None, Result, Ok, Err, nat_lt, is_some, bytes_eq, codes, if◌then◌else◌}
 use Rattle.std.specs.Int.{w64, int_max, int_min, int_bit_and, int_bit_or, int_bit_xor}
-use Rattle.std.specs.Ordering.{nat_cmp, int_eq}
-use Rattle.std.specs.Cmp.Lexicographic.{slice_cmp}
-use Rattle.std.specs.declared.cmp.Ordering.TheVariants.{Less, Equal, Greater}
+use Rattle.std.specs.Ordering.{int_eq}
 use Rattle.mw_model.specs.Json.{Json, null, flag, whole, not_whole, numeral, words, many, members, Items, no_items, item, Members, no_members, member}
 use Rattle.mw_model.specs.Sets.{Operation}
 pub use Rattle.mw_model.specs.Trees.{set_member}
