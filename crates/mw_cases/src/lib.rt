@@ -5,4 +5,4 @@ mod case;
 mod room_a;
 
 pub use case::part;
-pub use room_a::{ROOM_A, ROOM_A_INFO};
+pub use room_a::{ROOM_A, ROOM_A_INFO, ROOM_OF_DUO};

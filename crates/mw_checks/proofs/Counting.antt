@@ -7,7 +7,10 @@ use Rattle.std.specs.Prelude.{vec_len, vec_capacity}
 use Rattle.std.specs.List.{count_by}
 use Rattle.std.proofs.lemmas.List.Recursion.{is_count_by}
 use Rattle.mw_model.specs.Seed.{Held}
-use Rattle.mw_checks.specs.Rows.{seat, one_if, many_of, awaited, finder_of, AllBelow, Fit, Put, Counts, Empty}
+use Rattle.mw_checks.specs.Rows.{seat, one_if, many_of, awaited, finder_of, AllBelow, Fit, Owners, PutFor, Counts, Empty}
+
+pub nobody : Owners
+nobody = λ _. false
 
 less_if : (b x y : Bool) → (x ≡ true → y ≡ true) → one_if (b && not y) ≤ one_if (b && not x)
 less_if false x y h = omega arith
@@ -23,32 +26,32 @@ flag_stays (d ∷ done) (suc k) zero h = h
 flag_stays (d ∷ done) (suc k) (suc i) h = flag_stays done k i h
 
 -- one flag more leaves no more to come
-fewer : (done : List Bool) (k team slot n : ℕ) (os : List ℕ) → awaited (set done k true) team slot n os ≤ awaited done team slot n os
+fewer : (done : List Bool) (k team slot n : ℕ) (os : List Owners) → awaited (set done k true) team slot n os ≤ awaited done team slot n os
 fewer done k team slot n [] = omega arith
 fewer done k team slot n (o ∷ os) =
-    omega (arith, less_if (o == slot) (get_or done (seat n team) false) (get_or (set done k true) (seat n team) false) (flag_stays done k (seat n team)), fewer done k team slot (n + 1) os)
+    omega (arith, less_if (o slot) (get_or done (seat n team) false) (get_or (set done k true) (seat n team) false) (flag_stays done k (seat n team)), fewer done k team slot (n + 1) os)
 
 -- and one less where it is one of these
-one_fewer : (done : List Bool) (team slot n j k : ℕ) (os : List ℕ) → n + j ≡ k → j < length os → get_or os j 0 ≡ slot → seat k team < length done → get_or done (seat k team) false ≡ false
+one_fewer : (done : List Bool) (team slot n j k : ℕ) (os : List Owners) → n + j ≡ k → j < length os → get_or os j nobody slot ≡ true → seat k team < length done → get_or done (seat k team) false ≡ false
     → awaited (set done (seat k team) true) team slot n os + 1 ≤ awaited done team slot n os
 one_fewer done team slot n j k [] at w own there free = absurd (omega arith)
 one_fewer done team slot n zero k (o ∷ os) at w own there free =
     let here : k ≡ n = omega arith in
     let marked : get_or (set done (seat k team) true) (seat n team) false ≡ true = ap (λ m. get_or (set done (seat k team) true) (seat m team) false) (sym here) ∙ get_or-set_same done (seat k team) true false there in
     let unmarked : get_or done (seat n team) false ≡ false = ap (λ m. get_or done (seat m team) false) (sym here) ∙ free in
-    let after : one_if ((o == slot) && not (get_or (set done (seat k team) true) (seat n team) false)) ≡ one_if ((o == slot) && false) = ap (λ (b : Bool). one_if ((o == slot) && not b)) marked in
-    let before : one_if ((o == slot) && not (get_or done (seat n team) false)) ≡ 1 = ap₂ (λ (a b : Bool). one_if (a && not b)) (eq-eqb o slot own) unmarked in
-    let none : one_if ((o == slot) && false) ≡ 0 = ap (λ (b : Bool). one_if (b && false)) (eq-eqb o slot own) in
+    let after : one_if (o slot && not (get_or (set done (seat k team) true) (seat n team) false)) ≡ one_if (o slot && false) = ap (λ (b : Bool). one_if (o slot && not b)) marked in
+    let before : one_if (o slot && not (get_or done (seat n team) false)) ≡ 1 = ap₂ (λ (a b : Bool). one_if (a && not b)) own unmarked in
+    let none : one_if (o slot && false) ≡ 0 = ap (λ (b : Bool). one_if (b && false)) own in
     omega (arith, after, before, none, fewer done (seat k team) team slot (n + 1) os)
 one_fewer done team slot n (suc j) k (o ∷ os) at w own there free =
     let rest : awaited (set done (seat k team) true) team slot (n + 1) os + 1 ≤ awaited done team slot (n + 1) os = one_fewer done team slot (n + 1) j k os (omega arith) (omega arith) own there free in
-    omega (arith, less_if (o == slot) (get_or done (seat n team) false) (get_or (set done (seat k team) true) (seat n team) false) (flag_stays done (seat k team) (seat n team)), rest)
+    omega (arith, less_if (o slot) (get_or done (seat n team) false) (get_or (set done (seat k team) true) (seat n team) false) (flag_stays done (seat k team) (seat n team)), rest)
 
 -- a flag that is no place of theirs changes nothing
-awaited_apart : (done : List Bool) (team slot n k : ℕ) (os : List ℕ) → ((m : ℕ) → n ≤ m → seat m team ≢ k) → awaited (set done k true) team slot n os ≡ awaited done team slot n os
+awaited_apart : (done : List Bool) (team slot n k : ℕ) (os : List Owners) → ((m : ℕ) → n ≤ m → seat m team ≢ k) → awaited (set done k true) team slot n os ≡ awaited done team slot n os
 awaited_apart done team slot n k [] apart = refl
 awaited_apart done team slot n k (o ∷ os) apart =
-    ap₂ (λ (b : Bool) (m : ℕ). one_if ((o == slot) && not b) + m) (get_or-set_other done k (seat n team) true false (apart n (omega arith)))
+    ap₂ (λ (b : Bool) (m : ℕ). one_if (o slot && not b) + m) (get_or-set_other done k (seat n team) true false (apart n (omega arith)))
     (awaited_apart done team slot (n + 1) k os (λ m h. apart m (omega arith)))
 
 unmarked_one : (b : Bool) → one_if (b && false) + one_if b ≡ one_if (b && true)
@@ -56,76 +59,71 @@ unmarked_one true = refl
 unmarked_one false = refl
 
 -- a flag more leaves exactly one less to come where its owner is the slot
-awaited_marked : (done : List Bool) (team slot n j k : ℕ) (os : List ℕ) → n + j ≡ k → j < length os → seat k team < length done → get_or done (seat k team) false ≡ false
-    → awaited (set done (seat k team) true) team slot n os + one_if (get_or os j 0 == slot) ≡ awaited done team slot n os
+awaited_marked : (done : List Bool) (team slot n j k : ℕ) (os : List Owners) → n + j ≡ k → j < length os → seat k team < length done → get_or done (seat k team) false ≡ false
+    → awaited (set done (seat k team) true) team slot n os + one_if (get_or os j nobody slot) ≡ awaited done team slot n os
 awaited_marked done team slot n j k [] at w there free = absurd (omega arith)
 awaited_marked done team slot n zero k (o ∷ os) at w there free =
     let here : k ≡ n = omega arith in
     let marked : get_or (set done (seat k team) true) (seat n team) false ≡ true = ap (λ m. get_or (set done (seat k team) true) (seat m team) false) (sym here) ∙ get_or-set_same done (seat k team) true false there in
     let unmarked : get_or done (seat n team) false ≡ false = ap (λ m. get_or done (seat m team) false) (sym here) ∙ free in
-    let after : one_if ((o == slot) && not (get_or (set done (seat k team) true) (seat n team) false)) ≡ one_if ((o == slot) && false) = ap (λ (b : Bool). one_if ((o == slot) && not b)) marked in
-    let before : one_if ((o == slot) && not (get_or done (seat n team) false)) ≡ one_if ((o == slot) && true) = ap (λ (b : Bool). one_if ((o == slot) && not b)) unmarked in
+    let after : one_if (o slot && not (get_or (set done (seat k team) true) (seat n team) false)) ≡ one_if (o slot && false) = ap (λ (b : Bool). one_if (o slot && not b)) marked in
+    let before : one_if (o slot && not (get_or done (seat n team) false)) ≡ one_if (o slot && true) = ap (λ (b : Bool). one_if (o slot && not b)) unmarked in
     let rest : awaited (set done (seat k team) true) team slot (n + 1) os ≡ awaited done team slot (n + 1) os = awaited_apart done team slot (n + 1) (seat k team) os (λ m h e. omega (arith, e)) in
-    omega (arith, after, before, unmarked_one (o == slot), rest)
+    omega (arith, after, before, unmarked_one (o slot), rest)
 awaited_marked done team slot n (suc j) k (o ∷ os) at w there free =
     let first : get_or (set done (seat k team) true) (seat n team) false ≡ get_or done (seat n team) false = get_or-set_other done (seat k team) (seat n team) true false (λ e. omega (arith, e)) in
-    let same : one_if ((o == slot) && not (get_or (set done (seat k team) true) (seat n team) false)) ≡ one_if ((o == slot) && not (get_or done (seat n team) false)) = ap (λ (b : Bool). one_if ((o == slot) && not b)) first in
-    let rest : awaited (set done (seat k team) true) team slot (n + 1) os + one_if (get_or os j 0 == slot) ≡ awaited done team slot (n + 1) os = awaited_marked done team slot (n + 1) j k os (omega arith) (omega arith) there free in
+    let same : one_if (o slot && not (get_or (set done (seat k team) true) (seat n team) false)) ≡ one_if (o slot && not (get_or done (seat n team) false)) = ap (λ (b : Bool). one_if (o slot && not b)) first in
+    let rest : awaited (set done (seat k team) true) team slot (n + 1) os + one_if (get_or os j nobody slot) ≡ awaited done team slot (n + 1) os = awaited_marked done team slot (n + 1) j k os (omega arith) (omega arith) there free in
     omega (arith, same, rest)
 
 -- of an owner's places one more is flagged in a team, so one less is to come there
-pub awaited_less : (done : List Bool) (team slot in_team k owner : ℕ) (os : List ℕ) → team < 8 → in_team < 8 → k < length os → get_or os k 0 ≡ owner → seat k in_team < length done → get_or done (seat k in_team) false ≡ false
-    → awaited (set done (seat k in_team) true) team slot 0 os + one_if ((in_team == team) && (owner == slot)) ≡ awaited done team slot 0 os
-awaited_less done team slot in_team k owner os t u w own there free =
+pub awaited_less : (done : List Bool) (team slot in_team k : ℕ) (owners : Owners) (os : List Owners) → team < 8 → in_team < 8 → k < length os → get_or os k nobody ≡ owners → seat k in_team < length done → get_or done (seat k in_team) false ≡ false
+    → awaited (set done (seat k in_team) true) team slot 0 os + one_if ((in_team == team) && owners slot) ≡ awaited done team slot 0 os
+awaited_less done team slot in_team k owners os t u w own there free =
     elim (eqb_tells in_team team) [
       | inl e ↦
-          subst (λ x. awaited (set done (seat k in_team) true) x slot 0 os + one_if ((in_team == team) && (owner == slot)) ≡ awaited done x slot 0 os) e.1
-          (ap (λ (b : Bool). awaited (set done (seat k in_team) true) in_team slot 0 os + one_if (b && (owner == slot))) e.0
-          ∙ ap (λ x. awaited (set done (seat k in_team) true) in_team slot 0 os + one_if (x == slot)) (sym own)
+          subst (λ x. awaited (set done (seat k in_team) true) x slot 0 os + one_if ((in_team == team) && owners slot) ≡ awaited done x slot 0 os) e.1
+          (ap (λ (b : Bool). awaited (set done (seat k in_team) true) in_team slot 0 os + one_if (b && owners slot)) e.0
+          ∙ ap (λ (o : Owners). awaited (set done (seat k in_team) true) in_team slot 0 os + one_if (o slot)) (sym own)
           ∙ awaited_marked done in_team slot 0 k k os (omega arith) w there free)
       | inr e ↦
           let same : awaited (set done (seat k in_team) true) team slot 0 os ≡ awaited done team slot 0 os = awaited_apart done team slot 0 (seat k in_team) os (λ m h at. e.1 (omega (arith, at))) in
-          let none : one_if ((in_team == team) && (owner == slot)) ≡ 0 = ap (λ (b : Bool). one_if (b && (owner == slot))) e.0 in
+          let none : one_if ((in_team == team) && owners slot) ≡ 0 = ap (λ (b : Bool). one_if (b && owners slot)) e.0 in
           omega (arith, same, none)
     ]
 
 -- what isn't flagged has its place
-pub row_has_room : (owners : List ℕ) (done : List Bool) (rows : List (Vec ℕ Global)) (team n : ℕ) (d : Vec ℕ Global) → Fit owners done rows → team < 8 → n < length owners → get_or owners n 0 ≤ 1024
-    → seat n team < length done → get_or done (seat n team) false ≡ false → vec_len (get_or rows (seat (get_or owners n 0) team) d) < vec_capacity (get_or rows (seat (get_or owners n 0) team) d)
-row_has_room owners done rows team n d f t w own there free =
-    omega (arith, f.room team (get_or owners n 0) d t own, one_fewer done team (get_or owners n 0) 0 n n owners (omega arith) w refl there free)
+pub row_has_room : (owners : List Owners) (done : List Bool) (rows : List (Vec ℕ Global)) (team slot n : ℕ) (d : Vec ℕ Global) → Fit owners done rows → team < 8 → n < length owners → slot ≤ 1024 → get_or owners n nobody slot ≡ true
+    → seat n team < length done → get_or done (seat n team) false ≡ false → vec_len (get_or rows (seat slot team) d) < vec_capacity (get_or rows (seat slot team) d)
+row_has_room owners done rows team slot n d f t w s own there free =
+    omega (arith, f.room team slot d t s, one_fewer done team slot 0 n n owners (omega arith) w own there free)
 
-below_more : (many : ℕ) (ns : List ℕ) (n : ℕ) → AllBelow many ns → n < many → AllBelow many (ns ++ n ∷ [])
-below_more many [] n h w = (w, tt)
-below_more many (m ∷ ms) n h w = (h.0, below_more many ms n h.1 w)
+below_more : (many : ℕ) (ns : List ℕ) (n : ℕ) (b : Bool) → AllBelow many ns → n < many → AllBelow many (ns ++ cond b (n ∷ []) [])
+below_more many [] n true h w = (w, tt)
+below_more many [] n false h w = tt
+below_more many (m ∷ ms) n b h w = (h.0, below_more many ms n b h.1 w)
 
--- the rows fit with a number more in its owner's row
-pub fits_put : (owners : List ℕ) (done : List Bool) (rows new : List (Vec ℕ Global)) (team n : ℕ) → Fit owners done rows → team < 8 → n < length owners → get_or owners n 0 ≤ 1024
-    → seat n team < length done → get_or done (seat n team) false ≡ false → Put rows new (seat (get_or owners n 0) team) n → Fit owners (set done (seat n team) true) new
-fits_put owners done rows new team n f t w own there free p =
-    let slot = get_or owners n 0 in
+-- the rows fit with a number more in its owners' rows
+pub fits_put : (owners : List Owners) (done : List Bool) (rows new : List (Vec ℕ Global)) (team n : ℕ) → Fit owners done rows → team < 8 → n < length owners
+    → seat n team < length done → get_or done (seat n team) false ≡ false → PutFor (get_or owners n nobody) team n rows new → Fit owners (set done (seat n team) true) new
+fits_put owners done rows new team n f t w there free p =
     record {
       many = p.many ∙ f.many;
-      room = λ u s d k l. elim (eqb_tells (seat s u) (seat slot team)) [
+      room = λ u s d k l. elim (eqb_tells u team) [
         | inl e ↦
-            let is_slot : s ≡ slot = omega (arith, e.1) in
-            let is_team : u ≡ team = omega (arith, e.1) in
-            let here : vec_len (get_or new (seat slot team) d) + awaited (set done (seat n team) true) team slot 0 owners ≤ vec_capacity (get_or new (seat slot team) d) =
-            omega (arith, p.len d, p.space d, f.room team slot d t own, one_fewer done team slot 0 n n owners (omega arith) w refl there free) in
-            subst (λ x. vec_len (get_or new (seat x u) d) + awaited (set done (seat n team) true) u x 0 owners ≤ vec_capacity (get_or new (seat x u) d)) (sym is_slot)
-            (subst (λ x. vec_len (get_or new (seat slot x) d) + awaited (set done (seat n team) true) x slot 0 owners ≤ vec_capacity (get_or new (seat slot x) d)) (sym is_team) here)
+            let here : vec_len (get_or new (seat s team) d) + awaited (set done (seat n team) true) team s 0 owners ≤ vec_capacity (get_or new (seat s team) d) =
+            omega (arith, p.len s d l, p.space s d l, f.room team s d t l, awaited_marked done team s 0 n n owners (omega arith) w there free) in
+            subst (λ x. vec_len (get_or new (seat s x) d) + awaited (set done (seat n team) true) x s 0 owners ≤ vec_capacity (get_or new (seat s x) d)) (sym e.1) here
         | inr e ↦
-            subst (λ (v : Vec ℕ Global). vec_len v + awaited (set done (seat n team) true) u s 0 owners ≤ vec_capacity v) (sym (p.others (seat s u) d e.1))
+            subst (λ (v : Vec ℕ Global). vec_len v + awaited (set done (seat n team) true) u s 0 owners ≤ vec_capacity v) (sym (p.others u s d k e.1))
             (omega (arith, f.room u s d k l, fewer done (seat n team) u s 0 owners))
       ];
-      within = λ u s d k l. elim (eqb_tells (seat s u) (seat slot team)) [
+      within = λ u s d k l. elim (eqb_tells u team) [
         | inl e ↦
-            let is_slot : s ≡ slot = omega (arith, e.1) in
-            let is_team : u ≡ team = omega (arith, e.1) in
-            let same : (get_or new (seat s u) d).items ≡ (get_or rows (seat s u) d).items ++ n ∷ [] =
-            ap (λ i. (get_or new i d).items) e.1 ∙ p.items d ∙ ap (λ i. (get_or rows i d).items ++ n ∷ []) (sym e.1) in
-            subst (AllBelow (length owners)) (sym same) (below_more (length owners) (get_or rows (seat s u) d).items n (f.within u s d k l) w)
-        | inr e ↦ subst (λ (v : Vec ℕ Global). AllBelow (length owners) v.items) (sym (p.others (seat s u) d e.1)) (f.within u s d k l)
+            let here : AllBelow (length owners) (get_or new (seat s team) d).items =
+            subst (AllBelow (length owners)) (sym (p.items s d l)) (below_more (length owners) (get_or rows (seat s team) d).items n (get_or owners n nobody s) (f.within team s d t l) w) in
+            subst (λ x. AllBelow (length owners) (get_or new (seat s x) d).items) (sym e.1) here
+        | inr e ↦ subst (λ (v : Vec ℕ Global). AllBelow (length owners) v.items) (sym (p.others u s d k e.1)) (f.within u s d k l)
       ];
     }
 
@@ -141,10 +139,10 @@ and_true true = refl
 and_true false = refl
 
 -- with no flag all are to come
-pub all_awaited : (many team slot n : ℕ) (os : List ℕ) → awaited (replicate many false) team slot n os ≡ many_of slot os
+pub all_awaited : (many team slot n : ℕ) (os : List Owners) → awaited (replicate many false) team slot n os ≡ many_of slot os
 all_awaited many team slot n [] = refl
 all_awaited many team slot n (o ∷ os) =
-    ap₂ (λ (x y : ℕ). x + y) (ap (λ (b : Bool). one_if ((o == slot) && not b)) (get_or-replicate_same many (seat n team) false) ∙ and_true (o == slot)) (all_awaited many team slot (n + 1) os)
+    ap₂ (λ (x y : ℕ). x + y) (ap (λ (b : Bool). one_if (o slot && not b)) (get_or-replicate_same many (seat n team) false) ∙ and_true (o slot)) (all_awaited many team slot (n + 1) os)
 
 -- empty rows of memory for all that may come
 pub fits_none : (owners counts : List ℕ) (many : ℕ) (rows : List (Vec ℕ Global)) → Counts owners counts → Empty counts rows → Fit owners (replicate many false) rows
@@ -160,48 +158,33 @@ fits_none owners counts many rows c e = record {
 
 -- ---- counts
 
-other_number : (a b : ℕ) → a ≢ b → (a == b) ≡ false
+pub other_number : (a b : ℕ) → a ≢ b → (a == b) ≡ false
 other_number a b h = elim (eqb_tells a b) [ inl e ↦ absurd (h e.1) | inr e ↦ e.0 ]
 
--- one owner more is counted
-pub counted_more : (counts owners : List ℕ) (i n x slot all : ℕ) → i < length owners → n ≡ get_or owners i 0 → n < length counts → x ≡ get_or counts n x
-    → get_or counts slot 0 + many_of slot (drop i owners) ≡ all → get_or (set counts n (x + 1)) slot 0 + many_of slot (drop (i + 1) owners) ≡ all
-counted_more counts owners i n x slot all w own within is so =
+-- one more is counted for a slot
+pub counted_one : (counts : List ℕ) (n x slot : ℕ) → n < length counts → x ≡ get_or counts n x → get_or (set counts n (x + 1)) slot 0 ≡ get_or counts slot 0 + one_if (n == slot)
+counted_one counts n x slot within is =
     let value : x ≡ get_or counts n 0 = get_or_read counts n x within is 0 in
-    let rest : many_of slot (drop i owners) ≡ one_if (n == slot) + many_of slot (drop (i + 1) owners) =
-    ap (many_of slot) (drop_more owners i 0 w) ∙ ap (λ (o : ℕ). one_if (o == slot) + many_of slot (drop (i + 1) owners)) (sym own) in
     elim (eqb_tells slot n) [
       | inl e ↦
           let one : one_if (n == slot) ≡ 1 = ap one_if (eq-eqb n slot (sym e.1)) in
           let now : get_or (set counts n (x + 1)) slot 0 ≡ x + 1 = ap (λ k. get_or (set counts n (x + 1)) k 0) e.1 ∙ get_or-set_same counts n (x + 1) 0 within in
           let was : get_or counts slot 0 ≡ x = ap (λ k. get_or counts k 0) e.1 ∙ sym value in
-          omega (arith, rest, one, now, was, so)
+          omega (arith, one, now, was)
       | inr e ↦
           let none : one_if (n == slot) ≡ 0 = ap one_if (other_number n slot (λ q. e.1 (sym q))) in
           let now : get_or (set counts n (x + 1)) slot 0 ≡ get_or counts slot 0 = get_or-set_other counts n slot (x + 1) 0 e.1 in
-          omega (arith, rest, none, now, so)
+          omega (arith, none, now)
     ]
 
--- an owner that is no slot isn't counted
-pub counted_none : (owners : List ℕ) (i n slot : ℕ) → i < length owners → n ≡ get_or owners i 0 → 1025 ≤ n → slot ≤ 1024 → many_of slot (drop i owners) ≡ many_of slot (drop (i + 1) owners)
-counted_none owners i n slot w own big few =
-    let rest : many_of slot (drop i owners) ≡ one_if (n == slot) + many_of slot (drop (i + 1) owners) =
-    ap (many_of slot) (drop_more owners i 0 w) ∙ ap (λ (o : ℕ). one_if (o == slot) + many_of slot (drop (i + 1) owners)) (sym own) in
-    let none : one_if (n == slot) ≡ 0 = ap one_if (other_number n slot (λ e. omega (arith, e))) in
-    omega (arith, rest, none)
+-- so many are counted after the first ones, and so many to come
+pub counted_next : (f : Held → Owners) (hs : List Held) (i slot : ℕ) (h : Held) → i < length hs → h ≡ get_or hs i h → many_of slot (map f (drop i hs)) ≡ one_if (f h slot) + many_of slot (map f (drop (i + 1) hs))
+counted_next f hs i slot h w is =
+    ap (λ (xs : List Held). many_of slot (map f xs)) (drop_more hs i h w) ∙ ap (λ (x : Held). one_if (f x slot) + many_of slot (map f (drop (i + 1) hs))) (sym is)
 
--- no count is above how many there were
-pub few_more : (counts : List ℕ) (i n x slot : ℕ) → x ≡ get_or counts n x → n < length counts → ((s : ℕ) → get_or counts s 0 ≤ i) → get_or (set counts n (x + 1)) slot 0 ≤ i + 1
-few_more counts i n x slot is within few =
-    let value : x ≡ get_or counts n 0 = get_or_read counts n x within is 0 in
-    elim (eqb_tells slot n) [
-      | inl e ↦
-          let now : get_or (set counts n (x + 1)) slot 0 ≡ x + 1 = ap (λ k. get_or (set counts n (x + 1)) k 0) e.1 ∙ get_or-set_same counts n (x + 1) 0 within in
-          omega (arith, now, value, few n)
-      | inr e ↦
-          let now : get_or (set counts n (x + 1)) slot 0 ≡ get_or counts slot 0 = get_or-set_other counts n slot (x + 1) 0 e.1 in
-          omega (arith, now, few slot)
-    ]
+pub few_of : (b : Bool) → one_if b ≤ 1
+few_of true = omega arith
+few_of false = omega arith
 
 -- ---- a slot's locations
 

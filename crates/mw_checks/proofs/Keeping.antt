@@ -12,9 +12,9 @@ use Rattle.mw_model.specs.Seed.{Seed, Held, held_among, held_at}
 use Rattle.mw_protocol.specs.Checks.{Check, same_check, has_check, found_item, item_for, items_found, locations_in}
 use Rattle.mw_checks.specs.Log.{AreFresh, check_of}
 use Rattle.mw_checks.specs.Numbers.{number_of}
-use Rattle.mw_checks.specs.Rows.{seat, flagged, standing, one_if, many_of, awaited, receiver_of, finder_of, location_of, AllBelow, Fit, HasPlace, Put, Shows, Keeps, Counts, Empty}
+use Rattle.mw_checks.specs.Rows.{seat, flagged, standing, one_if, many_of, awaited, Owners, receivers_of, finder_of, location_of, AllBelow, Fit, HasPlace, HavePlaces, Put, PutFor, Shows, Keeps, Counts, Empty}
 use Rattle.mw_checks.proofs.Numbering.{held_numbered}
-use Rattle.mw_checks.proofs.Counting.{row_has_room, fits_put, get_or-replicate_same, fits_none, all_awaited, awaited_less}
+use Rattle.mw_checks.proofs.Counting.{nobody, other_number, row_has_room, fits_put, get_or-replicate_same, fits_none, all_awaited, awaited_less}
 
 -- ---- lists that grow
 
@@ -25,7 +25,7 @@ has_check-append (x ∷ xs) ys c = elim (same_check x c) as (λ b. (b || has_che
 pub items_found-append : (seed : Seed) (team slot : ℕ) (xs ys : List Check) → items_found seed team slot (xs ++ ys) ≡ items_found seed team slot xs ++ items_found seed team slot ys
 items_found-append seed team slot [] ys = refl
 items_found-append seed team slot (c ∷ xs) ys =
-    let first = item_for team slot c (held_at seed c.slot c.location) in
+    let first = item_for seed team slot c (held_at seed c.slot c.location) in
     ap (λ is. first ++ is) (items_found-append seed team slot xs ys) ∙ sym (append_assoc first (items_found seed team slot xs) (items_found seed team slot ys))
 
 pub locations_in-append : (team slot : ℕ) (xs ys : List Check) → locations_in team slot (xs ++ ys) ≡ locations_in team slot xs ++ locations_in team slot ys
@@ -127,33 +127,62 @@ show_more : {X : Type 0} (f : Held → X) (hs : List Held) (ns : List ℕ) (n : 
 show_more f hs ns n h there =
     ap (map f) (standing-append hs ns (n ∷ []) ∙ ap (λ (o : Option Held). standing hs ns ++ (option_to_list o ++ [])) there) ∙ map-append f (standing hs ns) (h ∷ [])
 
-neither : (a b : Bool) → ((a ≡ true) → (b ≡ true) → ⊥) → (a && b) ≡ false
-neither true true h = absurd (h refl refl)
-neither true false h = refl
-neither false b h = refl
+show_if : {X : Type 0} (f : Held → X) (hs : List Held) (ns : List ℕ) (n : ℕ) (h : Held) (b : Bool) → slice_get hs n ≡ Some h → map f (standing hs (ns ++ cond b (n ∷ []) [])) ≡ map f (standing hs ns) ++ cond b (f h ∷ []) []
+show_if f hs ns n h true there = show_more f hs ns n h there
+show_if f hs ns n h false there = ap (λ ms. map f (standing hs ms)) (append-nil ns) ∙ sym (append-nil (map f (standing hs ns)))
 
-shows_put : {X : Type 0} (f : Held → X) (hs : List Held) (rows new : List (Vec ℕ Global)) (wanted : ℕ → ℕ → List X) (team0 slot0 n : ℕ) (h : Held) → team0 < 8 → slot0 ≤ 1024
-    → slice_get hs n ≡ Some h → Put rows new (seat slot0 team0) n → Shows f hs rows wanted
-    → Shows f hs new (λ team slot. wanted team slot ++ cond ((team0 == team) && (slot0 == slot)) (f h ∷ []) [])
-shows_put f hs rows new wanted team0 slot0 n h t0 s0 there p shows = λ team slot d k l.
-    elim (eqb_tells (seat slot team) (seat slot0 team0)) [
+shows_put : {X : Type 0} (f : Held → X) (hs : List Held) (rows new : List (Vec ℕ Global)) (wanted : ℕ → ℕ → List X) (owners : Owners) (team0 n : ℕ) (h : Held) → team0 < 8
+    → slice_get hs n ≡ Some h → PutFor owners team0 n rows new → Shows f hs rows wanted
+    → Shows f hs new (λ team slot. wanted team slot ++ cond ((team0 == team) && owners slot) (f h ∷ []) [])
+shows_put f hs rows new wanted owners team0 n h t0 there p shows = λ team slot d k l.
+    elim (eqb_tells team team0) [
       | inl same ↦
-          let is_slot : slot0 ≡ slot = omega (arith, same.1) in
-          let is_team : team0 ≡ team = omega (arith, same.1) in
-          let test : ((team0 == team) && (slot0 == slot)) ≡ true = ap₂ (λ (a b : Bool). a && b) (eq-eqb team0 team is_team) (eq-eqb slot0 slot is_slot) in
-          ap (λ i. map f (standing hs (get_or new i d).items)) same.1
-          ∙ ap (λ ns. map f (standing hs ns)) (p.items d)
-          ∙ show_more f hs (get_or rows (seat slot0 team0) d).items n h there
-          ∙ ap (λ i. map f (standing hs (get_or rows i d).items) ++ f h ∷ []) (sym same.1)
-          ∙ ap₂ (λ xs b. xs ++ cond b (f h ∷ []) []) (shows team slot d k l) (sym test)
+          let test : (team0 == team) ≡ true = eq-eqb team0 team (sym same.1) in
+          let more : (b : Bool) → map f (standing hs ((get_or rows (seat slot team0) d).items ++ cond b (n ∷ []) [])) ≡ map f (standing hs (get_or rows (seat slot team0) d).items) ++ cond b (f h ∷ []) [] =
+          λ b. show_if f hs (get_or rows (seat slot team0) d).items n h b there in
+          ap (λ u. map f (standing hs (get_or new (seat slot u) d).items)) same.1
+          ∙ ap (λ ns. map f (standing hs ns)) (p.items slot d l)
+          ∙ more (owners slot)
+          ∙ ap (λ u. map f (standing hs (get_or rows (seat slot u) d).items) ++ cond (owners slot) (f h ∷ []) []) (sym same.1)
+          ∙ ap₂ (λ xs (b : Bool). xs ++ cond (b && owners slot) (f h ∷ []) []) (shows team slot d k l) (sym test)
       | inr apart ↦
-          let test : ((team0 == team) && (slot0 == slot)) ≡ false =
-          neither (team0 == team) (slot0 == slot) (λ a b. apart.1 (ap₂ seat (sym ((Decides-eqb slot0 slot).0 b)) (sym ((Decides-eqb team0 team).0 a)))) in
-          ap (λ (v : Vec ℕ Global). map f (standing hs v.items)) (p.others (seat slot team) d apart.1)
+          let test : (team0 == team) ≡ false = other_number team0 team (λ e. apart.1 (sym e)) in
+          ap (λ (v : Vec ℕ Global). map f (standing hs v.items)) (p.others team slot d k apart.1)
           ∙ shows team slot d k l
           ∙ sym (append-nil (wanted team slot))
-          ∙ ap (λ b. wanted team slot ++ cond b (f h ∷ []) []) (sym test)
+          ∙ ap (λ (b : Bool). wanted team slot ++ cond (b && owners slot) (f h ∷ []) []) (sym test)
     ]
+
+-- a number in one row alone is one in the row of a single owner
+pub put_for_one : (team slot n : ℕ) (old new : List (Vec ℕ Global)) → team < 8 → Put old new (seat slot team) n → PutFor (λ s. slot == s) team n old new
+put_for_one team slot n old new t p = record {
+  many = p.many;
+  items = λ s d l. elim (eqb_tells slot s) [
+    | inl e ↦
+        subst (λ x. (get_or new (seat x team) d).items ≡ (get_or old (seat x team) d).items ++ cond (slot == x) (n ∷ []) []) e.1
+        (p.items d ∙ ap (λ (b : Bool). (get_or old (seat slot team) d).items ++ cond b (n ∷ []) []) (sym (eq-eqb slot slot refl)))
+    | inr e ↦
+        ap (λ (v : Vec ℕ Global). v.items) (p.others (seat s team) d (λ q. e.1 (omega (arith, q))))
+        ∙ sym (append-nil (get_or old (seat s team) d).items)
+        ∙ ap (λ (b : Bool). (get_or old (seat s team) d).items ++ cond b (n ∷ []) []) (sym e.0)
+  ];
+  len = λ s d l. elim (eqb_tells slot s) [
+    | inl e ↦
+        subst (λ x. vec_len (get_or new (seat x team) d) ≡ vec_len (get_or old (seat x team) d) + one_if (slot == x)) e.1
+        (p.len d ∙ ap (λ (b : Bool). vec_len (get_or old (seat slot team) d) + one_if b) (sym (eq-eqb slot slot refl)))
+    | inr e ↦
+        let same : vec_len (get_or new (seat s team) d) ≡ vec_len (get_or old (seat s team) d) = ap (λ (v : Vec ℕ Global). vec_len v) (p.others (seat s team) d (λ q. e.1 (omega (arith, q)))) in
+        let none : one_if (slot == s) ≡ 0 = ap one_if e.0 in
+        omega (arith, same, none)
+  ];
+  space = λ s d l. elim (eqb_tells slot s) [
+    | inl e ↦ subst (λ x. vec_capacity (get_or old (seat x team) d) ≤ vec_capacity (get_or new (seat x team) d)) e.1 (p.space d)
+    | inr e ↦
+        let same : vec_capacity (get_or new (seat s team) d) ≡ vec_capacity (get_or old (seat s team) d) = ap (λ (v : Vec ℕ Global). vec_capacity v) (p.others (seat s team) d (λ q. e.1 (omega (arith, q)))) in
+        omega (arith, same)
+  ];
+  others = λ other s d k apart. p.others (seat s other) d (λ q. apart (omega (arith, q)));
+}
 
 -- ---- a check more
 
@@ -161,7 +190,6 @@ shows_put f hs rows new wanted team0 slot0 n h t0 s0 there p shows = λ team slo
 pub record Enters (seed : Seed) (checked : List Check) (c : Check) (n : ℕ) (h : Held) : Type 0 where
   pub team : c.team < 8
   pub slot : c.slot ≤ 1024
-  pub receiver : h.receiver ≤ 1024
   pub number : number_of seed c.slot c.location ≡ Some n
   pub there : slice_get seed.locations n ≡ Some h
   pub new : has_check checked c ≡ false
@@ -172,8 +200,8 @@ here ps i p within is = drop_more ps i p within ∙ ap (λ (q : ℕ × ℤ). q �
 
 -- the first of fresh pairs enters
 pub enters : (seed : Seed) (checked : List Check) (team : ℕ) (pair : ℕ × ℤ) (rest : List (ℕ × ℤ)) (n : ℕ) (h : Held) (o : Option ℕ) → AreFresh seed checked team (pair ∷ rest) → team < 8 → pair.0 ≤ 1024
-    → o ≡ number_of seed pair.0 pair.1 → o ≡ Some n → slice_get seed.locations n ≡ Some h → h.receiver ≤ 1024 → Enters seed checked (check_of team pair) n h
-enters seed checked team pair rest n h o fresh t s at is there few = record { team = t; slot = s; receiver = few; number = sym at ∙ is; there = there; new = fresh.1.0 }
+    → o ≡ number_of seed pair.0 pair.1 → o ≡ Some n → slice_get seed.locations n ≡ Some h → Enters seed checked (check_of team pair) n h
+enters seed checked team pair rest n h o fresh t s at is there = record { team = t; slot = s; number = sym at ∙ is; there = there; new = fresh.1.0 }
 
 number_within : (seed : Seed) (done : List Bool) (team n : ℕ) (h : Held) → length done ≡ 8 * length seed.locations → team < 8 → slice_get seed.locations n ≡ Some h → seat n team < length done
 number_within seed done team n h many t there = let within : n < length seed.locations = slice_get_within seed.locations n h there in omega arith
@@ -183,40 +211,38 @@ pub unflagged : (seed : Seed) (checked : List Check) (done : List Bool) (receive
 unflagged seed checked done received found c n h k e =
     ap (flagged done c.team) (sym e.number) ∙ k.flags c.team c.slot c.location e.team ∙ e.new
 
-owner_at : (f : Held → ℕ) (hs : List Held) (n : ℕ) (h : Held) → slice_get hs n ≡ Some h → get_or (map f hs) n 0 ≡ f h
+owner_at : (f : Held → Owners) (hs : List Held) (n : ℕ) (h : Held) → slice_get hs n ≡ Some h → get_or (map f hs) n nobody ≡ f h
 owner_at f [] n h e = cc
 owner_at f (x ∷ hs) zero h e = let same : x ≡ h = cc in ap f same
 owner_at f (x ∷ hs) (suc n) h e = owner_at f hs n h e
 
-fits_owned : (f : Held → ℕ) (hs : List Held) (done : List Bool) (rows new : List (Vec ℕ Global)) (team n : ℕ) (h : Held) (slot : ℕ) → Fit (map f hs) done rows → team < 8 → slice_get hs n ≡ Some h → f h ≡ slot → slot ≤ 1024
-    → seat n team < length done → get_or done (seat n team) false ≡ false → Put rows new (seat slot team) n → Fit (map f hs) (set done (seat n team) true) new
-fits_owned f hs done rows new team n h slot k t there own few within free p =
-    let owner : get_or (map f hs) n 0 ≡ slot = owner_at f hs n h there ∙ own in
+fits_owned : (f : Held → Owners) (hs : List Held) (done : List Bool) (rows new : List (Vec ℕ Global)) (team n : ℕ) (h : Held) → Fit (map f hs) done rows → team < 8 → slice_get hs n ≡ Some h
+    → seat n team < length done → get_or done (seat n team) false ≡ false → PutFor (f h) team n rows new → Fit (map f hs) (set done (seat n team) true) new
+fits_owned f hs done rows new team n h k t there within free p =
     let row : n < length (map f hs) = subst (λ m. n < m) (sym (length-map hs f)) (slice_get_within hs n h there) in
-    fits_put (map f hs) done rows new team n k t row (subst (λ m. m ≤ 1024) (sym owner) few) within free (subst (λ m. Put rows new (seat m team) n) (sym owner) p)
+    fits_put (map f hs) done rows new team n k t row within free (subst (λ (o : Owners). PutFor o team n rows new) (sym (owner_at f hs n h there)) p)
 
-place_owned : (f : Held → ℕ) (hs : List Held) (done : List Bool) (rows : List (Vec ℕ Global)) (team n : ℕ) (h : Held) → Fit (map f hs) done rows → team < 8 → slice_get hs n ≡ Some h → f h ≤ 1024
-    → seat n team < length done → get_or done (seat n team) false ≡ false → HasPlace rows (seat (f h) team)
-place_owned f hs done rows team n h k t there few within free =
-    let owner : get_or (map f hs) n 0 ≡ f h = owner_at f hs n h there in
+places_owned : (f : Held → Owners) (hs : List Held) (done : List Bool) (rows : List (Vec ℕ Global)) (team n : ℕ) (h : Held) → Fit (map f hs) done rows → team < 8 → slice_get hs n ≡ Some h
+    → seat n team < length done → get_or done (seat n team) false ≡ false → HavePlaces (f h) team rows
+places_owned f hs done rows team n h k t there within free slot few own =
+    let owner : get_or (map f hs) n nobody slot ≡ true = ap (λ (o : Owners). o slot) (owner_at f hs n h there) ∙ own in
     let row : n < length (map f hs) = subst (λ m. n < m) (sym (length-map hs f)) (slice_get_within hs n h there) in
     record {
       within = omega (arith, k.many);
-      room = λ d. subst (λ m. vec_len (get_or rows (seat m team) d) < vec_capacity (get_or rows (seat m team) d)) owner
-          (row_has_room (map f hs) done rows team n d k t row (subst (λ m. m ≤ 1024) (sym owner) few) within free);
+      room = λ d. row_has_room (map f hs) done rows team slot n d k t row few owner within free;
     }
 
 -- its rows have memory for it
 pub places_more : (seed : Seed) (checked : List Check) (done : List Bool) (received found : List (Vec ℕ Global)) (c : Check) (n : ℕ) (h : Held) → Keeps seed checked done received found → Enters seed checked c n h
-    → (seat n c.team < length done) × (HasPlace received (seat h.receiver c.team) × HasPlace found (seat h.slot c.team))
+    → (seat n c.team < length done) × (HavePlaces (receivers_of seed h) c.team received × HasPlace found (seat h.slot c.team))
 places_more seed checked done received found c n h k e =
     let within : seat n c.team < length done = number_within seed done c.team n h k.many e.team e.there in
     let free : get_or done (seat n c.team) false ≡ false = unflagged seed checked done received found c n h k e in
     let finder : h.slot ≡ c.slot = (held_is seed.locations c.slot c.location h (sym (held_numbered seed c.slot c.location (Some n) (sym e.number)) ∙ e.there)).0 in (
       within,
       (
-        place_owned receiver_of seed.locations done received c.team n h k.received_fit e.team e.there e.receiver within free,
-        place_owned finder_of seed.locations done found c.team n h k.found_fit e.team e.there (subst (λ m. m ≤ 1024) (sym finder) e.slot) within free,
+        places_owned (receivers_of seed) seed.locations done received c.team n h k.received_fit e.team e.there within free,
+        places_owned finder_of seed.locations done found c.team n h k.found_fit e.team e.there within free h.slot (subst (λ m. m ≤ 1024) (sym finder) e.slot) (eq-eqb h.slot h.slot refl),
       ),
     )
 
@@ -225,43 +251,43 @@ one_listed true l ls = length-append ls (l ∷ [])
 one_listed false l ls = length-append ls []
 
 -- one check more, and one location less that is to come
-counts_more : (done : List Bool) (owners : List ℕ) (checked : List Check) (c : Check) (team slot n owner : ℕ) → team < 8 → c.team < 8 → owner ≡ c.slot → n < length owners → get_or owners n 0 ≡ owner
+counts_more : (done : List Bool) (owners : List Owners) (checked : List Check) (c : Check) (team slot n : ℕ) (h : Held) → team < 8 → c.team < 8 → h.slot ≡ c.slot → n < length owners → get_or owners n nobody ≡ finder_of h
     → seat n c.team < length done → get_or done (seat n c.team) false ≡ false
     → length (locations_in team slot checked) + awaited done team slot 0 owners ≡ many_of slot owners
     → length (locations_in team slot (checked ++ c ∷ [])) + awaited (set done (seat n c.team) true) team slot 0 owners ≡ many_of slot owners
-counts_more done owners checked c team slot n owner t u is w own there free before =
+counts_more done owners checked c team slot n h t u is w own there free before =
     let test = (c.team == team) && (c.slot == slot) in
     let listed : length (locations_in team slot (checked ++ c ∷ [])) ≡ length (locations_in team slot checked) + one_if test =
     ap length (locations_in-append team slot checked (c ∷ [])) ∙ one_listed test c.location (locations_in team slot checked) in
     let less : awaited (set done (seat n c.team) true) team slot 0 owners + one_if test ≡ awaited done team slot 0 owners =
     ap (λ (x : ℕ). awaited (set done (seat n c.team) true) team slot 0 owners + one_if ((c.team == team) && (x == slot))) (sym is)
-    ∙ awaited_less done team slot c.team n owner owners t u w own there free in
+    ∙ awaited_less done team slot c.team n (finder_of h) owners t u w own there free in
     omega (arith, listed, less, before)
 
 pub keeps_more : (seed : Seed) (checked : List Check) (done : List Bool) (received found received_after found_after : List (Vec ℕ Global)) (c : Check) (n : ℕ) (h : Held)
-    → Keeps seed checked done received found → Enters seed checked c n h → Put received received_after (seat h.receiver c.team) n → Put found found_after (seat h.slot c.team) n
+    → Keeps seed checked done received found → Enters seed checked c n h → PutFor (receivers_of seed h) c.team n received received_after → Put found found_after (seat h.slot c.team) n
     → Keeps seed (checked ++ c ∷ []) (set done (seat n c.team) true) received_after found_after
 keeps_more seed checked done received found received_after found_after c n h k e p r =
     let hs = seed.locations in
     let within : seat n c.team < length done = number_within seed done c.team n h k.many e.team e.there in
     let free : get_or done (seat n c.team) false ≡ false = unflagged seed checked done received found c n h k e in
     let row : n < length hs = slice_get_within hs n h e.there in
-    let finder : finder_of h ≡ c.slot = (held_is hs c.slot c.location h (sym (held_numbered seed c.slot c.location (Some n) (sym e.number)) ∙ e.there)).0 in
-    let location : location_of h ≡ c.location = (held_is hs c.slot c.location h (sym (held_numbered seed c.slot c.location (Some n) (sym e.number)) ∙ e.there)).1 in
-    let q : Put found found_after (seat c.slot c.team) n = subst (λ m. Put found found_after (seat m c.team) n) finder r in
     let held : held_at seed c.slot c.location ≡ Some h = sym (held_numbered seed c.slot c.location (Some n) (sym e.number)) ∙ e.there in
+    let finder : h.slot ≡ c.slot = (held_is hs c.slot c.location h held).0 in
+    let location : location_of h ≡ c.location = (held_is hs c.slot c.location h held).1 in
+    let q : PutFor (finder_of h) c.team n found found_after = put_for_one c.team h.slot n found found_after e.team r in
     record {
       many = length-set done (seat n c.team) true ∙ k.many;
       flags = flags_more seed checked done c n h e.team e.there e.number within k.flags;
-      received_fit = fits_owned receiver_of hs done received received_after c.team n h h.receiver k.received_fit e.team e.there refl e.receiver within free p;
-      found_fit = fits_owned finder_of hs done found found_after c.team n h c.slot k.found_fit e.team e.there finder e.slot within free q;
-      received_are = λ team slot d t s. shows_put found_item hs received received_after (λ u r. items_found seed u r checked) c.team h.receiver n h e.team e.receiver e.there p k.received_are team slot d t s
-          ∙ ap (λ is. items_found seed team slot checked ++ is) (sym (append-nil (item_for team slot c (Some h))) ∙ ap (λ (o : Option Held). item_for team slot c o ++ []) (sym held))
+      received_fit = fits_owned (receivers_of seed) hs done received received_after c.team n h k.received_fit e.team e.there within free p;
+      found_fit = fits_owned finder_of hs done found found_after c.team n h k.found_fit e.team e.there within free q;
+      received_are = λ team slot d t s. shows_put found_item hs received received_after (λ u r. items_found seed u r checked) (receivers_of seed h) c.team n h e.team e.there p k.received_are team slot d t s
+          ∙ ap (λ is. items_found seed team slot checked ++ is) (sym (append-nil (item_for seed team slot c (Some h))) ∙ ap (λ (o : Option Held). item_for seed team slot c o ++ []) (sym held))
           ∙ sym (items_found-append seed team slot checked (c ∷ []));
-      found_are = λ team slot d t s. shows_put location_of hs found found_after (λ u r. locations_in u r checked) c.team c.slot n h e.team e.slot e.there q k.found_are team slot d t s
-          ∙ ap (λ l. locations_in team slot checked ++ cond ((c.team == team) && (c.slot == slot)) (l ∷ []) []) location
+      found_are = λ team slot d t s. shows_put location_of hs found found_after (λ u r. locations_in u r checked) (finder_of h) c.team n h e.team e.there q k.found_are team slot d t s
+          ∙ ap₂ (λ (m : ℕ) l. locations_in team slot checked ++ cond ((c.team == team) && (m == slot)) (l ∷ []) []) finder location
           ∙ sym (locations_in-append team slot checked (c ∷ []));
-      counted = λ team slot t. counts_more done (map finder_of hs) checked c team slot n h.slot t e.team finder (subst (λ m. n < m) (sym (length-map hs finder_of)) row) (owner_at finder_of hs n h e.there) within free (k.counted team slot t);
+      counted = λ team slot t. counts_more done (map finder_of hs) checked c team slot n h t e.team finder (subst (λ m. n < m) (sym (length-map hs finder_of)) row) (owner_at finder_of hs n h e.there) within free (k.counted team slot t);
     }
 
 -- ---- no check
@@ -273,12 +299,12 @@ flag_none many team (Some n) = get_or-replicate_same many (seat n team) false
 shows_none : {X : Type 0} (f : Held → X) (hs : List Held) (counts : List ℕ) (rows : List (Vec ℕ Global)) → Empty counts rows → Shows f hs rows (λ team slot. [])
 shows_none f hs counts rows e = λ team slot d t s. ap (λ ns. map f (standing hs ns)) (e.items (seat slot team) d (omega arith))
 
-pub keeps_none : (seed : Seed) (receivers finders : List ℕ) (received found : List (Vec ℕ Global)) → Counts (map receiver_of seed.locations) receivers → Counts (map finder_of seed.locations) finders
+pub keeps_none : (seed : Seed) (receivers finders : List ℕ) (received found : List (Vec ℕ Global)) → Counts (map (receivers_of seed) seed.locations) receivers → Counts (map finder_of seed.locations) finders
     → Empty receivers received → Empty finders found → Keeps seed [] (replicate (8 * length seed.locations) false) received found
 keeps_none seed receivers finders received found r g e d = record {
   many = length-replicate (8 * length seed.locations) false;
   flags = λ team slot location t. flag_none (8 * length seed.locations) team (number_of seed slot location);
-  received_fit = fits_none (map receiver_of seed.locations) receivers (8 * length seed.locations) received r e;
+  received_fit = fits_none (map (receivers_of seed) seed.locations) receivers (8 * length seed.locations) received r e;
   found_fit = fits_none (map finder_of seed.locations) finders (8 * length seed.locations) found g d;
   received_are = shows_none found_item seed.locations receivers received e;
   found_are = shows_none location_of seed.locations finders found d;
@@ -304,6 +330,6 @@ pub shows_read : {X : Type 0} (f : Held → X) (hs : List Held) (rows : List (Ve
     → row ≡ get_or rows (seat slot team) row → ns ≡ row.items → map f (standing hs ns) ≡ wanted team slot
 shows_read f hs rows wanted team slot row ns shows t s is same = ap (λ ms. map f (standing hs ms)) (same ∙ ap (λ (v : Vec ℕ Global). v.items) is) ∙ shows team slot row t s
 
-pub below_read : (owners : List ℕ) (done : List Bool) (rows : List (Vec ℕ Global)) (team slot : ℕ) (row : Vec ℕ Global) (ns : List ℕ) → Fit owners done rows → team < 8 → slot ≤ 1024
+pub below_read : (owners : List Owners) (done : List Bool) (rows : List (Vec ℕ Global)) (team slot : ℕ) (row : Vec ℕ Global) (ns : List ℕ) → Fit owners done rows → team < 8 → slot ≤ 1024
     → row ≡ get_or rows (seat slot team) row → ns ≡ row.items → AllBelow (length owners) ns
 below_read owners done rows team slot row ns fit t s is same = subst (AllBelow (length owners)) (sym (same ∙ ap (λ (v : Vec ℕ Global). v.items) is)) (fit.within team slot row t s)

@@ -4,6 +4,7 @@ pub mod Keeping
 pub mod Kept
 pub mod News
 pub mod Numbering
+pub mod Owning
 pub mod Releasing
 pub mod Tails
 pub mod Tied

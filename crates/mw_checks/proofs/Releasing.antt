@@ -4,7 +4,7 @@ use Rattle.std.specs.Option.{is_some}
 use Rattle.std.specs.Ordering.{int_eq}
 use Rattle.std.proofs.lemmas.Bool.Decides.{Decides-and, Decides-eqb, Decides-int_eq}
 use Rattle.std.proofs.lemmas.List.{length-map, length-append}
-use Rattle.mw_model.specs.Seed.{Seed, Held, held_among, held_at}
+use Rattle.mw_model.specs.Seed.{Seed, Held, held_among, held_at, is_owner}
 use Rattle.mw_multidata.specs.OfSlot.{held_of}
 use Rattle.mw_protocol.specs.Asked.{held_for, locations_among}
 use Rattle.mw_protocol.specs.Checks.{Check, checks_at, unseen}
@@ -70,7 +70,7 @@ held_known seed xs (h ∷ hs) team slot e =
     let rest = held_for seed team slot hs in
     let c : Check = record { team = team; slot = h.slot; location = h.location } in
     let later : known_checks seed rest ≡ rest = held_known seed (xs ++ h ∷ []) hs team slot (e ∙ sym (append_assoc xs (h ∷ []) hs)) in
-    elim (h.receiver == slot) as (λ b. known_checks seed (cond b (c ∷ rest) rest) ≡ cond b (c ∷ rest) rest) [
+    elim (is_owner seed h.receiver slot) as (λ b. known_checks seed (cond b (c ∷ rest) rest) ≡ cond b (c ∷ rest) rest) [
       | true ↦
           let known : is_some (held_at seed h.slot h.location) ≡ true = ap (λ (ls : List Held). is_some (held_among ls h.slot h.location)) e ∙ there xs hs h in
           ap (λ (b : Bool). cond b (c ∷ known_checks seed rest) (known_checks seed rest)) known ∙ ap (λ cs. c ∷ cs) later

@@ -1,7 +1,7 @@
 -- A flag for each location and team, and rows of numbers for each slot and team.
-use Rattle.std.specs.Prelude.{◌≡◌, ◌≢◌, ℕ, ℤ, ◌+◌, ◌*◌, ◌/◌, ◌<◌, ◌≤◌, ◌==◌, ◌&&◌, ◌++◌, List, [], ◌∷◌, Vec, Bool, false, not, Option, Some, None, length, map, get_or, slice_get, option_to_list, vec_len, vec_capacity, if◌then◌else◌}
+use Rattle.std.specs.Prelude.{◌≡◌, ◌≢◌, ℕ, ℤ, ◌+◌, ◌*◌, ◌/◌, ◌<◌, ◌≤◌, ◌==◌, ◌&&◌, ◌++◌, List, [], ◌∷◌, Vec, Bool, true, false, not, Option, Some, None, length, map, get_or, slice_get, option_to_list, vec_len, vec_capacity, if◌then◌else◌}
 use Rattle.std.specs.declared.alloc.Global.{Global}
-use Rattle.mw_model.specs.Seed.{Seed, Held}
+use Rattle.mw_model.specs.Seed.{Seed, Held, is_owner}
 use Rattle.mw_protocol.specs.Checks.{Check, has_check, found_item, items_found, locations_in}
 use Rattle.mw_checks.specs.Numbers.{number_of}
 
@@ -22,23 +22,28 @@ standing hs (n ∷ ns) = option_to_list (slice_get hs n) ++ standing hs ns
 abbrev pub one_if : Bool → ℕ
 one_if b = if b then 1 else 0
 
--- how many of these owners are the slot
-abbrev pub many_of : ℕ → List ℕ → ℕ
+-- for a location, whose it is: of each slot whether it is one of these
+abbrev pub Owners : Type 0
+Owners = ℕ → Bool
+
+-- how many locations of these owners are the slot's
+abbrev pub many_of : ℕ → List Owners → ℕ
 many_of slot [] = 0
-many_of slot (o ∷ os) = one_if (o == slot) + many_of slot os
+many_of slot (o ∷ os) = one_if (o slot) + many_of slot os
 
 -- how many locations of these owners, which are counted from n, are the slot's and aren't flagged in the team
-abbrev pub awaited : List Bool → ℕ → ℕ → ℕ → List ℕ → ℕ
+abbrev pub awaited : List Bool → ℕ → ℕ → ℕ → List Owners → ℕ
 awaited done team slot n [] = 0
 awaited done team slot n (o ∷ os) =
-    one_if ((o == slot) && not (get_or done (seat n team) false))
-    + awaited done team slot (n + 1) os
+    one_if (o slot && not (get_or done (seat n team) false)) + awaited done team slot (n + 1) os
 
-abbrev pub receiver_of : Held → ℕ
-receiver_of h = h.receiver
+-- those who receive what stands at a location
+abbrev pub receivers_of : Seed → Held → Owners
+receivers_of seed h slot = is_owner seed h.receiver slot
 
-abbrev pub finder_of : Held → ℕ
-finder_of h = h.slot
+-- who finds it
+abbrev pub finder_of : Held → Owners
+finder_of h slot = h.slot == slot
 
 abbrev pub location_of : Held → ℤ
 location_of h = h.location
@@ -49,7 +54,7 @@ AllBelow many [] = Unit {0}
 AllBelow many (n ∷ ns) = (n < many) × AllBelow many ns
 
 -- there is a row of numbers for each slot and team, with memory for all that may still come
-pub record Fit (owners : List ℕ) (done : List Bool) (rows : List (Vec ℕ Global)) : Type 0 where
+pub record Fit (owners : List Owners) (done : List Bool) (rows : List (Vec ℕ Global)) : Type 0 where
   pub many : length rows ≡ 8200
   pub room : (team slot : ℕ) (d : Vec ℕ Global) → team < 8 → slot ≤ 1024
       → vec_len (get_or rows (seat slot team) d) + awaited done team slot 0 owners
@@ -57,8 +62,8 @@ pub record Fit (owners : List ℕ) (done : List Bool) (rows : List (Vec ℕ Glob
   pub within : (team slot : ℕ) (d : Vec ℕ Global) → team < 8 → slot ≤ 1024
       → AllBelow (length owners) (get_or rows (seat slot team) d).items
 
--- there is a count of the owners for each slot
-abbrev pub Counts : List ℕ → List ℕ → Type 0
+-- for each slot it is counted how many locations of these owners are its
+abbrev pub Counts : List Owners → List ℕ → Type 0
 Counts owners counts = (slot : ℕ) → slot ≤ 1024 → get_or counts slot 0 ≡ many_of slot owners
 
 -- there is a count of each slot's locations
@@ -87,6 +92,25 @@ pub record Put (old new : List (Vec ℕ Global)) (at n : ℕ) : Type 0 where
   pub space : (d : Vec ℕ Global) → vec_capacity (get_or old at d) ≤ vec_capacity (get_or new at d)
   pub others : (i : ℕ) (d : Vec ℕ Global) → i ≢ at → get_or new i d ≡ get_or old i d
 
+-- in a team a number was put at the end of the row of each of these owners
+pub record PutFor (owners : Owners) (team n : ℕ) (old new : List (Vec ℕ Global)) : Type 0 where
+  pub many : length new ≡ length old
+  pub items : (slot : ℕ) (d : Vec ℕ Global) → slot ≤ 1024
+      → (get_or new (seat slot team) d).items
+      ≡ (get_or old (seat slot team) d).items ++ (if owners slot then n ∷ [] else [])
+  pub len : (slot : ℕ) (d : Vec ℕ Global) → slot ≤ 1024
+      → vec_len (get_or new (seat slot team) d)
+      ≡ vec_len (get_or old (seat slot team) d) + one_if (owners slot)
+  pub space : (slot : ℕ) (d : Vec ℕ Global) → slot ≤ 1024
+      → vec_capacity (get_or old (seat slot team) d) ≤ vec_capacity (get_or new (seat slot team) d)
+  pub others : (other slot : ℕ) (d : Vec ℕ Global) → other < 8 → other ≢ team
+      → get_or new (seat slot other) d ≡ get_or old (seat slot other) d
+
+-- the rows of these owners in a team are there and have memory for one number more
+abbrev pub HavePlaces : Owners → ℕ → List (Vec ℕ Global) → Type 0
+HavePlaces owners team rows =
+    (slot : ℕ) → slot ≤ 1024 → owners slot ≡ true → HasPlace rows (seat slot team)
+
 -- what stands at the numbers of the row of each slot and team, as f shows it, is what is wanted there
 abbrev pub Shows : {X : Type 0} → (Held → X) → List Held → List (Vec ℕ Global) → (ℕ → ℕ → List X)
     → Type 0
@@ -101,7 +125,7 @@ pub record Keeps (seed : Seed) (checked : List Check) (done : List Bool)
   pub flags : (team slot : ℕ) (location : ℤ) → team < 8
       → flagged done team (number_of seed slot location)
       ≡ has_check checked record { team = team; slot = slot; location = location }
-  pub received_fit : Fit (map receiver_of seed.locations) done received
+  pub received_fit : Fit (map (receivers_of seed) seed.locations) done received
   pub found_fit : Fit (map finder_of seed.locations) done found
   pub received_are : Shows found_item seed.locations received
       (λ team slot. items_found seed team slot checked)

@@ -1,7 +1,7 @@
 -- Items as a session's handling lets them through, and the tail of them from a place on.
-use Rattle.std.specs.Prelude.{◌≡◌, ℕ, ℤ, ◌==◌, ◌++◌, ◌∷◌, [], List, Option, Some, None, drop, filter, if◌then◌else◌}
+use Rattle.std.specs.Prelude.{◌≡◌, ℕ, ℤ, ◌++◌, ◌∷◌, [], List, Option, Some, None, drop, filter, if◌then◌else◌}
 use Rattle.mw_model.specs.Items.{NetItem}
-use Rattle.mw_model.specs.Seed.{Seed, Held, held_at}
+use Rattle.mw_model.specs.Seed.{Seed, Held, held_at, is_owner}
 use Rattle.mw_protocol.specs.Checks.{found_item, keeps}
 use Rattle.mw_checks.specs.declared.handling.Handling.{Handling}
 use Rattle.mw_checks.specs.declared.tail.Tail.{Tail}
@@ -11,14 +11,14 @@ abbrev pub asked_of : Handling → List NetItem → List NetItem
 asked_of handling items = filter (keeps handling.mask handling.slot) items
 
 -- the item that stands at a location, where the slot receives it
-abbrev pub given_at : ℕ → Option Held → List NetItem
-given_at slot None = []
-given_at slot (Some h) = if h.receiver == slot then found_item h ∷ [] else []
+abbrev pub given_at : Seed → ℕ → Option Held → List NetItem
+given_at seed slot None = []
+given_at seed slot (Some h) = if is_owner seed h.receiver slot then found_item h ∷ [] else []
 
 -- the items of locations that the slot receives
 abbrev pub given_to : Seed → ℕ → List (ℕ × ℤ) → List NetItem
 given_to seed slot [] = []
-given_to seed slot (p ∷ ps) = given_at slot (held_at seed p.0 p.1) ++ given_to seed slot ps
+given_to seed slot (p ∷ ps) = given_at seed slot (held_at seed p.0 p.1) ++ given_to seed slot ps
 
 -- what a tail holds once it is offered these items
 abbrev pub tail_of : Handling → Tail → List NetItem → List NetItem

@@ -38,7 +38,8 @@ fn note_receiver(
     ensures { OnOk result (NotesAll log.now.seed log.now.checked team
         (held_for log.now.seed team slot (held.now ∷ [])) found.old.keys found.new.keys) }
 {
-    if held.receiver == slot.get() {
+    let is_owner = log.tables().multidata().is_owner(held.receiver, slot);
+    if is_owner {
         note(log, team, (held.slot, held.location), found)?;
     }
     Ok(())

@@ -14,16 +14,17 @@ use std::alloc::Global;
 /// Adds an item, where it is the slot's and is asked for.
 fn add_given(
     found: &mut List<NetItem>,
+    places: &Places,
     handling: &Handling,
     held: Option<&Held>,
 ) -> Result<(), Memory>
     ensures { OnOk result (found.new ≡
         found.old ++ asked_of handling.now
-        (given_at handling.now.slot (option_copied held.entry))) }
+        (given_at places.now handling.now.slot (option_copied held.entry))) }
 {
     if let Some(held) = held {
         let item = item_of(held);
-        if held.receiver == handling.slot.get() && handling.keeps(&item) {
+        if places.is_owner(held.receiver, handling.slot) && handling.keeps(&item) {
             found.push(item)?;
         }
     }
@@ -42,7 +43,7 @@ pub(crate) fn given(
 {
     let mut found = List::new(alloc);
     for (slot, location) in pairs {
-        add_given(&mut found, handling, places.held(*slot, *location))?;
+        add_given(&mut found, places, handling, places.held(*slot, *location))?;
     }
     Ok(found)
 }

@@ -78,9 +78,10 @@ fn enter_all(
 {
     // A team's number is below 8.
     let _ = team.get();
+    let multidata = places.tables().multidata();
     for (slot, location) in fresh {
         let number = places.number_of(*slot, *location).unwrap();
-        rows.enter(team, number, places.at(number));
+        rows.enter(multidata, team, number, places.at(number));
         let check = Check {
             team,
             slot: *slot,

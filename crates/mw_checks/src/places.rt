@@ -1,7 +1,7 @@
 ghost use Rattle.std.specs.Prelude.{◌≡◌, ◌==◌, ◌<◌, ◌≤◌, ℕ, Some, None, length, is_some, slice_get};
 ghost use Rattle.std.specs.Prelude.{IfOk, OnOk, IfSome, IfNone, count_by};
 ghost use Rattle.std.specs.Option.{option_copied};
-ghost use Rattle.mw_model.specs.Seed.{held_at};
+ghost use Rattle.mw_model.specs.Seed.{held_at, is_owner};
 ghost use Rattle.mw_checks.specs.Numbers.{number_of, IsIndex, AllIds};
 ghost use Rattle.mw_checks.specs.Rows.{Sized};
 
@@ -140,6 +140,13 @@ impl Places {
         } else {
             None
         }
+    }
+
+    /// Whether a slot gets what is for a receiver.
+    pub(crate) fn is_owner(&self, receiver: u16, slot: SlotId) -> bool
+        ensures { result ≡ is_owner self.now receiver slot }
+    {
+        self.tables.multidata().is_owner(receiver, slot)
     }
 
     /// What stands at a location of a slot.

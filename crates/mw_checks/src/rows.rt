@@ -3,12 +3,15 @@ ghost use Rattle.std.specs.Prelude.{IfOk, map, length, get_or, set, replicate};
 ghost use Rattle.std.specs.Prelude.{vec_len, vec_capacity};
 ghost use Rattle.std.specs.declared.alloc.Global.{Global};
 ghost use Rattle.mw_checks.specs.Kept.{KeptIn, HasPlaces};
-ghost use Rattle.mw_checks.specs.Rows.{seat, Empty, Put};
+ghost use Rattle.std.specs.Ordering.{nat_cmp};
+ghost use Rattle.mw_model.specs.Ascending.{Ascend};
+ghost use Rattle.mw_model.specs.Seed.{has_number, is_owner};
+ghost use Rattle.mw_checks.specs.Rows.{seat, Empty, HasPlace, HavePlaces, Put, PutFor, receivers_of};
 
-use crate::counts::{SLOTS, counts_of, receivers_of};
+use crate::counts::{SLOTS, receipts_of};
 use crate::places::Places;
 use mw_base::{Memory, SlotId, TeamId};
-use mw_multidata::Held;
+use mw_multidata::{Held, Multidata};
 use std::alloc::Global;
 
 /// The teams that there may be.
@@ -63,16 +66,51 @@ pub(crate) fn put<T: Drop>(row: &mut Vec<T>, item: T)
     row.push(item).unwrap();
 }
 
+/// Puts a number at the end of a row.
+fn put_at(rows: &mut Vec<Vec<u32>>, at: usize, number: u32)
+    requires { HasPlace rows.old.items at }
+    ensures { Put rows.old.items rows.new.items at number }
+{
+    put(&mut rows[at], number);
+}
+
+/// Puts a number at the end of the row of each of these slots in a team. They ascend.
+fn put_for_each(rows: &mut Vec<Vec<u32>>, team: TeamId, number: u32, slots: &[SlotId])
+    requires places { HavePlaces (has_number slots.now) team rows.old.items }
+    requires ascend { Ascend nat_cmp slots.now }
+    ensures { PutFor (has_number slots.now) team number rows.old.items rows.new.items }
+{
+    for slot in slots {
+        put_at(rows, seat(usize::from(slot.get()), team), number);
+    }
+}
+
+/// Puts a number at the end of the row of each owner of a receiver in a team.
+fn put_for_owners(
+    rows: &mut Vec<Vec<u32>>,
+    team: TeamId,
+    number: u32,
+    multidata: &Multidata,
+    receiver: u16,
+)
+    requires { HavePlaces (is_owner multidata.now receiver) team rows.old.items }
+    ensures { PutFor (is_owner multidata.now receiver) team number rows.old.items rows.new.items }
+{
+    if usize::from(receiver) <= multidata.slots.len() {
+        put_at(rows, seat(usize::from(receiver), team), number);
+    } else if let Some(group) = multidata.group(receiver) {
+        put_for_each(rows, team, number, group.members.as_slice());
+    }
+}
+
 impl Rows {
     /// No flag is set, and the rows are empty.
     pub(crate) fn new(alloc: Global, places: &Places) -> Result<Rows, Memory>
         ensures { IfOk result (λ r. KeptIn places.now [] r) }
     {
-        let locations = places.locations();
-        let receivers = receivers_of(alloc, locations)?;
-        let receivers = counts_of(alloc, &receivers)?;
-        let done = no_flags(alloc, locations.len())?;
-        let received = empty_rows(alloc, &receivers)?;
+        let receipts = receipts_of(alloc, places.tables().multidata())?;
+        let done = no_flags(alloc, places.locations().len())?;
+        let received = empty_rows(alloc, &receipts)?;
         let found = empty_rows(alloc, places.sizes())?;
         Ok(Rows {
             done,
@@ -108,23 +146,21 @@ impl Rows {
         &self.found[seat(usize::from(slot.get()), team)]
     }
 
-    /// Flags a location in a team, and puts it into its receiver's and its finder's rows. It takes
+    /// Flags a location in a team, and puts it into its receivers' and its finder's rows. It takes
     /// no memory.
-    pub(crate) fn enter(&mut self, team: TeamId, number: u32, held: &Held)
-        requires { HasPlaces self.old team number held.now }
+    pub(crate) fn enter(&mut self, multidata: &Multidata, team: TeamId, number: u32, held: &Held)
+        requires { HasPlaces self.old multidata.now team number held.now }
         ensures flag { self.new.done.items ≡ set self.old.done.items (seat number team) true }
-        ensures received { Put self.old.received.items self.new.received.items
-            (seat held.now.receiver team) number }
+        ensures received { PutFor (receivers_of multidata.now held.now) team number
+            self.old.received.items self.new.received.items }
         ensures found { Put self.old.found.items self.new.found.items
             (seat held.now.slot team) number }
     {
         self.done[seat(number as usize, team)] = true;
-        put(
-            &mut self.received[seat(usize::from(held.receiver), team)],
-            number,
-        );
-        put(
-            &mut self.found[seat(usize::from(held.slot.get()), team)],
+        put_for_owners(&mut self.received, team, number, multidata, held.receiver);
+        put_at(
+            &mut self.found,
+            seat(usize::from(held.slot.get()), team),
             number,
         );
     }

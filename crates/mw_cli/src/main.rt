@@ -49,6 +49,8 @@ mod fault_tests;
 #[cfg(test)]
 mod generate_tests;
 #[cfg(test)]
+mod group_tests;
+#[cfg(test)]
 mod harness;
 #[cfg(test)]
 mod kept_room_tests;

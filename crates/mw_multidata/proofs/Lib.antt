@@ -1,4 +1,5 @@
 pub mod Again
+pub mod Among
 pub mod Bools
 pub mod Entries
 pub mod Ids

@@ -1,18 +1,20 @@
 -- What some seed file stands for keeps the rules of a seed.
-use Rattle.std.proofs.Common.{◌≡◌, ℕ, List, inl, inr, Ok, length, true, subst, arith}
-use Rattle.std.specs.Prelude.{All, IfOk, slice_index_or}
+use Rattle.std.proofs.Common.{◌≡◌, ◌≤◌, ◌+◌, ◌++◌, ℕ, List, inl, inr, Ok, length, map, true, sym, subst, append-nil, arith}
+use Rattle.std.specs.Prelude.{All, IfOk, bytes_eq, slice_index_or}
+use Rattle.std.specs.List.{IsDistinct}
+use Rattle.std.proofs.lemmas.List.Elements.{All-nil}
 use Rattle.std.proofs.lemmas.Result.{IfOk-at_ok}
 use Rattle.mw_model.specs.Json.{Json}
-use Rattle.mw_model.specs.Seed.{Seed, Slot, Game, Held, Spot}
+use Rattle.mw_model.specs.Seed.{Seed, Slot, Group, Game, Held, Spot}
 use Rattle.mw_json.specs.Valid.{IsValid}
 use Rattle.mw_json.proofs.Passing.{after}
 use Rattle.mw_json.proofs.Valid.{reading_valid}
-use Rattle.mw_multidata.specs.Names.{names_named}
-use Rattle.mw_multidata.specs.SeedKept.{GameKept, SlotKept, HeldKept, SphereKept, has_location, has_item, IsSeed}
+use Rattle.mw_multidata.specs.Names.{names_named, all_names}
+use Rattle.mw_multidata.specs.SeedKept.{GameKept, SlotKept, GroupKept, GroupsKept, group_name, HeldKept, SphereKept, has_location, has_item, IsSeed}
 use Rattle.mw_multidata.specs.SeedOf.{seed_at, SeedOf}
 use Rattle.mw_multidata.specs.Shape.{shape_at}
 use Rattle.mw_multidata.proofs.NamesKept.{IdsKept, PlayKept, IsKnown, IsThere, NamesKept, seed_names_kept}
-use Rattle.mw_multidata.proofs.Plays.{plays_count, played_same}
+use Rattle.mw_multidata.proofs.Plays.{plays_count, played_same, slot_received}
 use Rattle.mw_multidata.proofs.ShapeKept.{GameShape, SlotShape, HeldShape, SphereShape, IsShape, shape_kept}
 
 -- what each of them keeps, of two rules that each keeps
@@ -40,7 +42,7 @@ module _ (seed : Seed) (s : IsShape seed) (n : NamesKept seed) where
   held_kept : (h : Held) → HeldShape h → IsKnown n.games h → HeldKept seed h
   held_kept h c k = record {
     location = subst (λ f. has_location f h.location ≡ true) (played_same seed n.games n.played h.slot) k.location;
-    item = subst (λ f. has_item f h.item ≡ true) (played_same seed n.games n.played h.receiver) k.item;
+    item = slot_received seed h.receiver h.item (subst (λ f. has_item f h.item ≡ true) (played_same seed n.games n.played h.receiver) k.item);
     class = c;
   }
 
@@ -54,6 +56,15 @@ module _ (seed : Seed) (s : IsShape seed) (n : NamesKept seed) where
         let there = t k d l in
         record { low = there.0; high = omega (arith, there.1, many); index = h.each k d l };
   }
+
+  none : GroupsKept seed
+  none =
+      let names : List (List ℕ) = all_names seed.slots in
+      record {
+        few = subst (λ (gs : List Group). length seed.slots + length gs ≤ 1024) (sym s.groups) (omega (arith, s.slots.few));
+        each = subst (All (GroupKept seed)) (sym s.groups) (All-nil (GroupKept seed));
+        differ = subst (λ (gs : List Group). IsDistinct bytes_eq (names ++ map group_name gs)) (sym s.groups) (subst (IsDistinct bytes_eq) (sym (append-nil names)) n.differ);
+      }
 
   kept : IsSeed seed
   kept = record {
@@ -69,6 +80,7 @@ module _ (seed : Seed) (s : IsShape seed) (n : NamesKept seed) where
       each = both (SlotShape seed.teams) (PlayKept seed.games) (SlotKept seed.teams seed.games) (slot_kept seed.teams seed.games) seed.slots s.slots.each n.plays;
       differ = n.differ;
     };
+    groups = none;
     locations = record {
       few = s.few_locations;
       each = both HeldShape (IsKnown n.games) (HeldKept seed) held_kept seed.locations s.locations n.known;

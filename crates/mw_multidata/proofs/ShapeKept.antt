@@ -1,5 +1,5 @@
 -- What a seed file's shape gives keeps the rules of kinds and ranges.
-use Rattle.std.proofs.Common.{◌≡◌, ◌≤◌, ℕ, List, length, map, arith}
+use Rattle.std.proofs.Common.{◌≡◌, ◌≤◌, ℕ, List, [], length, map, refl, arith}
 use Rattle.std.specs.Prelude.{All, IfOk, codes}
 use Rattle.std.proofs.lemmas.Result.{IfOk-weaker}
 use Rattle.mw_model.specs.Json.{Json, Members}
@@ -191,6 +191,7 @@ pub record IsShape (seed : Seed) : Type 0 where
   pub server : ServerKept seed.server
   pub games : AreGames seed.games
   pub slots : AreSlots seed.teams seed.slots
+  pub groups : seed.groups ≡ []
   pub few_locations : length seed.locations ≤ 16777216
   pub locations : All HeldShape seed.locations
   pub spheres : All SphereShape seed.spheres
@@ -214,6 +215,7 @@ members_shaped ms o =
       server = c;
       games = d;
       slots = e;
+      groups = refl;
       few_locations = f.0;
       locations = f.1;
       spheres = g;

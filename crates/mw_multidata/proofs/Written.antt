@@ -25,7 +25,7 @@ use Rattle.mw_multidata.proofs.Again.{members_in, field_again, number_again, sho
 use Rattle.mw_multidata.proofs.NamesAgain.{IsPlayedSlot, names_pass_all}
 use Rattle.mw_multidata.proofs.NamesKept.{IsKnown, IsWithin}
 use Rattle.mw_multidata.proofs.Orders.{seed_ordered, seed_plain, seed_shallow}
-use Rattle.mw_multidata.proofs.Plays.{PlayAll, played_same, plays}
+use Rattle.mw_multidata.proofs.Plays.{PlayAll, played_same, plays, number_within, some_item, received_slot}
 
 -- ---- what is known by a look-up
 
@@ -70,33 +70,13 @@ slot_found : (gs : List Game) (slot : Option Slot) → All GameKept gs → IsFou
 slot_found gs (Some s) h = found_kept gs s.game h
 slot_found gs None h = tt
 
--- where a slot's game has something, the slot is there
-there : (gs : List Game) (slot : Option Slot) → is_some (game_of gs slot) ≡ true → is_some slot ≡ true
-there gs (Some s) e = refl
-there gs None e = e
-
-some_item : (found : Option Game) (id : ℤ) → has_item found id ≡ true → is_some found ≡ true
-some_item (Some g) id e = refl
-some_item None id e = e
-
 some_location : (found : Option Game) (id : ℤ) → has_location found id ≡ true → is_some found ≡ true
 some_location (Some g) id e = refl
 some_location None id e = e
 
-within : (ss : List Slot) (n : ℕ) → is_some (slice_get ss n) ≡ true → n < length ss
-within [] n e = cc
-within (s ∷ ss) zero e = omega arith
-within (s ∷ ss) (suc n) e = omega (arith, within ss n e)
-
-number_within : (seed : Seed) (n : ℕ) → is_some (played seed n) ≡ true → IsWithin (length seed.slots) n
-number_within seed zero e = cc
-number_within seed (suc n) e =
-    let below : n < length seed.slots = within seed.slots n (there seed.games (slice_get seed.slots n) e) in
-    (omega arith, omega (arith, below))
-
 -- ---- its parts by their shape
 
-module _ (seed : Seed) (h : IsSeed seed) where
+module _ (seed : Seed) (h : IsSeed seed) (none : seed.groups ≡ []) where
   slot_shape : (s : Slot) → SlotKept seed.teams seed.games s → SlotShape seed.teams s
   slot_shape s k =
       let found : IsFound s.game (find_game seed.games s.game) = found_kept seed.games s.game h.games.each in
@@ -113,12 +93,13 @@ module _ (seed : Seed) (h : IsSeed seed) where
   held_shape : (x : Held) → HeldKept seed x → HeldShape x
   held_shape x k =
       let finder = number_within seed x.slot (some_location (played seed x.slot) x.location k.location) in
-      let receiver = number_within seed x.receiver (some_item (played seed x.receiver) x.item k.item) in
+      let own = received_slot seed x.receiver x.item none k.item in
+      let receiver = number_within seed x.receiver (some_item (played seed x.receiver) x.item own) in
       record {
         slot_low = finder.0;
         slot_high = omega (arith, finder.1, h.slots.few);
         location = location_id (slot_name (slot_of seed x.slot)) (played seed x.slot) x.location (slot_found seed.games (slot_of seed x.slot) h.games.each) k.location;
-        held = item_id (slot_name (slot_of seed x.receiver)) (played seed x.receiver) x.item (slot_found seed.games (slot_of seed x.receiver) h.games.each) k.item;
+        held = item_id (slot_name (slot_of seed x.receiver)) (played seed x.receiver) x.item (slot_found seed.games (slot_of seed x.receiver) h.games.each) own;
         receiver_low = receiver.0;
         receiver_high = omega (arith, receiver.1, h.slots.few);
         class = k.class;
@@ -133,7 +114,7 @@ module _ (seed : Seed) (h : IsSeed seed) where
   held_known : (ps : List Game) → PlayAll seed.games seed.slots ps → (x : Held) → HeldKept seed x → IsKnown ps x
   held_known ps play x k = record {
     location = subst (λ f. has_location f x.location ≡ true) (sym (played_same seed ps play x.slot)) k.location;
-    item = subst (λ f. has_item f x.item ≡ true) (sym (played_same seed ps play x.receiver)) k.item;
+    item = subst (λ f. has_item f x.item ≡ true) (sym (played_same seed ps play x.receiver)) (received_slot seed x.receiver x.item none k.item);
   }
 
 -- the game of a slot that is there
@@ -185,14 +166,14 @@ format_read : (ms : Members) → find_member (codes "format") ms ≡ Some (words
 unfolding format_at
 format_read ms h = field_again format_at (codes "format") ms (words (codes "mw-multidata-1")) (codes "mw-multidata-1") h refl
 
-module _ (seed : Seed) (h : IsSeed seed) where
+module _ (seed : Seed) (h : IsSeed seed) (none : seed.groups ≡ []) where
   shape_read : shape_at (seed_json seed) ≡ Ok seed
   unfolding shape_at members_at
   shape_read =
       let ms = members_in (seed_json seed) in
-      let slots : All (SlotShape seed.teams) seed.slots = λ k d l. slot_shape seed h (slice_index_or seed.slots k d) (h.slots.each k d l) in
-      let locations : All HeldShape seed.locations = λ k d l. held_shape seed h (slice_index_or seed.locations k d) (h.locations.each k d l) in
-      let spheres : All SphereShape seed.spheres = λ k d l. sphere_shape seed h (slice_index_or seed.spheres k d) (h.spheres k d l) in
+      let slots : All (SlotShape seed.teams) seed.slots = λ k d l. slot_shape seed h none (slice_index_or seed.slots k d) (h.slots.each k d l) in
+      let locations : All HeldShape seed.locations = λ k d l. held_shape seed h none (slice_index_or seed.locations k d) (h.locations.each k d l) in
+      let spheres : All SphereShape seed.spheres = λ k d l. sphere_shape seed h none (slice_index_or seed.spheres k d) (h.spheres k d l) in
       rw (
         format_read ms refl,
         field_again seed_name_at (codes "seed_name") ms (words seed.seed_name) seed.seed_name refl (seed_name_again seed.seed_name (seed_name_read seed.seed_name h.name_there h.name_short)),
@@ -202,6 +183,7 @@ module _ (seed : Seed) (h : IsSeed seed) where
         field_again (slots_at seed.teams) (codes "slots") ms (many (items_of (map slot_json seed.slots))) seed.slots refl (slots_again seed.teams seed.slots h.slots.some h.slots.few slots),
         field_again (list_of_at 16777216 held_at) (codes "locations") ms (many (items_of (map held_json seed.locations))) seed.locations refl
             (list_again HeldShape held_at held_json held_again 16777216 seed.locations h.locations.few locations),
+        sym none,
         field_again spheres_at (codes "spheres") ms (many (items_of (map sphere_json seed.spheres))) seed.spheres refl (spheres_again seed.spheres spheres),
       ) refl
 
@@ -215,7 +197,7 @@ module _ (seed : Seed) (h : IsSeed seed) where
       let spot = slice_index_or (slice_index_or seed.spheres k d) i e in
       spot_played seed.games seed.slots ps play.1 spot spot.slot refl kept.low kept.high in
       names_pass_all seed ps h.games.each h.slots.differ (λ k d l. (h.slots.each k d l).start) play.1
-      (λ k d l. held_known seed h ps play.1 (slice_index_or seed.locations k d) (h.locations.each k d l)) h.locations.ascend spots
+      (λ k d l. held_known seed h none ps play.1 (slice_index_or seed.locations k d) (h.locations.each k d l)) h.locations.ascend spots
 
   seed_read : seed_at (seed_json seed) ≡ Ok seed
   unfolding seed_at

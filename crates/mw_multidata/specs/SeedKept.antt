@@ -1,9 +1,9 @@
 -- What a seed keeps, rule by rule of its file's format. Each text is UTF-8 by its type.
-use Rattle.std.specs.Prelude.{◌≡◌, ℕ, ℤ, pos, ◌<◌, ◌≤◌, ◌≤ℤ◌, ◌<ℤ◌, ◌^◌, ◌==◌, ◌||◌, List, Bool, true, false, Option, Some, None, All, bytes_eq, chars, length, map, is_some}
+use Rattle.std.specs.Prelude.{◌≡◌, ℕ, ℤ, pos, ◌<◌, ◌≤◌, ◌≤ℤ◌, ◌<ℤ◌, ◌^◌, ◌+◌, ◌++◌, ◌==◌, ◌||◌, nat_le, List, Bool, true, false, Option, Some, None, All, bytes_eq, chars, length, map, is_some, if◌then◌else◌}
 use Rattle.std.specs.List.{IsDistinct}
 use Rattle.std.specs.Ordering.{nat_cmp, int_cmp, int_eq, ordering_then}
 use Rattle.std.specs.declared.cmp.Ordering.{Ordering}
-use Rattle.mw_model.specs.Seed.{Seed, Slot, StartItem, Game, NamedId, Held, RoomOptions, Spot, slot_of}
+use Rattle.mw_model.specs.Seed.{Seed, Slot, Group, StartItem, Game, NamedId, Held, RoomOptions, Spot, slot_of, group_of}
 use Rattle.mw_model.specs.Ascending.{Ascend, NamesAscend}
 use Rattle.mw_multidata.specs.Names.{has_id, find_game, all_names}
 
@@ -95,6 +95,29 @@ pub record SlotsKept (seed : Seed) : Type 0 where
   pub each : All (SlotKept seed.teams seed.games) seed.slots
   pub differ : IsDistinct bytes_eq (all_names seed.slots)
 
+-- ---- the groups
+
+-- the slot is there and plays the game of this name
+abbrev pub plays_game : Option Slot → List ℕ → Bool
+plays_game (Some s) name = bytes_eq s.game name
+plays_game None name = false
+
+-- several slots, in order, that all play one of the games
+pub record GroupKept (seed : Seed) (g : Group) : Type 0 where
+  pub name : IsName 16 g.name
+  pub game : is_some (find_game seed.games g.game) ≡ true
+  pub some : 2 ≤ length g.members
+  pub each : All (λ number. plays_game (slot_of seed number) g.game ≡ true) g.members
+  pub ascend : Ascend nat_cmp g.members
+
+abbrev pub group_name : Group → List ℕ
+group_name g = g.name
+
+pub record GroupsKept (seed : Seed) : Type 0 where
+  pub few : length seed.slots + length seed.groups ≤ 1024
+  pub each : All (GroupKept seed) seed.groups
+  pub differ : IsDistinct bytes_eq (all_names seed.slots ++ map group_name seed.groups)
+
 -- ---- the locations
 
 abbrev pub game_of : List Game → Option Slot → Option Game
@@ -105,6 +128,16 @@ game_of games None = None
 abbrev pub played : Seed → ℕ → Option Game
 played seed number = game_of seed.games (slot_of seed number)
 
+abbrev pub game_of_group : List Game → Option Group → Option Game
+game_of_group games (Some g) = find_game games g.game
+game_of_group games None = None
+
+-- the game of the receiver of this number, a slot or a group
+abbrev pub received : Seed → ℕ → Option Game
+received seed number =
+    if nat_le number (length seed.slots) then played seed number
+    else game_of_group seed.games (group_of seed number)
+
 -- the game is there and has the location
 abbrev pub has_location : Option Game → ℤ → Bool
 has_location (Some g) id = has_id g.location_name_to_id id
@@ -113,7 +146,7 @@ has_location None id = false
 -- a location of the finder's game, with an item of the receiver's
 pub record HeldKept (seed : Seed) (h : Held) : Type 0 where
   pub location : has_location (played seed h.slot) h.location ≡ true
-  pub item : has_item (played seed h.receiver) h.item ≡ true
+  pub item : has_item (received seed h.receiver) h.item ≡ true
   pub class : is_class h.flags ≡ true
 
 -- by slot, then by location
@@ -147,5 +180,6 @@ pub record IsSeed (seed : Seed) : Type 0 where
   pub server : ServerKept seed.server
   pub games : GamesKept seed.games
   pub slots : SlotsKept seed
+  pub groups : GroupsKept seed
   pub locations : LocationsKept seed
   pub spheres : All (SphereKept (length seed.slots)) seed.spheres

@@ -154,6 +154,7 @@ members_at ms = do
     server = server;
     games = games;
     slots = slots;
+    groups = [];
     locations = locations;
     spheres = spheres;
   }

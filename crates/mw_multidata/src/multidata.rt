@@ -1,4 +1,5 @@
-use crate::seed::{Game, Held, Slot};
+use crate::members::is_among;
+use crate::seed::{Game, Group, Held, Slot};
 use mw_base::{List, RoomOptions, SlotId, SphereList, Text};
 use std::marker::Model;
 
@@ -14,6 +15,8 @@ pub struct Multidata {
     pub games: List<Game>,
     /// 1 to 1,024 slots; the first one has number 1. No two names are equal over all teams and slots.
     pub slots: List<Slot>,
+    /// The k-th of them, from 1, has the number of slots plus k. Slots and groups together are at most 1,024.
+    pub groups: List<Group>,
     /// At most 16,777,216 locations, strictly ascending by slot, then by location.
     pub locations: List<Held>,
     /// The spheres, none of them empty; each slot is there.
@@ -29,6 +32,7 @@ impl Drop for Multidata {
             server: _,
             games: _,
             slots: _,
+            groups: _,
             locations: _,
             spheres: _,
         } = self;
@@ -47,6 +51,7 @@ impl Model for Multidata {
       server = m.server;
       games = m.games;
       slots = m.slots;
+      groups = m.groups;
       locations = m.locations;
       spheres = m.spheres;
     } };
@@ -57,6 +62,7 @@ impl Model for Multidata {
       server = m.server;
       games = m.games;
       slots = m.slots;
+      groups = m.groups;
       locations = m.locations;
       spheres = m.spheres;
     } };
@@ -65,7 +71,7 @@ impl Model for Multidata {
 impl Multidata {
     ghost use Rattle.std.specs.Prelude.{◌≡◌};
     ghost use Rattle.std.specs.Option.{option_copied};
-    ghost use Rattle.mw_model.specs.Seed.{slot_of};
+    ghost use Rattle.mw_model.specs.Seed.{slot_of, group_of, is_owner};
     ghost use Rattle.mw_multidata.specs.OfSlot.{held_of};
 
     /// The slot of a number; None where the seed has no such slot.
@@ -75,6 +81,34 @@ impl Multidata {
     {
         let at = number.get() - 1;
         self.slots.get(usize::from(at))
+    }
+
+    /// The group of a number; None where the seed has no such group.
+    #[tactic(auto, using(crate::proofs::Numbered::group_of_slot, crate::proofs::Numbered::group_of_after))]
+    pub fn group(&self, number: u16) -> Option<&Group>
+        ensures { option_copied result ≡ group_of self.now number }
+    {
+        let number = usize::from(number);
+        let slots = self.slots.len();
+        if number <= slots {
+            None
+        } else {
+            self.groups.get(number - slots - 1)
+        }
+    }
+
+    /// Whether a slot gets what is for a receiver: a slot gets its own, a member what is for its group. It searches
+    /// a group's members.
+    pub fn is_owner(&self, receiver: u16, slot: SlotId) -> bool
+        ensures { result ≡ is_owner self.now receiver slot }
+    {
+        if usize::from(receiver) <= self.slots.len() {
+            return receiver == slot.get();
+        }
+        match self.group(receiver) {
+            None => false,
+            Some(group) => is_among(group.members.as_slice(), slot),
+        }
     }
 
     /// The locations of a slot, by id. It searches for where they begin and end.

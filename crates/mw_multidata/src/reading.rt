@@ -59,6 +59,7 @@ fn accepted(shape: Shape) -> Multidata
         server,
         games,
         slots,
+        groups,
         locations,
         spheres,
     } = shape;
@@ -68,6 +69,7 @@ fn accepted(shape: Shape) -> Multidata
         server,
         games,
         slots,
+        groups,
         locations,
         spheres,
     }

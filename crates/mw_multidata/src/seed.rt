@@ -79,6 +79,25 @@ impl Model for Slot {
     ghost view = { λ s. record { names = s.names; game = s.game; start = s.start } };
 }
 
+/// A receiver that stands for several slots of one game: each of them gets its items, each once.
+#[derive(Drop)]
+pub struct Group {
+    /// 1 to 16 characters, none below U+0020; no player's name and no other group's.
+    pub name: Text,
+    /// The game that all its members play.
+    pub game: Text,
+    /// At least two slots, strictly ascending.
+    pub members: List<SlotId>,
+}
+
+impl Model for Group {
+    ghost use Rattle.mw_model.specs.Seed as plain;
+
+    ghost Value = { plain.Group };
+
+    ghost view = { λ g. record { name = g.name; game = g.game; members = g.members } };
+}
+
 /// A location of a slot, with the item that it holds.
 #[derive(Clone, Copy)]
 pub struct Held {
@@ -88,7 +107,7 @@ pub struct Held {
     pub location: LocId,
     /// An item of the receiver's game.
     pub item: ItemId,
-    /// The number of the slot that receives it, 1 to 1,024.
+    /// The number of the slot or of the group that receives it, 1 to 1,024.
     pub receiver: u16,
     /// Progression 1, useful 2, trap 4, else 0.
     pub flags: u8,

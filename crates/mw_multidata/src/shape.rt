@@ -6,7 +6,7 @@ ghost use Rattle.mw_multidata.specs.Shape.{format_of, format_at, seed_name_of, s
 
 use crate::games::games_of;
 use crate::locations::held_of;
-use crate::seed::{Game, Held, Slot};
+use crate::seed::{Game, Group, Held, Slot};
 use crate::server::server_of;
 use crate::slots::slots_of;
 use crate::spheres::spheres_of;
@@ -25,6 +25,7 @@ pub(crate) struct Shape {
     pub server: RoomOptions,
     pub games: List<Game>,
     pub slots: List<Slot>,
+    pub groups: List<Group>,
     pub locations: List<Held>,
     pub spheres: SphereList,
 }
@@ -40,6 +41,7 @@ impl Model for Shape {
       server = s.server;
       games = s.games;
       slots = s.slots;
+      groups = s.groups;
       locations = s.locations;
       spheres = s.spheres;
     } };
@@ -114,6 +116,7 @@ pub(crate) fn shape_of(alloc: Global, tree: &Tree) -> Result<Shape, Refusal>
         server,
         games,
         slots,
+        groups: List::new(alloc),
         locations,
         spheres,
     })

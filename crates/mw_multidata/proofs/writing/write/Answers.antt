@@ -10,7 +10,7 @@ pub returns-clause-text : goal.returns-clause-text
 returns-clause-text c = subst (λ j. IfOk c.compact.result (λ b. b ≡ spelling j)) c.in_ok-tree.ensures.value c.compact.ensures.text
 
 pub returns-clause-reads_back : goal.returns-clause-reads_back
-returns-clause-reads_back c =
+returns-clause-reads_back c none =
     let kept = subst IsSeed c.multidata.view_is c.multidata.invariant in
     let writable = subst IsWritable c.in_ok-tree.ensures.value c.in_ok-tree.ensures.writable in
-    stands_for c.args.multidata.now kept c.compact.result writable c.compact.ensures.utf8 (returns-clause-text c)
+    stands_for c.args.multidata.now kept none c.compact.result writable c.compact.ensures.utf8 (returns-clause-text c)
