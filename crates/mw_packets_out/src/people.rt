@@ -38,7 +38,12 @@ impl Model for NetworkSlot {
 
     ghost Value = { plain.NetworkSlot };
 
-    ghost view = { λ s. record { slot = s.slot; name = s.name; game = s.game; members = s.members } };
+    ghost view = { λ s. record {
+      slot = s.slot;
+      name = s.name;
+      game = s.game;
+      members = s.members;
+    } };
 }
 
 /// What a session is told once it is connected.
