@@ -7,9 +7,11 @@ use Rattle.mw_multidata.specs.SeedKept.{IsId}
 use Rattle.mw_hints.proofs.Numbers.{item_id}
 use Rattle.mw_protocol.specs.Standing.{cost, points_left}
 use Rattle.mw_hints.specs.Answering.{IsAnswer}
+use Rattle.mw_hints.specs.Opening.{opens}
 use Rattle.mw_hints.proofs.book.HintBook.buy_item.Goals as goal
 
 pub returns-in-Some : goal.returns-in-Some
+unfolding opens
 returns-in-Some g c =
     let seed = g.C.Checks.seed c.args.log.now in
     let team = c.args.team in
