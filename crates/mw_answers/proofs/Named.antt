@@ -1,9 +1,9 @@
 -- Names of locations and items by id.
 use Rattle.std.proofs.Common.{◌≡◌, ℕ, ℤ, ◌==◌, ◌&&◌, ◌<◌, ◌+◌, ◌++◌, [], ◌∷◌, List, Bool, true, false, not, Option, Some, None, length, map, filter, take, get_or, refl, sym, ap, ap₂, ◌∙◌, codes, if◌then◌else◌}
 use Rattle.std.proofs.lemmas.List.{take_more}
-use Rattle.mw_model.specs.Seed.{Seed, Game, Held, NamedId}
+use Rattle.mw_model.specs.Seed.{Seed, Game, Held, NamedId, is_owner}
 use Rattle.mw_protocol.specs.Asked.{locations_among, locations_of}
-use Rattle.mw_protocol.specs.Checks.{CheckedAt, is_owner}
+use Rattle.mw_protocol.specs.Checks.{CheckedAt}
 use Rattle.mw_protocol.specs.Commands.{location_name, item_name, name_among, remaining_items, game_of, counted, remaining_text}
 use Rattle.mw_answers.specs.Names.{location_names, item_names, name_if, is_as}
 

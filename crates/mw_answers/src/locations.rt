@@ -1,8 +1,8 @@
 ghost use Rattle.std.specs.Prelude.{◌≡◌, ◌==◌, ◌&&◌, ◌++◌, IfOk, OnOk, filter, map, not};
+ghost use Rattle.mw_model.specs.Seed.{is_owner};
 ghost use Rattle.mw_protocol.specs.Asked.{locations_among};
 ghost use Rattle.mw_protocol.specs.Commands.{checked_text, missing_text, name_among};
 ghost use Rattle.mw_protocol.specs.Commands.{remaining_items, remaining_text};
-ghost use Rattle.mw_protocol.specs.Checks.{is_owner};
 ghost use Rattle.mw_answers.specs.Names.{is_as, name_if};
 
 use crate::counting::counted;
@@ -96,7 +96,8 @@ fn is_left<C: Checks>(log: &C, held: &Held, team: TeamId, slot: SlotId) -> bool
     ensures { result ≡ (is_owner (C.seed log.now) held.now.receiver slot
         && not (C.is_found log.now team held.now.slot held.now.location)) }
 {
-    held.receiver == slot.get() && !log.is_checked(team, held.slot, held.location)
+    log.tables().multidata().is_owner(held.receiver, slot)
+        && !log.is_checked(team, held.slot, held.location)
 }
 
 /// The names of the slot's items at unchecked locations.

@@ -2,7 +2,7 @@
 use Rattle.std.proofs.Common.{◌≡◌, ℕ, ℤ, ◌+◌, ◌*◌, ◌-◌, ◌==◌, ◌&&◌, List, [], ◌∷◌, ◌++◌, Option, None, cond, refl, Bool, false, true, length, length-append, Some, sym, ap, ap₂, ◌∙◌, append_assoc, arith}
 use Rattle.std.specs.List.{filter}
 use Rattle.std.proofs.lemmas.List.Elements.{filter-append}
-use Rattle.mw_model.specs.Seed.{Seed, Held, slot_of, held_at}
+use Rattle.mw_model.specs.Seed.{Seed, Held, slot_of, held_at, is_owner}
 use Rattle.mw_checks.specs.Log.{check_of, checks_of}
 use Rattle.mw_protocol.specs.Checks.{keeps, item_for, found_item, start_items, items_found, received_in as received, locations_in}
 use Rattle.mw_protocol.specs.Connecting.{Member}
@@ -49,13 +49,13 @@ points_then s e m more logged is =
     ∙ sym (ap length (locations_in-append m.team m.slot s.log.checked (news_of e)) ∙ length-append (locations_in m.team m.slot s.log.checked) (locations_in m.team m.slot (news_of e))) in
     ap₂ (λ n b. s.log.seed.server.location_check_points * n - cost s.log.seed m.slot * b) count (sym (logged.paid m.team m.slot))
 
-none_for : (team : ℕ) (m : Member) (pair : ℕ × ℤ) (held : Option Held) → (team == m.team) ≡ false → item_for m.team m.slot (check_of team pair) held ≡ []
-none_for team m pair None h = refl
-none_for team m pair (Some held) h = ap (λ b. cond (b && (held.receiver == m.slot)) (found_item held ∷ []) []) h
+none_for : (seed : Seed) (team : ℕ) (m : Member) (pair : ℕ × ℤ) (held : Option Held) → (team == m.team) ≡ false → item_for seed m.team m.slot (check_of team pair) held ≡ []
+none_for seed team m pair None h = refl
+none_for seed team m pair (Some held) h = ap (λ b. cond (b && is_owner seed held.receiver m.slot) (found_item held ∷ []) []) h
 
 -- checks in a team give the slots of others nothing
 pub others_get_nothing : (seed : Seed) (team : ℕ) (m : Member) (pairs : List (ℕ × ℤ)) → (team == m.team) ≡ false → items_for seed m (checks_of team pairs) ≡ []
 others_get_nothing seed team m [] h = refl
 others_get_nothing seed team m (pair ∷ pairs) h =
-    ap (λ is. filter (keeps m.mask m.slot) (is ++ items_found seed m.team m.slot (checks_of team pairs))) (none_for team m pair (held_at seed pair.0 pair.1) h)
+    ap (λ is. filter (keeps m.mask m.slot) (is ++ items_found seed m.team m.slot (checks_of team pairs))) (none_for seed team m pair (held_at seed pair.0 pair.1) h)
     ∙ others_get_nothing seed team m pairs h

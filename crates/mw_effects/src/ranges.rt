@@ -17,7 +17,7 @@ fn in_range(seed: &Multidata)
     let _ = seed;
 }
 
-/// A seed has slots and teams in their ranges, by its rules.
+/// A seed has slots, groups and teams in their ranges, by its rules.
 pub fn playable(seed: &Multidata)
     ensures { IsPlayable seed.now }
 {

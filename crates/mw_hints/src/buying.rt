@@ -1,12 +1,11 @@
-ghost use Rattle.std.specs.Prelude.{◌≡◌, ◌&&◌, IsOk, IfOk};
+ghost use Rattle.std.specs.Prelude.{◌≡◌, IsOk, IfOk};
 ghost use Rattle.std.specs.Option.{option_copied};
-ghost use Rattle.std.specs.Ordering.{int_eq};
-ghost use Rattle.mw_protocol.specs.Checks.{is_owner};
 ghost use Rattle.mw_protocol.specs.Hints.{bought_for, bought_status, first_where, held_named};
 ghost use Rattle.mw_protocol.specs.Hints.{is_open, item_bought, item_named};
 ghost use Rattle.mw_protocol.specs.Hints.{location_bought, location_named, paid};
 ghost use Rattle.mw_protocol.specs.Standing.{cost, points_left};
 ghost use Rattle.mw_hints.specs.Answering.{IsAnswer, wanted_view};
+ghost use Rattle.mw_hints.specs.Opening.{opens};
 
 use crate::answer::{HintAnswer, Wanted};
 use crate::book::HintBook;
@@ -41,8 +40,18 @@ impl HintBook {
             && self.hint_at(team, held.slot, held.location).is_none()
     }
 
-    /// The first location by finder, then id, that holds the slot's item, isn't checked and has no
-    /// hint.
+    /// Whether a location holds the slot's item of a number, isn't checked and has no hint.
+    #[tactic(auto, unfolding(crate::specs::Opening::opens))]
+    fn opens<C: Checks>(&self, team: TeamId, slot: SlotId, item: i64, held: &Held, log: &C) -> bool
+        ensures { result ≡ opens (C.seed log.now) (C.is_found log.now) self.now.hints
+            team slot item held.now }
+    {
+        log.tables().multidata().is_owner(held.receiver, slot)
+            && held.item.get() == item
+            && self.is_open(team, held, log)
+    }
+
+    /// The first such location by finder, then id.
     fn first_open<'a, C: Checks>(
         &self,
         team: TeamId,
@@ -51,15 +60,11 @@ impl HintBook {
         log: &'a C,
     ) -> Option<&'a Held>
         ensures { option_copied result ≡ first_where
-            (λ h. is_owner (C.seed log.now) h.receiver slot && int_eq h.item item
-            && is_open (C.is_found log.now) self.now.hints team h)
+            (opens (C.seed log.now) (C.is_found log.now) self.now.hints team slot item)
             (C.seed log.now).locations }
     {
         for held in log.tables().multidata().locations.as_slice() {
-            if held.receiver == slot.get()
-                && held.item.get() == item
-                && self.is_open(team, held, log)
-            {
+            if self.opens(team, slot, item, held, log) {
                 return Some(held);
             }
         }

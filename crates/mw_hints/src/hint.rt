@@ -4,7 +4,7 @@ use std::marker::Model;
 /// A hint as it is told: who receives what from whose location.
 #[derive(Clone, Copy, PartialEq, Eq)]
 pub struct Hint {
-    /// The slot that receives the item, 1 to 1,024.
+    /// The slot or group that receives the item, 1 to 1,024.
     pub receiving_player: u16,
     /// The slot that finds it.
     pub finding_player: SlotId,

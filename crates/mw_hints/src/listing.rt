@@ -31,7 +31,7 @@ fn hint_told(finder: SlotId, location: LocId, found: bool, status: HintStatus, h
     }
 }
 
-/// Adds a hint of the team whose finder or receiver is the slot.
+/// Adds a hint of the team whose finder is the slot, or whose item is the slot's.
 fn add_told<C: Checks>(
     told: &mut List<Hint>,
     team: TeamId,
@@ -48,7 +48,7 @@ fn add_told<C: Checks>(
         return Ok(());
     }
     if let Some(held) = log.held(finder, location) {
-        if finder == slot || held.receiver == slot.get() {
+        if finder == slot || log.tables().multidata().is_owner(held.receiver, slot) {
             let found = log.is_checked(team, finder, location);
             told.push(hint_told(finder, location, found, kept.status, held))?;
         }
@@ -57,8 +57,8 @@ fn add_told<C: Checks>(
 }
 
 impl HintBook {
-    /// The hints of a team whose finder or receiver is the slot, in the order in which they were
-    /// made. Memory is its only error.
+    /// The hints of a team whose finder is the slot, or whose receiver is the slot or a group that
+    /// it is a member of, in the order in which they were made. Memory is its only error.
     pub fn list<C: Checks>(&self, team: TeamId, slot: SlotId, log: &C) -> Result<List<Hint>, Memory>
         ensures { IfOk result (λ hs. hs ≡ told_hints (C.seed log.now) (C.is_found log.now)
             team slot self.now.hints) }

@@ -18,7 +18,7 @@ fn receives<C: Checks>(slot: SlotId, finder: SlotId, loc: LocId, log: &C) -> boo
     ensures { let seed = C.seed log.now in result ≡ receives seed slot (held_at seed finder loc) }
 {
     match log.held(finder, loc) {
-        Some(held) => held.receiver == slot.get(),
+        Some(held) => log.tables().multidata().is_owner(held.receiver, slot),
         None => false,
     }
 }

@@ -13,7 +13,7 @@ use Rattle.mw_effects.specs.declared.effect.Effect.{Effect}
 use Rattle.mw_effects.specs.declared.standing.Standing.{Standing}
 use Rattle.mw_effects.proofs.Grown.{growth_is}
 use Rattle.mw_owed.specs.Concerned.{hears_some, is_finder}
-use Rattle.mw_owed.specs.Receivers.{is_among, receivers_in}
+use Rattle.mw_owed.specs.Receivers.{owns_one, receivers_in}
 use Rattle.mw_owed.proofs.Received.{neither, nothing_received}
 use Rattle.mw_owed.proofs.Untouched.{no_update}
 
@@ -38,14 +38,14 @@ never_both : (b : Bool) → (b && false) ≡ false
 never_both true = refl
 never_both false = refl
 
-none_grows : (s : Standing) (e : Effect) (m : Member) → is_among (receivers_in s.log.seed e.new) m.slot ≡ false → is_finder e.new m.slot ≡ false → paid_by e m.team m.slot ≡ 0 → IsLogged s e
+none_grows : (s : Standing) (e : Effect) (m : Member) → owns_one s.log.seed (receivers_in s.log.seed e.new) m.slot ≡ false → is_finder e.new m.slot ≡ false → paid_by e m.team m.slot ≡ 0 → IsLogged s e
     → growth_owed (e.whole && false) s.log.seed (standing_of s) (grown s e) (Some m) ≡ []
 none_grows s e m receives finds unpaid logged =
-    let part = ap (λ (b : Bool). b || is_among (receivers_in s.log.seed e.new) m.slot) (never_both e.whole) ∙ receives in
+    let part = ap (λ (b : Bool). b || owns_one s.log.seed (receivers_in s.log.seed e.new) m.slot) (never_both e.whole) ∙ receives in
     growth_is (e.whole && false) s e m
     ∙ ap₂ (λ (us is : List ServerPacket). us ++ is) (sym (no_update s e m [] logged (ap length (none_found e.team m e.new finds)) unpaid)) (nothing_received (e.whole && false) s e m part)
 
-pub nothing_owed : (s : Standing) (e : Effect) (m : Member) → hears_some s.log.seed (map announced_view e.announced) m ≡ false → is_among (receivers_in s.log.seed e.new) m.slot ≡ false → is_finder e.new m.slot ≡ false → paid_by e m.team m.slot ≡ 0
+pub nothing_owed : (s : Standing) (e : Effect) (m : Member) → hears_some s.log.seed (map announced_view e.announced) m ≡ false → owns_one s.log.seed (receivers_in s.log.seed e.new) m.slot ≡ false → is_finder e.new m.slot ≡ false → paid_by e m.team m.slot ≡ 0
     → IsLogged s e → owed s.log.seed (standing_of s) (grown s e) (effect_view e) false (Some m) ≡ []
 nothing_owed s e m silent receives finds unpaid logged =
     ap₂ (λ (gs hs : List ServerPacket). [] ++ gs ++ hs) (none_grows s e m receives finds unpaid logged) (none_heard s.log.seed (map announced_view e.announced) m silent)

@@ -1,6 +1,6 @@
 -- Who gets what new checks found.
-use Rattle.std.specs.Prelude.{ℕ, ℤ, ◌==◌, ◌||◌, ◌++◌, ◌∷◌, [], List, Bool, false, Option, Some, None}
-use Rattle.mw_model.specs.Seed.{Seed, Held, held_at}
+use Rattle.std.specs.Prelude.{ℕ, ℤ, ◌||◌, ◌++◌, ◌∷◌, [], List, Bool, false, Option, Some, None}
+use Rattle.mw_model.specs.Seed.{Seed, Held, held_at, is_owner}
 
 -- who gets what stands at a location, if something does
 abbrev pub receiver_of : Option Held → List ℕ
@@ -13,7 +13,7 @@ receivers_in seed [] = []
 receivers_in seed (pair ∷ pairs) =
     receiver_of (held_at seed pair.0 pair.1) ++ receivers_in seed pairs
 
--- whether a slot is among them
-abbrev pub is_among : List ℕ → ℕ → Bool
-is_among [] slot = false
-is_among (receiver ∷ others) slot = (receiver == slot) || is_among others slot
+-- whether a slot is among the owners of one of them
+abbrev pub owns_one : Seed → List ℕ → ℕ → Bool
+owns_one seed [] slot = false
+owns_one seed (receiver ∷ others) slot = is_owner seed receiver slot || owns_one seed others slot

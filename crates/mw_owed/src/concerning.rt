@@ -49,7 +49,7 @@ fn may_owe_member(standing: &Standing, effect: &Effect, shared: &Shared, member:
     if hears_some(standing.seed(), &shared.tellings, member) {
         return true;
     }
-    if receives(&shared.receivers, member) {
+    if receives(standing.seed(), &shared.receivers, member) {
         return true;
     }
     if paid_by(effect, member) > 0 {

@@ -38,7 +38,7 @@ pub(crate) fn hears(seed: &Multidata, audience: &Audience, sends: bool, member: 
         } => {
             !wants_no_text(member)
                 && member.team == *team
-                && (member.slot == *finder || member.slot.get() == *receiver)
+                && (member.slot == *finder || seed.is_owner(*receiver, member.slot))
         }
         Audience::Sender => !wants_no_text(member) && sends,
         Audience::Watchers { key, replies } => sends && *replies || watches(member, key),

@@ -216,7 +216,7 @@ fn growth_of(
         return Ok(packets);
     }
     add_update(alloc, &mut packets, standing, effect, member)?;
-    if !(whole | receives(receivers, member)) {
+    if !(whole | receives(standing.seed(), receivers, member)) {
         return Ok(packets);
     }
     add_items_owed(alloc, &mut packets, &standing.log, effect, whole, member)?;

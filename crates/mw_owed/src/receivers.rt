@@ -1,10 +1,11 @@
 ghost use Rattle.std.specs.Prelude.{◌≡◌, ◌++◌, IfOk, OnOk};
 ghost use Rattle.mw_model.specs.Seed.{held_at};
-ghost use Rattle.mw_owed.specs.Receivers.{is_among as is_among_lem, receiver_of, receivers_in};
+ghost use Rattle.mw_owed.specs.Receivers.{owns_one as owns_one_lem, receiver_of, receivers_in};
 
-use mw_base::Memory;
+use mw_base::{Memory, SlotId};
 use mw_checks::CheckLog;
 use mw_effects::{Member, Pair};
+use mw_multidata::Multidata;
 use std::alloc::Global;
 
 /// Adds who gets what stands at a location.
@@ -34,21 +35,21 @@ pub(crate) fn receivers_of(
     Ok(receivers)
 }
 
-/// Whether a slot is among these.
-fn is_among(receivers: &[u16], slot: u16) -> bool
-    ensures { result ≡ is_among_lem receivers.now slot }
+/// Whether a slot is one of these, or a member of a group that is.
+fn owns_one(seed: &Multidata, receivers: &[u16], slot: SlotId) -> bool
+    ensures { result ≡ owns_one_lem seed.now receivers.now slot }
 {
     for receiver in receivers {
-        if *receiver == slot {
+        if seed.is_owner(*receiver, slot) {
             return true;
         }
     }
     false
 }
 
-/// Whether the member's slot is among these.
-pub(crate) fn receives(receivers: &[u16], member: &Member) -> bool
-    ensures { result ≡ is_among_lem receivers.now member.now.slot }
+/// Whether the member's slot is one of these, or a member of a group that is.
+pub(crate) fn receives(seed: &Multidata, receivers: &[u16], member: &Member) -> bool
+    ensures { result ≡ owns_one_lem seed.now receivers.now member.now.slot }
 {
-    is_among(receivers, member.slot.get())
+    owns_one(seed, receivers, member.slot)
 }

@@ -20,15 +20,17 @@ impl Model for NetworkPlayer {
     ghost view = { λ p. record { team = p.team; slot = p.slot; name = p.name } };
 }
 
-/// What is played in a slot.
+/// A player's slot or a group, and what is played in it.
 #[derive(Drop)]
 pub struct NetworkSlot {
-    /// The slot.
+    /// Its number; groups are numbered on from the slots.
     pub slot: SlotId,
-    /// Its name in the session's team.
+    /// A slot's name in the session's team, or the group's name.
     pub name: Text,
     /// Its game.
     pub game: Text,
+    /// A group's members; none for a player.
+    pub members: List<SlotId>,
 }
 
 impl Model for NetworkSlot {
@@ -36,7 +38,12 @@ impl Model for NetworkSlot {
 
     ghost Value = { plain.NetworkSlot };
 
-    ghost view = { λ s. record { slot = s.slot; name = s.name; game = s.game } };
+    ghost view = { λ s. record {
+      slot = s.slot;
+      name = s.name;
+      game = s.game;
+      members = s.members;
+    } };
 }
 
 /// What a session is told once it is connected.
@@ -52,7 +59,7 @@ pub struct Connected {
     pub missing_locations: List<i64>,
     /// The slot's locations that are checked, by id.
     pub checked_locations: List<i64>,
-    /// The slots, by number.
+    /// The slots and then the groups, by number.
     pub slot_info: List<NetworkSlot>,
     /// What the slot's checked locations are worth.
     pub hint_points: u64,

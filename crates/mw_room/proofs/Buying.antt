@@ -3,8 +3,7 @@ use Rattle.std.proofs.Common.{◌≡◌, ℕ, ℤ, ◌&&◌, true, false, not, c
 use Rattle.std.specs.Option.{unwrap_or}
 use Rattle.std.proofs.lemmas.Bool.{and_parts}
 use Rattle.std.specs.Ordering.{int_eq}
-use Rattle.mw_model.specs.Seed.{Seed, Held}
-use Rattle.mw_protocol.specs.Checks.{is_owner}
+use Rattle.mw_model.specs.Seed.{Seed, Held, is_owner}
 use Rattle.mw_protocol.specs.HintList.{hint_at}
 use Rattle.mw_protocol.specs.Hints.{Answer, bought, no_such_name, nothing_to_hint, too_dear, Wanted, item_wanted, location_wanted, bought_for, bought_hint, first_if, first_where, held_named, is_open, item_bought, item_named, location_bought, location_named, paid}
 use Rattle.mw_protocol.specs.Records.{Hint}

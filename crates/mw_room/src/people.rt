@@ -1,6 +1,9 @@
-ghost use Rattle.std.specs.Prelude.{◌≡◌, ◌≤◌, ◌++◌, IfOk, OnOk, length, map, filter, not};
+ghost use Rattle.std.specs.Prelude.{◌≡◌, ◌≤◌, ◌+◌, ◌++◌, IfOk, OnOk, length, map, filter, not};
 ghost use Rattle.mw_model.specs.Games.{checksum_of};
-ghost use Rattle.mw_protocol.specs.Players.{games_played as games_played_lem, room_info_of, connected_of, name_in as name_in_lem, team_players, players_of as players_of_lem, slot_infos as slot_infos_lem};
+ghost use Rattle.mw_protocol.specs.Players.{games_played as games_played_lem, room_info_of};
+ghost use Rattle.mw_protocol.specs.Players.{connected_of, group_infos, slot_infos};
+ghost use Rattle.mw_protocol.specs.Players.{name_in as name_in_lem, team_players};
+ghost use Rattle.mw_protocol.specs.Players.{players_of as players_of_lem};
 ghost use Rattle.mw_protocol.specs.Standing.{is_checked};
 ghost use Rattle.mw_effects.specs.Parts.{standing_of};
 ghost use Rattle.mw_effects.specs.Playable.{IsPlayable};
@@ -8,7 +11,7 @@ ghost use Rattle.mw_effects.specs.Playable.{IsPlayable};
 use mw_base::{List, Memory, SlotId, TeamId, Text};
 use mw_datapack::{checksum_of_game, is_played};
 use mw_effects::{Member, Standing, playable};
-use mw_multidata::{Game, Held, Multidata, Slot};
+use mw_multidata::{Game, Group, Held, Multidata, Slot};
 use mw_owed::points_of;
 use mw_packets_out::{Connected, GameSum, NetworkPlayer, NetworkSlot, RoomInfo};
 use std::alloc::Global;
@@ -124,12 +127,16 @@ fn players_of(alloc: Global, teams: u8, slots: &[Slot]) -> Result<List<NetworkPl
     Ok(found)
 }
 
-/// The slots with their names in a team.
-fn slot_infos(alloc: Global, team: u8, slots: &[Slot]) -> Result<List<NetworkSlot>, Memory>
+/// Adds the slots with their names in a team.
+fn add_slots(
+    alloc: Global,
+    found: &mut List<NetworkSlot>,
+    team: u8,
+    slots: &[Slot],
+) -> Result<(), Memory>
     requires { length slots.now ≤ 1024 }
-    ensures { IfOk result (λ ss. ss ≡ slot_infos_lem team 1 slots.now) }
+    ensures { OnOk result (found.new ≡ found.old ++ slot_infos team 1 slots.now) }
 {
-    let mut found = List::new(alloc);
     for (before, slot) in slots.iter().enumerate() {
         let name = Text::of(alloc, name_in(slot, team))?;
         let game = Text::of(alloc, slot.game.as_str())?;
@@ -137,8 +144,57 @@ fn slot_infos(alloc: Global, team: u8, slots: &[Slot]) -> Result<List<NetworkSlo
             slot: SlotId::new(before as u16 + 1).unwrap(),
             name,
             game,
+            members: List::new(alloc),
         })?;
     }
+    Ok(())
+}
+
+/// A copy of a group's members.
+fn copied_members(alloc: Global, members: &[SlotId]) -> Result<List<SlotId>, Memory>
+    ensures { IfOk result (λ ms. ms ≡ members.now) }
+{
+    let mut copies = List::new(alloc);
+    for member in members {
+        copies.push(*member)?;
+    }
+    Ok(copies)
+}
+
+/// Adds the groups, which are numbered on from so many slots.
+fn add_groups(
+    alloc: Global,
+    found: &mut List<NetworkSlot>,
+    slots: usize,
+    groups: &[Group],
+) -> Result<(), Memory>
+    requires { slots + length groups.now ≤ 1024 }
+    ensures { OnOk result (found.new ≡ found.old ++ group_infos (slots + 1) groups.now) }
+{
+    for (before, group) in groups.iter().enumerate() {
+        let name = Text::of(alloc, group.name.as_str())?;
+        let game = Text::of(alloc, group.game.as_str())?;
+        let members = copied_members(alloc, group.members.as_slice())?;
+        found.push(NetworkSlot {
+            slot: SlotId::new((slots + before) as u16 + 1).unwrap(),
+            name,
+            game,
+            members,
+        })?;
+    }
+    Ok(())
+}
+
+/// The slots with their names in a team, and then the groups.
+fn infos_of(alloc: Global, team: u8, seed: &Multidata) -> Result<List<NetworkSlot>, Memory>
+    requires { IsPlayable seed.now }
+    ensures { IfOk result (λ ss. ss ≡ slot_infos team 1 seed.now.slots
+        ++ group_infos (length seed.now.slots + 1) seed.now.groups) }
+{
+    let slots = seed.slots.as_slice();
+    let mut found = List::new(alloc);
+    add_slots(alloc, &mut found, team, slots)?;
+    add_groups(alloc, &mut found, slots.len(), seed.groups.as_slice())?;
     Ok(found)
 }
 
@@ -196,7 +252,7 @@ pub fn connected(alloc: Global, standing: &Standing, member: &Member) -> Result<
     let players = players_of(alloc, seed.teams, slots);
     let missing = missing_locations(alloc, locations, standing, member);
     let checked = checked_locations(alloc, locations, standing, member);
-    let infos = slot_infos(alloc, member.team.get(), slots);
+    let infos = infos_of(alloc, member.team.get(), seed);
     let hint_points = points_of(standing, member);
     match (players, missing, checked, infos) {
         (Ok(players), Ok(missing_locations), Ok(checked_locations), Ok(slot_info)) => Ok(

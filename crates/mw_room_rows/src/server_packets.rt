@@ -65,29 +65,36 @@ fn players(alloc: Global) -> Result<List<NetworkPlayer>, Fail> {
     Ok(players)
 }
 
-/// Adds a slot of the game.
+/// Adds a slot of the game, or a group of these members.
 fn push_slot(
     alloc: Global,
     slots: &mut List<NetworkSlot>,
     slot: SlotId,
     name: &str,
+    members: &[SlotId],
 ) -> Result<(), Fail> {
     let (name, game) = (Text::of(alloc, name)?, Text::of(alloc, "G")?);
-    Ok(slots.push(NetworkSlot { slot, name, game })?)
+    Ok(slots.push(NetworkSlot {
+        slot,
+        name,
+        game,
+        members: list_of(alloc, members)?,
+    })?)
 }
 
-/// The slots, and a tenth one where it plays.
-fn slots(alloc: Global, has_tenth: bool) -> Result<List<NetworkSlot>, Fail> {
+/// The slots, and a group of both where there is one, with number 10.
+fn slots(alloc: Global, has_group: bool) -> Result<List<NetworkSlot>, Fail> {
     let mut slots = List::new(alloc);
-    push_slot(alloc, &mut slots, ann(), "Ann")?;
-    push_slot(alloc, &mut slots, bob(), "Bob")?;
-    if has_tenth {
-        push_slot(alloc, &mut slots, SlotId::new(10).unwrap(), "Cy")?;
+    push_slot(alloc, &mut slots, ann(), "Ann", &[])?;
+    push_slot(alloc, &mut slots, bob(), "Bob", &[])?;
+    if has_group {
+        let ten = SlotId::new(10).unwrap();
+        push_slot(alloc, &mut slots, ten, "Duo", &[ann(), bob()])?;
     }
     Ok(slots)
 }
 
-fn connected(alloc: Global, has_tenth: bool) -> Result<ServerPacket, Fail> {
+fn connected(alloc: Global, has_group: bool) -> Result<ServerPacket, Fail> {
     let missing_locations = list_of(alloc, &[101, 102])?;
     let players = players(alloc)?;
     Ok(ServerPacket::Connected(Connected {
@@ -96,7 +103,7 @@ fn connected(alloc: Global, has_tenth: bool) -> Result<ServerPacket, Fail> {
         players,
         missing_locations,
         checked_locations: List::new(alloc),
-        slot_info: slots(alloc, has_tenth)?,
+        slot_info: slots(alloc, has_group)?,
         hint_points: 0,
     }))
 }
@@ -191,7 +198,7 @@ fn packet(alloc: Global, name: &str) -> Result<ServerPacket, Fail> {
     match name {
         "room" => Ok(ServerPacket::RoomInfo(room_info(alloc)?)),
         "connected" => connected(alloc, false),
-        "tenth" => connected(alloc, true),
+        "group" => connected(alloc, true),
         "items" => Ok(ServerPacket::ReceivedItems {
             index: 0,
             items: list_of(alloc, &[BOOTS])?,
@@ -253,17 +260,21 @@ fn a_location_is_checked(rt: HostRuntime) -> Result<(), Fail> {
     each::<Messages>(rt.alloc(), UPDATE)
 }
 
-/// Whether the tenth slot stands between the first and the second.
+/// A group and its members.
+const GROUP: &str =
+    r#""10":{"class":"NetworkSlot","game":"G","group_members":[1,2],"name":"Duo","type":2}"#;
+
+/// Whether the group stands between the first slot and the second.
 fn is_in_byte_order(text: &str) -> bool {
     let first = text.find(r#""1":{"#);
-    let tenth = text.find(r#""10":{"#);
+    let group = text.find(GROUP);
     let second = text.find(r#""2":{"#);
-    first < tenth && tenth < second
+    first < group && group < second
 }
 
 #[test]
-fn slots_stand_in_byte_order(rt: HostRuntime) -> Result<(), Fail> {
-    let text = message(rt.alloc(), "tenth")?;
+fn slots_and_groups_stand_in_byte_order(rt: HostRuntime) -> Result<(), Fail> {
+    let text = message(rt.alloc(), "group")?;
     fine(&[(text.as_str(), is_in_byte_order(text.as_str()))])
 }
 

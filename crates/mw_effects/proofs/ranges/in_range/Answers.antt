@@ -9,6 +9,7 @@ in_range : (seed : Seed) → IsSeed seed → IsPlayable seed
 in_range seed h = record {
   few_teams = h.few_teams;
   few_slots = h.slots.few;
+  few_receivers = h.groups.few;
   few_names = All-weaker (SlotKept seed.teams seed.games) HasFewNames (λ s k. omega (arith, k.count, h.few_teams)) seed.slots h.slots.each;
 }
 

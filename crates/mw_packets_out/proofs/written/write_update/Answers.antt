@@ -1,4 +1,4 @@
-use Rattle.std.proofs.Common.{◌≡◌, ◌++◌, ◌∷◌, [], codes, decimal, map}
+use Rattle.std.proofs.Common.{◌∷◌, [], codes, decimal, map}
 use Rattle.json.specs.Token.{begin_array, begin_object, end_object, key}
 use Rattle.json.specs.Token.{number as number_token}
 use Rattle.json.specs.Token.{string as string_token}

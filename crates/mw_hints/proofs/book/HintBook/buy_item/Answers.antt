@@ -1,16 +1,17 @@
 use Rattle.std.proofs.Common.{◌≡◌, ◌&&◌, ℤ, pos, ◌≤ℤ◌, ◌<ℤ◌, ◌^◌, Option, Some, sym, ap, ◌∙◌, subst, arith, to_z, of_z, w64, to_z-of_z}
 use Rattle.std.specs.Ordering.{int_eq}
 use Rattle.std.specs.Option.{option_copied}
-use Rattle.mw_model.specs.Seed.{Seed, Held}
+use Rattle.mw_model.specs.Seed.{Seed, Held, is_owner}
 use Rattle.mw_protocol.specs.Hints.{first_where, is_open, item_bought, item_named, paid}
-use Rattle.mw_protocol.specs.Checks.{is_owner}
 use Rattle.mw_multidata.specs.SeedKept.{IsId}
 use Rattle.mw_hints.proofs.Numbers.{item_id}
 use Rattle.mw_protocol.specs.Standing.{cost, points_left}
 use Rattle.mw_hints.specs.Answering.{IsAnswer}
+use Rattle.mw_hints.specs.Opening.{opens}
 use Rattle.mw_hints.proofs.book.HintBook.buy_item.Goals as goal
 
 pub returns-in-Some : goal.returns-in-Some
+unfolding opens
 returns-in-Some g c =
     let seed = g.C.Checks.seed c.args.log.now in
     let team = c.args.team in
