@@ -1,7 +1,7 @@
 -- A client's list stays a front of what its slot received, over sessions and lives.
 use Rattle.std.proofs.Common.{◌≡◌, inr, ◌+◌, ℕ, Bool, true, false, List, [], ◌∷◌, ◌++◌, Option, Some, None, length, take, drop, refl, sym, ap, subst, ◌∙◌, arith, append_assoc, true≢false, cond, ◌||◌, ◌==◌}
-use Rattle.std.specs.Prelude.{IsFalse}
-use Rattle.std.specs.List.{list_any}
+use Rattle.std.specs.Prelude.{IsFalse, IsTrue}
+use Rattle.std.specs.List.{list_all, list_any}
 use Rattle.mw_model.specs.Items.{NetItem}
 use Rattle.mw_model.specs.Seed.{Seed}
 use Rattle.mw_protocol.specs.Asked.{view}
@@ -10,9 +10,10 @@ use Rattle.mw_protocol.specs.Lives.{Step, life_after_all}
 use Rattle.mw_protocol.specs.Messages.{ServerPacket, room_info, connected, received_items, room_update, connection_refused, location_info, data_package, invalid_packet, print, retrieved, set_reply, bounced}
 use Rattle.mw_protocol.specs.Rooms.{Message, Session, member_in, session_in}
 use Rattle.mw_laws.specs.Applied.{Client, ClientsApply, IsFrontOf, IsHeard, MaskSince, applied_messages, applied_packets, has_items, having, owed_before, owed_of, owed_since}
-use Rattle.mw_laws.specs.Kept.{journal_after}
+use Rattle.mw_laws.specs.Kept.{is_call, journal_after}
 use Rattle.mw_laws.specs.Views.{is_received_items}
 use Rattle.mw_client.specs.Lives.{AreHearings, Hearing, IsHearing, ListsStayFronts, client_of, messages_of, run_after, run_before, run_of}
+use Rattle.mw_client.proofs.Finding.{none_some}
 
 -- ---- messages without items
 
@@ -52,56 +53,89 @@ no_member : (ss : List Session) (number : ℕ) → session_in ss number ≡ None
 no_member [] number none = refl
 no_member (s ∷ ss) number none = by_number (s.number == number) s (session_in ss number) (member_in ss number) none (no_member ss number)
 
-module _ (laws : ClientsApply) (seed : Seed) (team slot : ℕ) where
-  -- a client never asked, and its list is a front of the view by the journal of each later point
-  abbrev Stays : List Step → Client → Type 0
-  Stays steps c = (more : List Step) → IsFrontOf (view seed 7 team slot (journal_after seed (steps ++ more))) c
+-- the session of a number isn't open at a point, and then calls come, after each of which it has mask 7 if it plays a slot
+pub record Since (seed : Seed) (start back : List Step) (number : ℕ) : Type 0 where
+  pub unopened : session_in (life_after_all seed start).room.sessions number ≡ None
+  pub calls : IsTrue (list_all is_call back)
+  pub masks : (first : List Step) (s : Step) (rest : List Step) (m : Member) → back ≡ first ++ s ∷ rest → member_in (life_after_all seed (start ++ first ++ s ∷ [])).room.sessions number ≡ Some m → m.mask ≡ 7
 
-  never : (c : Client) → IsFalse c.asks → c ≡ having c.list
+-- it was found then, and plays this slot with mask 7
+pub record IsOf (seed : Seed) (steps : List Step) (team slot number : ℕ) (s : Session) : Type 0 where
+  pub found : session_in (life_after_all seed steps).room.sessions number ≡ Some s
+  pub member : Member
+  pub plays : s.member ≡ Some member
+  pub own_team : member.team ≡ team
+  pub own_slot : member.slot ≡ slot
+  pub mask : member.mask ≡ 7
+
+module _ (laws : ClientsApply) (seed : Seed) (team slot : ℕ) where
+  abbrev ViewAt : List Step → Client → Type 0
+  ViewAt steps c = IsFrontOf (view seed 7 team slot (journal_after seed steps)) c
+
+  -- a client never asked, and its list is a front of the view by the journal of each later point
+  abbrev pub Stays : List Step → Client → Type 0
+  Stays steps c = (more : List Step) → ViewAt (steps ++ more) c
+
+  pub stay_on : (steps then : List Step) (c : Client) → Stays steps c → Stays (steps ++ then) c
+  stay_on steps then c stays = λ more. subst (λ run. ViewAt run c) (sym (append_assoc steps then more)) (stays (then ++ more))
+
+  pub never : (c : Client) → IsFalse c.asks → c ≡ having c.list
   never c none = ap (λ (b : Bool). record { list = c.list; asks = b }) none
 
-  -- the first ReceivedItems of a session replaces the list
-  told : (steps : List Step) (h : Hearing) (list : List NetItem) → IsHearing seed team slot steps h → has_items (messages_of seed steps h) ≡ true → Stays (run_after steps h) (applied_messages (having list) (messages_of seed steps h))
-  told steps h list is has = λ more.
-      let front = run_before steps h in
-      let before : owed_before seed front h.number ≡ 0 = ap (λ (s : Option Session). length (owed_of s)) is.unopened in
-      let owed : owed_since seed front h.number is.session ≡ owed_of (session_in (life_after_all seed (run_after steps h)).room.sessions h.number) =
-      ap (λ (n : ℕ). drop n is.session.owed) before ∙ ap owed_of (sym is.found) in
-      let ms : take h.count (owed_since seed front h.number is.session) ≡ messages_of seed steps h = ap (take h.count) owed in
-      let since : MaskSince seed front h.life h.number is.member.mask = record {
-        calls = is.calls;
-        other = λ m found same. absurd (none_is_some m (sym (no_member (life_after_all seed front).room.sessions h.number is.unopened) ∙ found));
-        since = λ first s rest m split found. is.since first s rest m split found ∙ sym is.mask;
-      } in
-      let heard : IsHeard is.session (owed_before seed front h.number + h.count) more = inr (omega (arith, before, is.taken)) in
-      let fronts = laws.changed seed front h.life h.number is.session is.member is.found is.plays since list h.count more heard (ap has_items ms ∙ has) in
-      subst (λ (l : List Message). IsFrontOf (view seed 7 team slot (journal_after seed (run_after steps h ++ more))) (applied_messages (having list) l)) ms
-      (subst (λ (n : ℕ). IsFrontOf (view seed 7 team n (journal_after seed (run_after steps h ++ more))) (applied_messages (having list) (take h.count (owed_since seed front h.number is.session)))) is.own_slot
-      (subst (λ (n : ℕ). IsFrontOf (view seed 7 n is.member.slot (journal_after seed (run_after steps h ++ more))) (applied_messages (having list) (take h.count (owed_since seed front h.number is.session)))) is.own_team
-      (subst (λ (n : ℕ). IsFrontOf (view seed n is.member.team is.member.slot (journal_after seed (run_after steps h ++ more))) (applied_messages (having list) (take h.count (owed_since seed front h.number is.session)))) is.mask fronts)))
-    where
-      none_is_some : (m : Member) → None ≡ Some m → ⊥
-      none_is_some m e = absurd cc
+  -- who hears so many of the messages that it was owed since it was opened
+  module _ (start back : List Step) (number : ℕ) (since : Since seed start back number) (s : Session) (is : IsOf seed (start ++ back) team slot number s) (count : ℕ) (more : List Step) (heard : IsHeard s count more) where
+    -- the first ReceivedItems replaces any list
+    told : (list : List NetItem) → has_items (take count s.owed) ≡ true → ViewAt (start ++ back ++ more) (applied_messages (having list) (take count s.owed))
+    told list has =
+        let before : owed_before seed start number ≡ 0 = ap (λ (o : Option Session). length (owed_of o)) since.unopened in
+        let ms : take count (owed_since seed start number s) ≡ take count s.owed = ap (λ (n : ℕ). take count (drop n s.owed)) before in
+        let masked : MaskSince seed start back number is.member.mask = record {
+          calls = since.calls;
+          other = λ m found same. absurd (none_some m (sym (no_member (life_after_all seed start).room.sessions number since.unopened) ∙ found));
+          since = λ first t rest m split found. since.masks first t rest m split found ∙ sym is.mask;
+        } in
+        let all : owed_before seed start number + count ≡ count = omega (arith, before) in
+        let later : IsHeard s (owed_before seed start number + count) more = subst (λ (n : ℕ). IsHeard s n more) (sym all) heard in
+        let fronts = laws.changed seed start back number s is.member is.found is.plays masked list count more later (ap has_items ms ∙ has) in
+        let journal = journal_after seed (start ++ back ++ more) in
+        subst (λ (l : List Message). ViewAt (start ++ back ++ more) (applied_messages (having list) l)) ms
+        (subst (λ (n : ℕ). IsFrontOf (view seed 7 team n journal) (applied_messages (having list) (take count (owed_since seed start number s)))) is.own_slot
+        (subst (λ (n : ℕ). IsFrontOf (view seed 7 n is.member.slot journal) (applied_messages (having list) (take count (owed_since seed start number s)))) is.own_team
+        (subst (λ (n : ℕ). IsFrontOf (view seed n is.member.team is.member.slot journal) (applied_messages (having list) (take count (owed_since seed start number s)))) is.mask fronts)))
 
-  -- else it stays
-  untold : (steps : List Step) (h : Hearing) (c : Client) → Stays steps c → has_items (messages_of seed steps h) ≡ false → Stays (run_after steps h) (applied_messages c (messages_of seed steps h))
-  untold steps h c stays none = λ more.
-      let run : steps ++ (h.waits ++ (h.life ++ more)) ≡ run_after steps h ++ more =
-      sym (append_assoc steps h.waits (h.life ++ more)) ∙ sym (append_assoc (steps ++ h.waits) h.life more) in
-      subst (λ (d : Client). IsFrontOf (view seed 7 team slot (journal_after seed (run_after steps h ++ more))) d) (sym (quiet_messages c (messages_of seed steps h) none))
-      (subst (λ (r : List Step). IsFrontOf (view seed 7 team slot (journal_after seed r)) c) run (stays (h.waits ++ (h.life ++ more))))
+    by_items : (list : List NetItem) → Stays start (having list) → (b : Bool) → has_items (take count s.owed) ≡ b → ViewAt (start ++ back ++ more) (applied_messages (having list) (take count s.owed))
+    by_items list stays true has = told list has
+    by_items list stays false none =
+        subst (ViewAt (start ++ back ++ more)) (sym (quiet_messages (having list) (take count s.owed) none)) (stay_on start back (having list) stays more)
 
-  hears : (steps : List Step) (h : Hearing) (c : Client) → Stays steps c → IsHearing seed team slot steps h → (b : Bool) → has_items (messages_of seed steps h) ≡ b → Stays (run_after steps h) (applied_messages c (messages_of seed steps h))
-  hears steps h c stays is true has =
-      let asks : IsFalse c.asks = (stays []).asks in
-      subst (λ (d : Client). Stays (run_after steps h) (applied_messages d (messages_of seed steps h))) (sym (never c asks)) (told steps h c.list is has)
-  hears steps h c stays is false has = untold steps h c stays has
+    -- has a front of the view, as it had before
+    pub front_heard : (list : List NetItem) → Stays start (having list) → ViewAt (start ++ back ++ more) (applied_messages (having list) (take count s.owed))
+    front_heard list stays = by_items list stays (has_items (take count s.owed)) refl
+
+  -- ---- over sessions
+
+  pub since_opened : (steps : List Step) (h : Hearing) → IsHearing seed team slot steps h → Since seed (run_before steps h) h.life h.number
+  since_opened steps h is = record { unopened = is.unopened; calls = is.calls; masks = is.since }
+
+  pub heard_of : (steps : List Step) (h : Hearing) (is : IsHearing seed team slot steps h) → messages_of seed steps h ≡ take h.count is.session.owed
+  heard_of steps h is = ap (λ (o : Option Session). take h.count (owed_of o)) is.found
+
+  pub hears : (steps : List Step) (h : Hearing) (c : Client) → Stays steps c → IsHearing seed team slot steps h → Stays (run_after steps h) (applied_messages c (messages_of seed steps h))
+  hears steps h c stays is =
+      let same : c ≡ having c.list = never c (stays []).asks in
+      let own : IsOf seed (run_after steps h) team slot h.number is.session = record { found = is.found; member = is.member; plays = is.plays; own_team = is.own_team; own_slot = is.own_slot; mask = is.mask } in
+      let before : Stays (run_before steps h) (having c.list) = stay_on steps h.waits (having c.list) (subst (Stays steps) same stays) in
+      subst (λ (d : Client). Stays (run_after steps h) (applied_messages d (messages_of seed steps h))) (sym same)
+      (subst (λ (ms : List Message). Stays (run_after steps h) (applied_messages (having c.list) ms)) (sym (heard_of steps h is))
+      (λ more. front_heard (run_before steps h) h.life h.number (since_opened steps h is) is.session own h.count more (inr is.taken) c.list before))
 
   hear_all : (steps : List Step) (c : Client) (hs : List Hearing) → Stays steps c → AreHearings seed team slot steps hs → Stays (run_of steps hs) (client_of seed steps c hs)
   hear_all steps c [] stays are = stays
-  hear_all steps c (h ∷ hs) stays are =
-      hear_all (run_after steps h) (applied_messages c (messages_of seed steps h)) hs (hears steps h c stays are.0 (has_items (messages_of seed steps h)) refl) are.1
+  hear_all steps c (h ∷ hs) stays are = hear_all (run_after steps h) (applied_messages c (messages_of seed steps h)) hs (hears steps h c stays are.0) are.1
+
+  -- who has no list has a front
+  pub first_stays : Stays [] (having [])
+  first_stays more = record { asks = refl; front = (view seed 7 team slot (journal_after seed more), refl) }
 
 pub lists_stay_fronts : ClientsApply → ListsStayFronts
-lists_stay_fronts laws seed team slot hearings are =
-    hear_all laws seed team slot [] (having []) hearings (λ more. record { asks = refl; front = (view seed 7 team slot (journal_after seed more), refl) }) are
+lists_stay_fronts laws seed team slot hearings are = hear_all laws seed team slot [] (having []) hearings (first_stays laws seed team slot) are

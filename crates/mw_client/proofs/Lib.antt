@@ -1,7 +1,10 @@
 pub mod Entered
 pub mod Few
+pub mod Finding
 pub mod Fronts
 pub mod Growing
 pub mod Leading
+pub mod Rising
+pub mod Slots
 pub mod Spelling
 pub mod Stepping

@@ -1,13 +1,15 @@
 -- What a client has in its list that hears one session of its slot after another, over the lives
 -- of a room.
-use Rattle.std.specs.Prelude.{◌≡◌, ◌≤◌, ℕ, ◌++◌, ◌∷◌, [], List, Some, None, IsTrue, take}
+use Rattle.std.specs.Prelude.{◌≡◌, ◌≤◌, ℕ, ◌++◌, ◌∷◌, [], List, Some, None, IsTrue, AllPairs, take}
 use Rattle.std.specs.List.{list_all}
+use mathlib.Core.List.{IsPrefix}
+use Rattle.mw_model.specs.Items.{NetItem}
 use Rattle.mw_model.specs.Seed.{Seed}
 use Rattle.mw_protocol.specs.Asked.{view}
 use Rattle.mw_protocol.specs.Connecting.{Member}
 use Rattle.mw_protocol.specs.Lives.{Step, life_after_all}
 use Rattle.mw_protocol.specs.Rooms.{Message, Session, member_in, session_in}
-use Rattle.mw_laws.specs.Applied.{Client, IsFrontOf, applied_messages, having, owed_of}
+use Rattle.mw_laws.specs.Applied.{Client, IsFrontOf, applied_messages, applied_packets, having, owed_of}
 use Rattle.mw_laws.specs.Kept.{is_call, journal_after}
 
 -- a session that a client hears: what happens before it is opened, crashes too; what then happens
@@ -77,3 +79,24 @@ ListsStayFronts = (seed : Seed) (team slot : ℕ) (hearings : List Hearing)
     → AreHearings seed team slot [] hearings → (more : List Step)
     → IsFrontOf (view seed 7 team slot (journal_after seed (run_of [] hearings ++ more)))
     (client_of seed [] (having []) hearings)
+
+-- the list that a client has after each message that it hears, in one session, and in one session
+-- after another
+abbrev pub lists_heard : Client → List Message → List (List NetItem)
+lists_heard c [] = []
+lists_heard c (m ∷ ms) =
+    (applied_packets c m.packets).list ∷ lists_heard (applied_packets c m.packets) ms
+
+abbrev pub lists_of : Seed → List Step → Client → List Hearing → List (List NetItem)
+lists_of seed steps c [] = []
+lists_of seed steps c (h ∷ hs) =
+    lists_heard c (messages_of seed steps h)
+    ++ lists_of seed (run_after steps h) (applied_messages c (messages_of seed steps h)) hs
+
+-- of two points at which such a client has heard a message, be they in one session or in two, in
+-- one life of the room or in two, its list at the earlier one is a front of that at the later one:
+-- it never gets shorter, and keeps each item that it has at its place
+abbrev pub ListsOnlyGrow : Type 0
+ListsOnlyGrow = (seed : Seed) (team slot : ℕ) (hearings : List Hearing)
+    → AreHearings seed team slot [] hearings
+    → AllPairs IsPrefix (lists_of seed [] (having []) hearings)

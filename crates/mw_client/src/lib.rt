@@ -20,7 +20,7 @@ pub use answer::Answer;
 pub use client::Client;
 pub use error::SavedError;
 pub use hearing::news_in;
-pub use laws::lists_stay_fronts;
+pub use laws::{lists_only_grow, lists_stay_fronts};
 pub use news::{News, Received};
 pub use play::{Play, Turn};
 pub use saved::saved_list;

@@ -6,4 +6,6 @@ mod client;
 #[cfg(test)]
 mod faults;
 #[cfg(test)]
+mod loopback;
+#[cfg(test)]
 mod served;
