@@ -179,7 +179,7 @@ fn served_last<R: Threads + Wait + Sync>(
     let worker = served.get(0).ok_or("no worker")?;
     let entry = worker.get(0).ok_or("no link")?;
     let last = entry.line.sent().last().ok_or("nothing sent")?;
-    Ok(last.copy(alloc)?)
+    Ok(Text::of(alloc, last.as_str())?)
 }
 
 /// What Ann's check is answered.
