@@ -1,25 +1,25 @@
 -- The asks of a fill, half by half.
 use Rattle.std.proofs.Common.{◌≡◌, ℕ, zero, suc, ◌+◌, ◌-◌, ◌*◌, ◌^◌, ◌≤◌, Bool, false, List, [], ◌∷◌, ◌++◌, All, length, map, take, drop, refl, sym, ap, subst, ◌∙◌, inl, inr, arith, append-nil, take-append-drop}
-use Rattle.std.specs.Prelude.{Result, Ok, Err, IsErrAnd, sum_by}
+use Rattle.std.specs.Prelude.{Result, Ok, Err, IsErrAnd, flat_map, sum_by}
 use Rattle.std.proofs.Math.Nat.{add-mul, mul-add, mul-div-le}
 use Rattle.std.proofs.lemmas.Bool.{cases_Bool}
-use Rattle.std.proofs.lemmas.List.{drop-drop, drop-map, drop-take, ext_get_or, length-map, length-take, take-map, take-take, take_all}
+use Rattle.std.proofs.lemmas.List.{drop-drop, drop-map, drop-take, ext_get_or, length-drop, length-take, take-take, take_all}
+use Rattle.std.proofs.lemmas.List.Concat.{flat_map-append}
 use Rattle.std.proofs.lemmas.List.Sums.{sum_by-append, sum_by-cons}
 use Rattle.mw_rules.specs.Holds.{Places, places_of}
-use Rattle.mw_multi.specs.Joint.{Joint, place_total}
-use Rattle.mw_multi.specs.Placement.{Put, IsPlaced}
+use Rattle.mw_multi.specs.Joint.{Slot, Joint, place_total}
+use Rattle.mw_multi.specs.Placement.{Put, put_numbers, IsPlaced}
 use Rattle.mw_multi.specs.Events.{events_of}
 use Rattle.mw_multi.specs.Steps.{Step, steps_of}
 use Rattle.mw_reach.specs.Reach.{Placed, IsLeast, one_if}
 use Rattle.mw_reach.specs.Bound.{asks_allowed, asks_naming, asks_at, new_in, items_named, names_item_at}
 use Rattle.mw_reach.specs.Reached.{IsMadeFor, flags_in, places_in}
 use Rattle.mw_reach.specs.declared.reached.Reached.{Reached}
-use Rattle.mw_fill.specs.Copies.{ItemCopy}
+use Rattle.mw_fill.specs.Copies.{ItemCopy, copy_numbers, all_numbers}
 use Rattle.mw_fill.specs.Openings.{Opening}
-use Rattle.mw_fill.specs.Fill.{in_hand, is_reached, FillRun}
+use Rattle.mw_fill.specs.Fill.{in_hand}
 use Rattle.mw_fill.specs.Asks.{AreRun, AreLists, half_way, asks_of_levels, FindsNone, EndsWith, AnswersAt, AsksWhere, AsksWithin}
-use Rattle.mw_fill.specs.Laying.{copy_number, laid_put, laid_number, puts_of, numbers_found, numbers_between, IsLaid, RunsOn, asks_more, asks_of_range, RangeWithin}
-use Rattle.mw_fill.specs.declared.laid.Laid.{Laid}
+use Rattle.mw_fill.specs.Laying.{numbers_found, numbers_between, AreFirst, IsLaid, RunsOn, asks_more, asks_of_range, RangeWithin}
 use Rattle.mw_fill.specs.Answer.{OnStuck}
 use Rattle.mw_fill.specs.declared.error.FillError.{FillError}
 use Rattle.mw_fill.specs.declared.error.FillError.TheVariants.{Stuck, Memory}
@@ -31,27 +31,52 @@ use Rattle.mw_fill.proofs.Existing.{tables_of, lists_of, there_are_lists}
 -- ---- what was put
 
 -- the first puts are those of the copies that were put first
-pub front_puts : (front later : List Laid) (puts : List Put) → take (length front) later ≡ front → take (length later) puts ≡ puts_of later → take (length front) puts ≡ puts_of front
+pub front_puts : (front later : List Put) (puts : List Put) → take (length front) later ≡ front → take (length later) puts ≡ later → take (length front) puts ≡ front
 front_puts front later puts same all =
     let short : length front ≤ length later = omega (arith, ap length same, length-take (length front) later) in
-    sym (take-take (length front) (length later) puts short) ∙ ap (take (length front)) all ∙ take-map laid_put (length front) later ∙ ap (map laid_put) same
+    sym (take-take (length front) (length later) puts short) ∙ ap (take (length front)) all ∙ same
 
--- the numbers of the copies of a half that were put
-pub half_numbers : (copies : List ItemCopy) (laid : List Laid) (from middle : ℕ) → from ≤ middle → length laid ≡ middle → map laid_number laid ≡ take (length laid) (map copy_number copies) → map laid_number (drop from laid) ≡ numbers_between copies from middle
-half_numbers copies laid from middle h is numbers =
-    let sum : middle ≡ from + (middle - from) = omega arith in
-    sym (drop-map laid_number from laid) ∙ ap (drop from) (numbers ∙ ap (λ k. take k (map copy_number copies)) (is ∙ sum)) ∙ drop-take from (middle - from) (map copy_number copies)
+-- the numbers of the copies that were put from one on
+pub first_since : (slots : List Slot) (copies : List ItemCopy) (laid : List Put) (from : ℕ) → from ≤ length laid → AreFirst slots copies laid
+    → map (put_numbers slots) (drop from laid) ≡ map (copy_numbers slots) (take (length laid - from) (drop from copies))
+first_since slots copies laid from h first =
+    let own = copy_numbers slots in
+    let sum : length laid ≡ from + (length laid - from) = omega arith in
+    sym (drop-map (put_numbers slots) from laid) ∙ ap (drop from) (first ∙ ap (λ k. map own (take k copies)) sum) ∙ drop-map own from (take (from + (length laid - from)) copies)
+    ∙ ap (map own) (drop-take from (length laid - from) copies)
+
+pub rest_first : (slots : List Slot) (copies : List ItemCopy) (laid slice : List Put) (from : ℕ) → from ≤ length laid → slice ≡ drop from laid → AreFirst slots copies laid
+    → map (put_numbers slots) slice ≡ map (copy_numbers slots) (take (length slice) (drop from copies))
+rest_first slots copies laid slice from h is first =
+    ap (map (put_numbers slots)) is ∙ first_since slots copies laid from h first
+    ∙ ap (λ n. map (copy_numbers slots) (take n (drop from copies))) (sym (ap length is ∙ length-drop from laid))
+
+-- lists of the same numbers
+end_to_end : {X : Type 0} (f : X → List ℕ) (xs : List X) → flat_map (λ (ns : List ℕ). ns) (map f xs) ≡ flat_map f xs
+end_to_end f [] = refl
+end_to_end f (x ∷ xs) = ap (λ ns. f x ++ ns) (end_to_end f xs)
+
+joined : {X Y : Type 0} (f : X → List ℕ) (g : Y → List ℕ) (xs : List X) (ys : List Y) → map f xs ≡ map g ys → flat_map f xs ≡ flat_map g ys
+joined f g xs ys same = sym (end_to_end f xs) ∙ ap (flat_map (λ (ns : List ℕ). ns)) same ∙ end_to_end g ys
+
+pub half_numbers : (slots : List Slot) (copies : List ItemCopy) (laid : List Put) (from : ℕ) → from ≤ length laid → AreFirst slots copies laid → flat_map (put_numbers slots) (drop from laid) ≡ numbers_between slots copies from (length laid)
+half_numbers slots copies laid from h first = joined (put_numbers slots) (copy_numbers slots) (drop from laid) (take (length laid - from) (drop from copies)) (first_since slots copies laid from h first)
 
 -- ---- fewer items
 
-fewer_in_step : (step : Step) (w : Places) (laid : List Laid) → items_named step (numbers_found w laid) ≤ items_named step (map laid_number laid)
-fewer_in_step step w [] = omega arith
-fewer_in_step step w (l ∷ laid) =
+fewer_in_step : (slots : List Slot) (step : Step) (w : Places) (laid : List Put) → items_named step (numbers_found slots w laid) ≤ items_named step (flat_map (put_numbers slots) laid)
+fewer_in_step slots step w [] = omega arith
+fewer_in_step slots step w (l ∷ laid) =
     let f : ℕ → ℕ = λ i. one_if (names_item_at step i) in
-    let all = sum_by-cons f l.number (map laid_number laid) in
-    elim (cases_Bool (w l.put.place)) [
-      | inl here ↦ rw here (omega (arith, all, sum_by-cons f l.number (numbers_found w laid), fewer_in_step step w laid))
-      | inr away ↦ rw away (omega (arith, all, fewer_in_step step w laid))
+    let own = put_numbers slots l in
+    let all : items_named step (flat_map (put_numbers slots) (l ∷ laid)) ≡ items_named step own + items_named step (flat_map (put_numbers slots) laid) = sum_by-append f own (flat_map (put_numbers slots) laid) in
+    elim (cases_Bool (w l.place)) [
+      | inl here ↦
+          let more : items_named step (numbers_found slots w (l ∷ laid)) ≡ items_named step own + items_named step (numbers_found slots w laid) = rw here (sum_by-append f own (numbers_found slots w laid)) in
+          omega (arith, all, more, fewer_in_step slots step w laid)
+      | inr away ↦
+          let still : items_named step (numbers_found slots w (l ∷ laid)) ≡ items_named step (numbers_found slots w laid) = rw away refl in
+          omega (arith, all, still, fewer_in_step slots step w laid)
     ]
 
 sums_less : {X : Type 0} (f g : X → ℕ) (xs : List X) → ((x : X) → f x ≤ g x) → sum_by f xs ≤ sum_by g xs
@@ -59,8 +84,8 @@ sums_less f g [] h = omega arith
 sums_less f g (x ∷ xs) h = omega (arith, sum_by-cons f x xs, sum_by-cons g x xs, h x, sums_less f g xs h)
 
 -- those that are found name no more than all
-pub fewer_named : (steps : List Step) (w : Places) (laid : List Laid) → asks_naming steps (numbers_found w laid) ≤ asks_naming steps (map laid_number laid)
-fewer_named steps w laid = sums_less (λ step. items_named step (numbers_found w laid)) (λ step. items_named step (map laid_number laid)) steps (λ step. fewer_in_step step w laid)
+pub fewer_named : (slots : List Slot) (steps : List Step) (w : Places) (laid : List Put) → asks_naming steps (numbers_found slots w laid) ≤ asks_naming steps (flat_map (put_numbers slots) laid)
+fewer_named slots steps w laid = sums_less (λ step. items_named step (numbers_found slots w laid)) (λ step. items_named step (flat_map (put_numbers slots) laid)) steps (λ step. fewer_in_step slots step w laid)
 
 -- ---- items of two halves
 
@@ -77,16 +102,19 @@ naming_append (step ∷ steps) is js =
       naming_append steps is js,
     )
 
-both_numbers : (copies : List ItemCopy) (from middle to : ℕ) → from ≤ middle → middle ≤ to → numbers_between copies from to ≡ numbers_between copies from middle ++ numbers_between copies middle to
-both_numbers copies from middle to low high =
-    let rest = drop from (map copy_number copies) in
+both_numbers : (slots : List Slot) (copies : List ItemCopy) (from middle to : ℕ) → from ≤ middle → middle ≤ to
+    → numbers_between slots copies from to ≡ numbers_between slots copies from middle ++ numbers_between slots copies middle to
+both_numbers slots copies from middle to low high =
+    let all = all_numbers slots in
+    let rest = drop from copies in
     let k = middle - from in
     let n = to - middle in
     let whole : to - from ≡ k + n = omega arith in
     let at : from + k ≡ middle = omega arith in
     let first : take k (take (k + n) rest) ≡ take k rest = take-take k (k + n) rest (omega arith) in
-    let second : drop k (take (k + n) rest) ≡ take n (drop middle (map copy_number copies)) = drop-take k n rest ∙ ap (take n) (drop-drop k from (map copy_number copies) ∙ ap (λ m. drop m (map copy_number copies)) at) in
-    ap (λ m. take m rest) whole ∙ sym (take-append-drop k (take (k + n) rest)) ∙ ap (λ ns. ns ++ drop k (take (k + n) rest)) first ∙ ap (λ ns. take k rest ++ ns) second
+    let second : drop k (take (k + n) rest) ≡ take n (drop middle copies) = drop-take k n rest ∙ ap (take n) (drop-drop k from copies ∙ ap (λ m. drop m copies) at) in
+    ap (λ m. all (take m rest)) whole ∙ ap all (sym (take-append-drop k (take (k + n) rest))) ∙ flat_map-append (copy_numbers slots) (take k (take (k + n) rest)) (drop k (take (k + n) rest))
+    ∙ ap (λ cs. all cs ++ all (drop k (take (k + n) rest))) first ∙ ap (λ cs. all (take k rest) ++ all cs) second
 
 -- ---- halves
 
@@ -130,7 +158,7 @@ module _ (joint : Joint) (copies : List ItemCopy) (puts : List Put) (tables : �
 
   module _ (from middle to : ℕ) (half : middle ≡ half_way from to) (low : from ≤ middle) (high : middle ≤ to) where
     abbrev asked_for : ℕ → ℕ → ℕ
-    asked_for k n = asks_naming (steps_of joint) (numbers_between copies k n)
+    asked_for k n = asks_naming (steps_of joint) (numbers_between joint.slots copies k n)
 
     abbrev new_there : ℕ → ℕ → ℕ
     new_there k n = asks_at (steps_of joint) (tables k) (new_in (lists from to) (lists k n))
@@ -140,7 +168,7 @@ module _ (joint : Joint) (copies : List ItemCopy) (puts : List Put) (tables : �
         ≡ (asked_for middle to + new_there from middle + asks_of_range joint copies tables lists below from middle) + (asked_for from middle + new_there middle to + asks_of_range joint copies tables lists below middle to)
     splits below =
         let naming : asked_for from to ≡ asked_for from middle + asked_for middle to =
-        ap (asks_naming (steps_of joint)) (both_numbers copies from middle to low high) ∙ naming_append (steps_of joint) (numbers_between copies from middle) (numbers_between copies middle to) in
+        ap (asks_naming (steps_of joint)) (both_numbers joint.slots copies from middle to low high) ∙ naming_append (steps_of joint) (numbers_between joint.slots copies from middle) (numbers_between joint.slots copies middle to) in
         let levels : asks_of_levels joint tables lists (suc below) from to
         ≡ new_there from middle + new_there middle to + (asks_of_levels joint tables lists below from middle + asks_of_levels joint tables lists below middle to) = rw half refl in
         omega (
@@ -167,25 +195,25 @@ module _ (joint : Joint) (copies : List ItemCopy) (puts : List Put) (tables : �
       both_counted last second = rw room.1.one_less (omega (arith, splits room.0, first room.0 room.1.first, second room.0 room.1.second))
 
 -- the list of what was put so far
-pub list_there : (joint : Joint) (copies : List ItemCopy) (puts : List Put) (laid : List Laid) (from to : ℕ) (table : Placed) (w : List Bool) → from ≡ length laid → take (length laid) puts ≡ puts_of laid
-    → IsPlaced joint.slots (events_of joint ++ puts_of laid) table → length w ≡ place_total joint.slots → IsLeast (steps_of joint) (in_hand joint (drop to copies)) table (places_of w) → IsListFor joint copies puts from to table w
+pub list_there : (joint : Joint) (copies : List ItemCopy) (puts : List Put) (laid : List Put) (from to : ℕ) (table : Placed) (w : List Bool) → from ≡ length laid → take (length laid) puts ≡ laid
+    → IsPlaced joint.slots (events_of joint ++ laid) table → length w ≡ place_total joint.slots → IsLeast (steps_of joint) (in_hand joint (drop to copies)) table (places_of w) → IsListFor joint copies puts from to table w
 list_there joint copies puts laid from to table w is same placed size least = record { table_is = rw (is, same) placed; size = size; least = least }
 
 -- ---- the whole
 
-are_run : (joint : Joint) (openings : List Opening) (copies : List ItemCopy) (laid : List Laid) → RunsOn joint openings copies laid → AreRun joint openings copies (puts_of laid)
-are_run joint openings copies laid runs = λ out rest. runs out (subst (λ k. FillRun is_reached joint openings (drop k copies) (puts_of laid) out) (length-map laid laid_put) rest)
+are_run : (joint : Joint) (openings : List Opening) (copies : List ItemCopy) (laid : List Put) → RunsOn joint openings copies laid → AreRun joint openings copies laid
+are_run joint openings copies laid runs = runs
 
 -- the asks for the first list, and then those within the whole
-pub whole_within : {X : Type 0} (joint : Joint) (openings : List Opening) (copies : List ItemCopy) (begin laid : List Laid) (table : Placed) (reached : Reached) (before begun last : ℕ) → begin ≡ [] → IsPlaced joint.slots (events_of joint ++ puts_of begin) table
+pub whole_within : {X : Type 0} (joint : Joint) (openings : List Opening) (copies : List ItemCopy) (begin laid : List Put) (table : Placed) (reached : Reached) (before begun last : ℕ) → begin ≡ [] → IsPlaced joint.slots (events_of joint ++ begin) table
     → IsMadeFor joint reached → IsLeast (steps_of joint) (in_hand joint (drop (length copies) copies)) table (places_in reached) → begun ≤ before + asks_allowed (steps_of joint) table (flags_in reached)
-    → All (IsLaid joint.slots) laid → RunsOn joint openings copies laid → RangeWithin joint copies laid (length begin) (length copies) begun last → (result : Result X FillError) → AnswersAt joint openings copies result (puts_of laid) → AsksWithin joint openings copies result before last
+    → All (IsLaid joint.slots) laid → RunsOn joint openings copies laid → RangeWithin joint copies laid (length begin) (length copies) begun last → (result : Result X FillError) → AnswersAt joint openings copies result laid → AsksWithin joint openings copies result before last
 whole_within joint openings copies begin laid table reached before begun last none placed made least first each runs within result ends =
     let events : IsPlaced joint.slots (events_of joint) table = subst (λ ps. IsPlaced joint.slots ps table) (append-nil (events_of joint)) (rw none at placed) in
     let tables = tables_of joint copies laid table reached.work made in
     let lists = lists_of joint copies laid table reached.work made in
     let are = there_are_lists joint copies laid table reached.work made events each in
-    let puts = puts_of laid in
+    let puts = laid in
     let w = flags_in reached in
     inr (
       puts,
@@ -195,14 +223,14 @@ whole_within joint openings copies begin laid table reached before begun last no
       ends,
       are,
       λ levels few.
-          let nothing : List Laid = [] in
+          let nothing : List Put = [] in
           let list = list_there joint copies puts nothing 0 (length copies) table w refl refl (rw none at placed) made.tally.done least in
           let first_list : asks_allowed (steps_of joint) table w ≡ asks_allowed (steps_of joint) (tables 0) (lists 0 (length copies)) =
           first_is joint copies puts tables lists are (length copies) table w list in
-          let all : numbers_between copies 0 (length copies) ≡ map copy_number copies = take_all (length copies - 0) (map copy_number copies) (omega (arith, length-map copies copy_number)) in
-          let same = take_all (length laid) puts (omega (arith, length-map laid laid_put)) in
+          let all : numbers_between joint.slots copies 0 (length copies) ≡ all_numbers joint.slots copies = ap (all_numbers joint.slots) (take_all (length copies - 0) copies (omega arith)) in
+          let same = take_all (length laid) laid (omega arith) in
           let rest : last ≤ begun + asks_of_range joint copies tables lists levels 0 (length copies) =
-          subst (λ (ls : List Laid). last ≤ begun + asks_of_range joint copies tables lists levels (length ls) (length copies)) none (within levels puts tables lists (omega (arith, few)) same are) in
+          subst (λ (ls : List Put). last ≤ begun + asks_of_range joint copies tables lists levels (length ls) (length copies)) none (within levels puts tables lists (omega (arith, few)) same are) in
           omega (arith, first, first_list, rest, ap (λ ns. levels * asks_naming (steps_of joint) ns) all),
     )
 
@@ -231,13 +259,13 @@ asks_passed joint openings copies e result before after h is =
     (λ puts ends. passed_on result (λ x. length puts ≡ length copies) (Ends puts) e ends is) h
 
 -- where the next copy found no location, or memory ran out
-pub ends_there : {X : Type 0} (joint : Joint) (openings : List Opening) (copies : List ItemCopy) (laid : List Laid) (e : FillError) (result : Result X FillError) → OnStuck e (λ slot item. FindsNone joint openings (drop (length laid) copies) (puts_of laid))
-    → IsErrAnd result (λ x. x ≡ e) → AnswersAt joint openings copies result (puts_of laid)
+pub ends_there : {X : Type 0} (joint : Joint) (openings : List Opening) (copies : List ItemCopy) (laid : List Put) (e : FillError) (result : Result X FillError) → OnStuck e (λ slot item. FindsNone joint openings (drop (length laid) copies) laid)
+    → IsErrAnd result (λ x. x ≡ e) → AnswersAt joint openings copies result laid
 ends_there joint openings copies laid e result none is =
-    let there : OnStuck e (λ slot item. EndsWith joint openings copies (puts_of laid)) =
-    on_stuck e (λ slot item. FindsNone joint openings (drop (length laid) copies) (puts_of laid)) (λ slot item. EndsWith joint openings copies (puts_of laid))
-    (λ slot item found. inr (subst (λ n. FindsNone joint openings (drop n copies) (puts_of laid)) (sym (length-map laid laid_put)) found)) none in
-    passed_on result (λ x. length (puts_of laid) ≡ length copies) (λ x. OnStuck x (λ slot item. EndsWith joint openings copies (puts_of laid))) e there is
+    let there : OnStuck e (λ slot item. EndsWith joint openings copies laid) =
+    on_stuck e (λ slot item. FindsNone joint openings (drop (length laid) copies) laid) (λ slot item. EndsWith joint openings copies laid)
+    (λ slot item found. inr found) none in
+    passed_on result (λ x. length laid ≡ length copies) (λ x. OnStuck x (λ slot item. EndsWith joint openings copies laid)) e there is
 
 -- of lists that are the same
 pub asks_alike : {X : Type 0} (joint : Joint) (openings other : List Opening) (copies more : List ItemCopy) (result : Result X FillError) (before after : ℕ) → openings ≡ other → copies ≡ more → AsksWithin joint openings copies result before after → AsksWithin joint other more result before after

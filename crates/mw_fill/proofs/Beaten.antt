@@ -22,7 +22,6 @@ use Rattle.mw_fill.specs.Openings.{Opening, openings_of, regular, all_kinds}
 use Rattle.mw_fill.specs.Fill.{Outcome, filled, stuck, in_hand, is_reached, FillRun, placed_anywhere}
 use Rattle.mw_fill.specs.Try.{Lists, stock_of, lists_of, openings_begin, helping_begin, filling_begin, and_then, the_rest, end_put, placement_of, IsFilled}
 use Rattle.mw_fill.specs.Generated.{IsUnmet}
-use Rattle.mw_fill.specs.Kept.{IsCounted}
 use Rattle.mw_fill.proofs.Everything.{hands_alike}
 use Rattle.mw_fill.proofs.Shuffling.{shuffled_all}
 use Rattle.mw_fill.proofs.Permuting.{words_small, shuffled_count}
@@ -31,7 +30,7 @@ use Rattle.mw_fill.proofs.Locations.{openings_kept}
 use Rattle.mw_fill.proofs.Ascending.{end_place, slots_rise}
 use Rattle.mw_fill.proofs.Keeping.{found_same, as_good}
 use Rattle.mw_fill.proofs.Tidy.{IsTidy, IsIdle, numbers_held, is_opening, tidy_nothing, tidy_run, tidy_anywhere, placement_stands}
-use Rattle.mw_fill.proofs.Making.{asked_counted, helping_idle, filling_idle, fillers_idle, own_openings}
+use Rattle.mw_fill.proofs.Making.{helping_idle, filling_idle, fillers_idle, own_openings}
 
 -- ---- what stands where
 
@@ -137,13 +136,12 @@ module _ (joint : Joint) (kept : IsJoint joint) (seed stream : ℕ) (puts : List
         let none : unmet_goal joint (bag_with all before w) w ≡ None = sym (goals_alike joint kept (everything joint.slots) all same_hands before w) ∙ sym unmet.4 in
         let inside : All (λ s. s.place < place_total joint.slots) (regular lists.openings) =
         regular_all (λ s. s.place < place_total joint.slots) lists.openings (openings_are (λ s. s.place < place_total joint.slots) (λ i d l. (openings_kept joint kept i d l).place)) in
-        let counted : All (IsCounted joint.slots) lists.asked = shuffled_all (IsCounted joint.slots) words 0 (copies_of Asked joint) (asked_counted joint) in
         let good =
-        as_good joint (regular lists.openings) lists.asked [] parts.first before counted inside (subst (λ ps. IsPlaced joint.slots ps before) (sym (append-nil (events_of joint))) unmet.2) parts.run in
+        as_good joint (regular lists.openings) lists.asked [] parts.first before inside (subst (λ ps. IsPlaced joint.slots ps before) (sym (append-nil (events_of joint))) unmet.2) parts.run in
         let lies : (j : ℕ) → found table u j ≡ found good.end u j = λ j. found_same 0 table good.end u j (placed.size ∙ sym good.placed.size) (λ p. placed.entries p ∙ alike p ∙ sym (good.placed.entries p)) in
         let at_end : Closed steps start good.end u = Closed-less steps start start good.end table u (λ j. omega (arith, lies j)) closed in
         let in_hands = good.good u at_end in
-        let as_many : (j : ℕ) → in_hand joint lists.asked j ≡ all j = λ j. ap (λ n. start j + n) (shuffled_count words (words_small (start_of seed stream)) 0 (copies_of Asked joint) j) in
+        let as_many : (j : ℕ) → in_hand joint lists.asked j ≡ all j = λ j. ap (λ n. start j + n) (shuffled_count joint.slots words (words_small (start_of seed stream)) 0 (copies_of Asked joint) j) in
         let with_all : Closed steps all before u = Closed-less steps all (in_hand joint lists.asked) before before u (λ j. omega (arith, as_many j)) in_hands.0 in
         let part = least.least u with_all in
         let more = bag_more all before w u part in

@@ -1,21 +1,26 @@
 -- Of each progression item, the copies that rules ask for are as many as the pools have.
-use Rattle.std.proofs.Common.{◌≡◌, ℕ, zero, suc, ◌+◌, ◌*◌, ◌<◌, ◌≤◌, Bool, true, false, cond, List, [], ◌∷◌, ◌++◌, Option, Some, None, length, get_or, All, refl, sym, ap, ap₂, subst, ◌∙◌, arith}
+use Rattle.std.proofs.Common.{◌≡◌, ℕ, zero, suc, ◌+◌, ◌*◌, ◌<◌, ◌≤◌, Bool, true, false, cond, List, [], ◌∷◌, Option, Some, None, length, get_or, All, refl, sym, ap, ap₂, subst, ◌∙◌, arith}
 use Rattle.std.specs.Prelude.{flat_map, is_some, replicate, slice_get, ◌==◌, if◌then◌else◌}
 use Rattle.std.proofs.lemmas.Bool.{false≢true}
 use Rattle.std.proofs.lemmas.Bool.Decides.{Decides-eqb}
 use Rattle.std.proofs.lemmas.List.{get_or_default}
 use Rattle.std.proofs.lemmas.List.Concat.{flat_map-cons}
 use Rattle.std.proofs.lemmas.List.Folds.{sum_by-replicate}
-use Rattle.std.proofs.lemmas.List.Sums.{sum_by-cons, sum_by-append}
+use Rattle.std.proofs.lemmas.List.Sums.{sum_by-cons}
 use Rattle.mw_multi.specs.World.{Item, PoolEntry}
 use Rattle.mw_multi.specs.RulesKept.{is_progression_item}
 use Rattle.mw_multi.specs.Joint.{Slot, Joint, IsJoint, AreNumbered, slot_items, slot_places}
 use Rattle.mw_multi.specs.Bags.{entry_count, entries_count, start_count, slot_pool, pool_count, everything}
 use Rattle.mw_multi.specs.Numbered.{each_numbered}
+use Rattle.mw_multi.specs.Placement.{slot_at}
+use Rattle.mw_multi.proofs.Sites.{get_some}
+use Rattle.mw_reach.specs.Reach.{times_in}
 use Rattle.mw_reach.proofs.Alike.{SlotAlike}
 use Rattle.mw_fill.specs.declared.group.Group.TheVariants.{Asked}
-use Rattle.mw_fill.specs.Copies.{ItemCopy, item_is_of, copy_of, entry_copies, slot_copies, has_others, copies_of, has_number, copies_count}
+use Rattle.mw_fill.specs.Copies.{ItemCopy, item_is_of, copy_of, entry_copies, slot_copies, has_others, copies_of, copy_numbers, copies_count}
 use Rattle.mw_fill.specs.Fill.{in_hand}
+use Rattle.mw_fill.proofs.Owning.{count_append, count_each}
+use Rattle.mw_fill.proofs.Making.{numbers_are, asked_is}
 use Rattle.mw_fill.proofs.Pools.{some_item, item_within}
 
 -- ---- numbers of items
@@ -42,32 +47,42 @@ times : (here : Bool) (m : ℕ) → m * cond here 1 0 ≡ (if here then m else 0
 times true m = omega arith
 times false m = omega arith
 
-entry_at : (asked here : Bool) (m : ℕ) (copy : ItemCopy) (n : ℕ) → has_number n copy ≡ here → (here ≡ true → asked ≡ true) → copies_count (if asked then replicate m copy else []) n ≡ (if here then m else 0)
-entry_at true here m copy n e h = sum_by-replicate (λ c. cond (has_number n c) 1 0) m copy ∙ ap (λ b. m * cond b 1 0) e ∙ times here m
-entry_at false true m copy n e h = absurd (false≢true (h refl))
-entry_at false false m copy n e h = refl
+module _ (slots : List Slot) (n : ℕ) where
+  entry_at : (asked here : Bool) (m : ℕ) (copy : ItemCopy) → (asked ≡ true → times_in n (copy_numbers slots copy) ≡ cond here 1 0) → (here ≡ true → asked ≡ true)
+      → copies_count slots (if asked then replicate m copy else []) n ≡ (if here then m else 0)
+  entry_at true here m copy one h =
+      count_each slots (replicate m copy) n ∙ sum_by-replicate (λ c. times_in n (copy_numbers slots c)) m copy ∙ ap (λ k. m * k) (one refl) ∙ times here m
+  entry_at false true m copy one h = absurd (false≢true (h refl))
+  entry_at false false m copy one h = refl
 
 -- where the entry's item has the number, rules ask for it
 abbrev IsAskedAt : ℕ → Slot → PoolEntry → Type 0
 IsAskedAt n s e = s.first_item + e.item ≡ n → item_is_of Asked (slice_get s.world.items e.item) ≡ true
 
-module _ (many : Bool) (n : ℕ) where
-  pool_counted : (number : ℕ) (s : Slot) (pool : List PoolEntry) → All (IsAskedAt n s) pool → copies_count (flat_map (entry_copies Asked many number s) pool) n ≡ entries_count s.first_item pool n
-  pool_counted number s [] all = refl
-  pool_counted number s (e ∷ pool) all =
-      let here : copies_count (entry_copies Asked many number s e) n ≡ entry_count s.first_item n e =
-      entry_at (item_is_of Asked (slice_get s.world.items e.item)) ((s.first_item + e.item) == n) e.count (copy_of many number s e.item) n refl
-      (λ same. all 0 e (omega arith) ((Decides-eqb (s.first_item + e.item) n).0 same)) in
-      let split : copies_count (entry_copies Asked many number s e ++ flat_map (entry_copies Asked many number s) pool) n ≡ copies_count (entry_copies Asked many number s e) n + copies_count (flat_map (entry_copies Asked many number s) pool) n =
-      sum_by-append (λ c. cond (has_number n c) 1 0) (entry_copies Asked many number s e) (flat_map (entry_copies Asked many number s) pool) in
-      ap (λ cs. copies_count cs n) (flat_map-cons (entry_copies Asked many number s) e pool) ∙ split
-      ∙ ap₂ ◌+◌ here (pool_counted number s pool (λ k d h. all (suc k) d (omega (arith, h)))) ∙ sym (sum_by-cons (entry_count s.first_item n) e pool)
+module _ (slots : List Slot) (many : Bool) (n : ℕ) where
+  -- a copy that rules ask for counts for its own item
+  one_of : (number : ℕ) (s : Slot) (item : ℕ) → slot_at slots number ≡ Some s → item_is_of Asked (slice_get s.world.items item) ≡ true → times_in n (copy_numbers slots (copy_of many number s item)) ≡ cond ((s.first_item + item) == n) 1 0
+  one_of number s item there asked = ap (times_in n) (numbers_are slots number item s true there (asked_is (slice_get s.world.items item) asked)) ∙ omega arith
 
-  slots_counted : (number : ℕ) (slots : List Slot) → All (λ s. All (IsAskedAt n s) s.world.pool) slots → copies_count (each_numbered (slot_copies Asked many) number slots) n ≡ pool_count slots n
-  slots_counted number [] all = refl
-  slots_counted number (s ∷ slots) all =
-      sum_by-append (λ c. cond (has_number n c) 1 0) (slot_copies Asked many number s) (each_numbered (slot_copies Asked many) (suc number) slots)
-      ∙ ap₂ ◌+◌ (pool_counted number s s.world.pool (all 0 s (omega arith))) (slots_counted (suc number) slots (λ k d h. all (suc k) d (omega (arith, h)))) ∙ sym (sum_by-cons (slot_pool n) s slots)
+  pool_counted : (number : ℕ) (s : Slot) → slot_at slots number ≡ Some s → (pool : List PoolEntry) → All (IsAskedAt n s) pool → copies_count slots (flat_map (entry_copies Asked many number s) pool) n ≡ entries_count s.first_item pool n
+  pool_counted number s there [] all = refl
+  pool_counted number s there (e ∷ pool) all =
+      let here : copies_count slots (entry_copies Asked many number s e) n ≡ entry_count s.first_item n e =
+      entry_at slots n (item_is_of Asked (slice_get s.world.items e.item)) ((s.first_item + e.item) == n) e.count (copy_of many number s e.item) (one_of number s e.item there)
+      (λ same. all 0 e (omega arith) ((Decides-eqb (s.first_item + e.item) n).0 same)) in
+      ap (λ cs. copies_count slots cs n) (flat_map-cons (entry_copies Asked many number s) e pool) ∙ count_append slots (entry_copies Asked many number s e) (flat_map (entry_copies Asked many number s) pool) n
+      ∙ ap₂ ◌+◌ here (pool_counted number s there pool (λ k d h. all (suc k) d (omega (arith, h)))) ∙ sym (sum_by-cons (entry_count s.first_item n) e pool)
+
+  slots_counted : (number : ℕ) (rest : List Slot) → ((k : ℕ) (d : Slot) → k < length rest → slot_at slots (number + k) ≡ Some (get_or rest k d)) → All (λ s. All (IsAskedAt n s) s.world.pool) rest
+      → copies_count slots (each_numbered (slot_copies Asked many) number rest) n ≡ pool_count rest n
+  slots_counted number [] there all = refl
+  slots_counted number (s ∷ rest) there all =
+      let at : number + 0 ≡ number = omega arith in
+      let here : slot_at slots number ≡ Some s = subst (λ k. slot_at slots k ≡ Some s) at (there 0 s (omega arith)) in
+      let later : (k : ℕ) (d : Slot) → k < length rest → slot_at slots (suc number + k) ≡ Some (get_or rest k d) = λ k d h.
+      (let next : number + suc k ≡ suc number + k = omega arith in subst (λ m. slot_at slots m ≡ Some (get_or rest k d)) next (there (suc k) d (omega (arith, h)))) in
+      count_append slots (slot_copies Asked many number s) (each_numbered (slot_copies Asked many) (suc number) rest) n
+      ∙ ap₂ ◌+◌ (pool_counted number s here s.world.pool (all 0 s (omega arith))) (slots_counted (suc number) rest later (λ k d h. all (suc k) d (omega (arith, h)))) ∙ sym (sum_by-cons (slot_pool n) s rest)
 
 -- ---- everything in hand
 
@@ -96,4 +111,6 @@ module _ (joint : Joint) (kept : IsJoint joint) where
   hands_alike = λ k d h i asked.
       let n = (get_or joint.slots k d).first_item + i in
       let all : All (λ s. All (IsAskedAt n s) s.world.pool) joint.slots = λ j e l. subst (λ (s : Slot). All (IsAskedAt n s) s.world.pool) (get_or_default joint.slots j d e l) (entries_asked k i d h asked j l) in
-      ap (λ m. start_count joint.slots n + m) (sym (slots_counted (has_others joint) n 1 joint.slots all))
+      let there : (j : ℕ) (e : Slot) → j < length joint.slots → slot_at joint.slots (1 + j) ≡ Some (get_or joint.slots j e) = λ j e l.
+      (let at : suc j ≡ 1 + j = omega arith in subst (λ m. slot_at joint.slots m ≡ Some (get_or joint.slots j e)) at (get_some joint.slots j e l)) in
+      ap (λ m. start_count joint.slots n + m) (sym (slots_counted joint.slots (has_others joint) n 1 joint.slots there all))

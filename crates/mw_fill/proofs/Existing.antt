@@ -1,7 +1,7 @@
 -- There is a least list for any items, and a table of what was put.
 use Rattle.std.proofs.Common.{◌≡◌, ℕ, zero, suc, ◌<◌, ◌≤◌, ◌++◌, ◌⊎◌, Bool, true, false, List, [], ◌∷◌, All, length, drop, replicate, set, length-set, take, refl, sym, subst, ◌∙◌, inl, inr, arith, true≢false, append_assoc, append-nil}
 use Rattle.std.proofs.lemmas.Bool.{cases_Bool}
-use Rattle.std.proofs.lemmas.List.{length-replicate, take-map}
+use Rattle.std.proofs.lemmas.List.{length-replicate}
 use Rattle.std.proofs.lemmas.List.Elements.{All-map, All-take}
 use Rattle.mw_rules.specs.Holds.{Bag, Places, places_of}
 use Rattle.mw_rules.specs.Laws.{IsPartOf}
@@ -21,8 +21,7 @@ use Rattle.mw_reach.proofs.Walks.{bag_more, open_more, replicate-false}
 use Rattle.mw_fill.specs.Copies.{ItemCopy}
 use Rattle.mw_fill.specs.Fill.{in_hand}
 use Rattle.mw_fill.specs.Asks.{AreLists}
-use Rattle.mw_fill.specs.Laying.{laid_put, puts_of, IsLaid}
-use Rattle.mw_fill.specs.declared.laid.Laid.{Laid}
+use Rattle.mw_fill.specs.Laying.{IsLaid}
 
 -- ---- least lists
 
@@ -90,21 +89,21 @@ steps_fit joint work made =
 -- ---- tables
 
 -- the table with these copies where they were put
-abbrev pub table_after : List Slot → Placed → List Laid → Placed
+abbrev pub table_after : List Slot → Placed → List Put → Placed
 table_after slots table [] = table
-table_after slots table (l ∷ laid) = table_after slots (set table l.put.place (numbers_at table l.put.place ++ put_numbers slots l.put)) laid
+table_after slots table (l ∷ laid) = table_after slots (set table l.place (numbers_at table l.place ++ put_numbers slots l)) laid
 
-after_placed : (slots : List Slot) (laid : List Laid) (puts : List Put) (table : Placed) → All (IsLaid slots) laid → IsPlaced slots puts table → IsPlaced slots (puts ++ puts_of laid) (table_after slots table laid)
+after_placed : (slots : List Slot) (laid : List Put) (puts : List Put) (table : Placed) → All (IsLaid slots) laid → IsPlaced slots puts table → IsPlaced slots (puts ++ laid) (table_after slots table laid)
 after_placed slots [] puts table all placed = subst (λ ps. IsPlaced slots ps table) (sym (append-nil puts)) placed
 after_placed slots (l ∷ laid) puts table all placed =
     let here = all 0 l (omega arith) in
-    let next = set table l.put.place (numbers_at table l.put.place ++ put_numbers slots l.put) in
-    let one = placed_put slots puts l.put table next (omega (arith, placed.size, here.place)) refl placed in
-    subst (λ ps. IsPlaced slots ps (table_after slots next laid)) (append_assoc puts (l.put ∷ []) (puts_of laid)) (after_placed slots laid (puts ++ l.put ∷ []) next (λ k d h. all (suc k) d (omega arith)) one)
+    let next = set table l.place (numbers_at table l.place ++ put_numbers slots l) in
+    let one = placed_put slots puts l table next (omega (arith, placed.size, here.place)) refl placed in
+    subst (λ ps. IsPlaced slots ps (table_after slots next laid)) (append_assoc puts (l ∷ []) laid) (after_placed slots laid (puts ++ l ∷ []) next (λ k d h. all (suc k) d (omega arith)) one)
 
 -- ---- the lists of a fill
 
-module _ (joint : Joint) (copies : List ItemCopy) (laid : List Laid) (begin : Placed) (work : Work) (made : IsWorkFor joint work) where
+module _ (joint : Joint) (copies : List ItemCopy) (laid : List Put) (begin : Placed) (work : Work) (made : IsWorkFor joint work) where
   pub tables_of : ℕ → Placed
   tables_of from = table_after joint.slots begin (take from laid)
 
@@ -114,12 +113,10 @@ module _ (joint : Joint) (copies : List ItemCopy) (laid : List Laid) (begin : Pl
   pub lists_of : ℕ → ℕ → List Bool
   lists_of from to = (list_without from to).list
 
-  pub there_are_lists : IsPlaced joint.slots (events_of joint) begin → All (IsLaid joint.slots) laid → AreLists joint copies (puts_of laid) tables_of lists_of
+  pub there_are_lists : IsPlaced joint.slots (events_of joint) begin → All (IsLaid joint.slots) laid → AreLists joint copies laid tables_of lists_of
   unfolding tables_of lists_of list_without
   there_are_lists placed each = record {
-    tables_are = λ from.
-        subst (λ ps. IsPlaced joint.slots (events_of joint ++ ps) (tables_of from)) (sym (take-map laid_put from laid))
-        (after_placed joint.slots (take from laid) (events_of joint) begin (All-take (IsLaid joint.slots) from laid each) placed);
+    tables_are = λ from. after_placed joint.slots (take from laid) (events_of joint) begin (All-take (IsLaid joint.slots) from laid each) placed;
     sizes = λ from to. (list_without from to).size;
     least = λ from to. (list_without from to).least;
   }

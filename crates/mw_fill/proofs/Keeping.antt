@@ -1,22 +1,21 @@
 -- What is put where it can be reached counts as much as what is in hand.
-use Rattle.std.proofs.Common.{◌≡◌, ℕ, suc, ◌+◌, ◌<◌, Bool, true, ◌&&◌, cond, List, [], ◌∷◌, ◌++◌, Option, Some, None, MatchOption, All, length, get_or, set, refl, sym, ap, subst, ◌∙◌, arith, zero-add, append_assoc}
+use Rattle.std.proofs.Common.{◌≡◌, ℕ, suc, ◌+◌, ◌<◌, Bool, true, ◌&&◌, cond, List, [], ◌∷◌, ◌++◌, Option, Some, None, MatchOption, All, length, get_or, set, refl, sym, subst, ◌∙◌, arith, zero-add, append_assoc}
 use Rattle.std.proofs.lemmas.Bool.{and_parts}
 use Rattle.mw_rules.specs.Holds.{Bag, Places}
 use Rattle.mw_multi.specs.Joint.{Joint, place_total}
 use Rattle.mw_multi.specs.Bags.{start_count}
 use Rattle.mw_multi.specs.Steps.{steps_of}
-use Rattle.mw_multi.specs.Placement.{Put, put_numbers, numbers_at, IsPlaced}
+use Rattle.mw_multi.specs.Placement.{Put, IsPlaced}
 use Rattle.mw_multi.specs.Events.{events_of}
 use Rattle.mw_multi.proofs.Standing.{placed_put}
 use Rattle.mw_reach.specs.Reach.{Placed, times_in, found_from, found, bag_with, Closed, IsLeast}
+use Rattle.mw_reach.proofs.Items.{times_in-append}
 use Rattle.mw_reach.proofs.Putting.{found_set}
 use Rattle.mw_reach.proofs.SameLeast.{Closed-less}
-use Rattle.mw_fill.specs.Copies.{ItemCopy}
+use Rattle.mw_fill.specs.Copies.{ItemCopy, copy_numbers, all_numbers, copies_count}
 use Rattle.mw_fill.specs.Openings.{Opening, accepts}
 use Rattle.mw_fill.specs.Fill.{filled, stuck_with, put_of, first_fit, in_hand, is_reached, FillRun}
-use Rattle.mw_fill.specs.Kept.{IsCounted}
 use Rattle.mw_fill.proofs.Fitting.{find_all, free_there}
-use Rattle.mw_fill.proofs.Hands.{one_number}
 
 -- ---- what is found in a table
 
@@ -36,19 +35,21 @@ found_alike joint puts a b w i p q = found_same 0 a b w i (p.size ∙ sym q.size
 
 module _ (joint : Joint) (copy : ItemCopy) (later : List ItemCopy) (table : Placed) (place : ℕ) (within : place < length table) (w : Places) (least : IsLeast (steps_of joint) (in_hand joint later) table w) (reached : w place ≡ true) where
   abbrev next : Placed
-  next = set table place (get_or table place [] ++ copy.number ∷ [])
+  next = set table place (get_or table place [] ++ copy_numbers joint.slots copy)
 
   same_bag : (u : Places) → u place ≡ true → (j : ℕ) → bag_with (in_hand joint (copy ∷ later)) table u j ≡ bag_with (in_hand joint later) next u j
   same_bag u e j =
-      let more = found_set 0 place table (copy.number ∷ []) u j within in
-      let here : cond (u (0 + place)) (times_in j (copy.number ∷ [])) 0 ≡ times_in j (copy.number ∷ []) = rw (zero-add place, e) refl in
-      omega (arith, more, here, one_number copy later j)
+      let own = copy_numbers joint.slots copy in
+      let more = found_set 0 place table own u j within in
+      let here : cond (u (0 + place)) (times_in j own) 0 ≡ times_in j own = rw (zero-add place, e) refl in
+      let count : copies_count joint.slots (copy ∷ later) j ≡ times_in j own + copies_count joint.slots later j = times_in-append j own (all_numbers joint.slots later) in
+      omega (arith, more, here, count)
 
   pub where_it_lies : (u : Places) → Closed (steps_of joint) (in_hand joint later) next u
       → Closed (steps_of joint) (in_hand joint (copy ∷ later)) table u × ((j : ℕ) → bag_with (in_hand joint (copy ∷ later)) table u j ≡ bag_with (in_hand joint later) next u j)
   where_it_lies u c =
       let without : Closed (steps_of joint) (in_hand joint later) table u =
-      Closed-less (steps_of joint) (in_hand joint later) (in_hand joint later) table next u (λ j. omega (arith, found_set 0 place table (copy.number ∷ []) u j within)) c in
+      Closed-less (steps_of joint) (in_hand joint later) (in_hand joint later) table next u (λ j. omega (arith, found_set 0 place table (copy_numbers joint.slots copy) u j within)) c in
       let there : u place ≡ true = least.least u without place reached in
       (Closed-less (steps_of joint) (in_hand joint (copy ∷ later)) (in_hand joint later) table next u (λ j. omega (arith, same_bag u there j)) c, same_bag u there)
 
@@ -68,19 +69,18 @@ least_alike joint puts base a b w p q l = record {
 }
 
 one_as_good : (joint : Joint) (openings : List Opening) (copy : ItemCopy) (later : List ItemCopy) (puts result : List Put) (table : Placed) (w : Places) (test : Opening → Bool) → ((s : Opening) → test s ≡ true → w s.place ≡ true)
-    → IsCounted joint.slots copy → All (λ s. s.place < place_total joint.slots) openings → IsPlaced joint.slots (events_of joint ++ puts) table
+    → All (λ s. s.place < place_total joint.slots) openings → IsPlaced joint.slots (events_of joint ++ puts) table
     → IsLeast (steps_of joint) (in_hand joint later) table w
     → ((opening : Opening) (next : Placed) → IsPlaced joint.slots (events_of joint ++ (puts ++ put_of copy opening ∷ [])) next → FillRun is_reached joint openings later (puts ++ put_of copy opening ∷ []) (filled result) → IsAsGood joint later next result)
     → (o : Option Opening) → first_fit test puts openings ≡ o
     → MatchOption o (filled result ≡ stuck_with copy) (λ opening. FillRun is_reached joint openings later (puts ++ put_of copy opening ∷ []) (filled result))
     → IsAsGood joint (copy ∷ later) table result
-one_as_good joint openings copy later puts result table w test reach counted inside placed least rest None e r = let never : ⊥ = cc in absurd never
-one_as_good joint openings copy later puts result table w test reach counted inside placed least rest (Some opening) e r =
+one_as_good joint openings copy later puts result table w test reach inside placed least rest None e r = let never : ⊥ = cc in absurd never
+one_as_good joint openings copy later puts result table w test reach inside placed least rest (Some opening) e r =
     let fits = free_there test puts openings opening e in
     let within : opening.place < length table = omega (arith, placed.size, find_all (λ s. s.place < place_total joint.slots) _ openings opening inside e) in
-    let next = set table opening.place (get_or table opening.place [] ++ copy.number ∷ []) in
-    let is : next ≡ set table opening.place (numbers_at table opening.place ++ put_numbers joint.slots (put_of copy opening)) = ap (λ ns. set table opening.place (get_or table opening.place [] ++ ns)) (sym counted.numbers) in
-    let put : IsPlaced joint.slots ((events_of joint ++ puts) ++ put_of copy opening ∷ []) next = placed_put joint.slots (events_of joint ++ puts) (put_of copy opening) table next within is placed in
+    let next = set table opening.place (get_or table opening.place [] ++ copy_numbers joint.slots copy) in
+    let put : IsPlaced joint.slots ((events_of joint ++ puts) ++ put_of copy opening ∷ []) next = placed_put joint.slots (events_of joint ++ puts) (put_of copy opening) table next within refl placed in
     let then_good = rest opening next (subst (λ ps. IsPlaced joint.slots ps next) (append_assoc (events_of joint) puts (put_of copy opening ∷ [])) put) r in
     record {
       end = then_good.end;
@@ -91,17 +91,17 @@ one_as_good joint openings copy later puts result table w test reach counted ins
           (here.0, λ j. here.1 j ∙ later_good.1 j);
     }
 
-pub as_good : (joint : Joint) (openings : List Opening) (copies : List ItemCopy) (puts result : List Put) (table : Placed) → All (IsCounted joint.slots) copies → All (λ s. s.place < place_total joint.slots) openings
+pub as_good : (joint : Joint) (openings : List Opening) (copies : List ItemCopy) (puts result : List Put) (table : Placed) → All (λ s. s.place < place_total joint.slots) openings
     → IsPlaced joint.slots (events_of joint ++ puts) table → FillRun is_reached joint openings copies puts (filled result) → IsAsGood joint copies table result
-as_good joint openings [] puts result table counted inside placed r =
+as_good joint openings [] puts result table inside placed r =
     let same : result ≡ puts = cc in
     rw same record {
       end = table;
       placed = placed;
       good = λ u c. (Closed-less (steps_of joint) (in_hand joint []) (start_count joint.slots) table table u (λ j. omega arith) c, λ j. omega arith);
     }
-as_good joint openings (copy ∷ later) puts result table counted inside placed r =
-    one_as_good joint openings copy later puts result table r.1 (λ s. accepts copy s && r.1 s.place) (λ s e. (and_parts (accepts copy s) (r.1 s.place) e).1) (counted 0 copy (omega arith)) inside placed
+as_good joint openings (copy ∷ later) puts result table inside placed r =
+    one_as_good joint openings copy later puts result table r.1 (λ s. accepts copy s && r.1 s.place) (λ s e. (and_parts (accepts copy s) (r.1 s.place) e).1) inside placed
     (least_alike joint (events_of joint ++ puts) (in_hand joint later) r.0 table r.1 r.2 placed r.3)
-    (λ opening next p rest. as_good joint openings later (puts ++ put_of copy opening ∷ []) result next (λ i d l. counted (suc i) d (omega arith)) inside p rest)
+    (λ opening next p rest. as_good joint openings later (puts ++ put_of copy opening ∷ []) result next inside p rest)
     (first_fit (λ s. accepts copy s && r.1 s.place) puts openings) refl r.4

@@ -4,6 +4,7 @@ pub mod Fitting
 pub mod Stepping
 pub mod Runs
 pub mod Shuffling
+pub mod Owning
 pub mod Hands
 pub mod Finding
 pub mod Trying

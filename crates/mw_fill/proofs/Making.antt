@@ -19,7 +19,6 @@ use Rattle.mw_fill.specs.Copies.{ItemCopy, is_of, item_is_of, copy_of, entry_cop
 use Rattle.mw_fill.specs.Openings.{Opening, opening_of, opening_at, slot_openings, openings_of}
 use Rattle.mw_fill.specs.Try.{filler_at}
 use Rattle.mw_multi.proofs.Numbered.{numbered_all}
-use Rattle.mw_fill.specs.Kept.{IsCounted}
 use Rattle.mw_fill.proofs.Tidy.{IsIdle, is_opening}
 
 -- ---- copies
@@ -43,11 +42,11 @@ copies_all P group joint each =
     subst (λ n. All P (slot_copies group (has_others joint) n s)) at
     (pool_all P group (has_others joint) (suc k) s (each k s (get_some joint.slots k s l ∙ ap Some (sym e))) s.world.pool))
 
-numbers_are : (slots : List Slot) (number item : ℕ) (s : Slot) (asked : Bool) → slot_at slots number ≡ Some s → is_progression_item (slice_get s.world.items item) ≡ asked
+pub numbers_are : (slots : List Slot) (number item : ℕ) (s : Slot) (asked : Bool) → slot_at slots number ≡ Some s → is_progression_item (slice_get s.world.items item) ≡ asked
     → numbers_of (slot_at slots number) item ≡ (if asked then (s.first_item + item) ∷ [] else [])
 numbers_are slots number item s asked there is = ap (λ o. numbers_of o item) there ∙ ap (λ b. if b then (s.first_item + item) ∷ [] else []) is
 
-asked_is : (o : Option Item) → item_is_of Asked o ≡ true → is_progression_item o ≡ true
+pub asked_is : (o : Option Item) → item_is_of Asked o ≡ true → is_progression_item o ≡ true
 asked_is (Some i) e = e
 asked_is None e = cc
 
@@ -64,9 +63,6 @@ helping_is None e = cc
 filling_is : (o : Option Item) → item_is_of Filling o ≡ true → is_progression_item o ≡ false
 filling_is (Some i) e = filling_item i e
 filling_is None e = cc
-
-pub asked_counted : (joint : Joint) → All (IsCounted joint.slots) (copies_of Asked joint)
-asked_counted joint = copies_all (IsCounted joint.slots) Asked joint (λ k s there item e. record { numbers = numbers_are joint.slots (suc k) item s true there (asked_is (slice_get s.world.items item) e) })
 
 pub helping_idle : (joint : Joint) → All (IsIdle joint.slots) (copies_of Helping joint)
 helping_idle joint = copies_all (IsIdle joint.slots) Helping joint (λ k s there item e. record { numbers = numbers_are joint.slots (suc k) item s false there (helping_is (slice_get s.world.items item) e) })

@@ -1,15 +1,17 @@
 -- A shuffle only moves entries.
-use Rattle.std.proofs.Common.{◌≡◌, ℕ, zero, suc, ◌-◌, ◌/◌, ◌%◌, ◌^◌, ◌<◌, ◌≤◌, List, length, refl, arith}
+use Rattle.std.proofs.Common.{◌≡◌, ℕ, zero, suc, ◌-◌, ◌/◌, ◌%◌, ◌^◌, ◌<◌, ◌≤◌, List, length, refl, sym, ◌∙◌, arith}
 use Rattle.std.specs.List.{swap}
 use Rattle.std.specs.List.Sorted.{IsPermutation}
-use Rattle.std.specs.Prelude.{cond}
 use Rattle.std.proofs.Math.Nat.{mod-lt}
 use Rattle.std.proofs.lemmas.List.Edits.{length-swap}
 use Rattle.std.proofs.lemmas.List.Sorted.{IsPermutation-refl, IsPermutation-trans, IsPermutation-swap, sum_by-IsPermutation}
 use Rattle.rand_chacha.specs.ChaCha.{ChaCha}
+use Rattle.mw_multi.specs.Joint.{Slot}
+use Rattle.mw_reach.specs.Reach.{times_in}
 use Rattle.rand_chacha.specs.Block.{block_word}
 use Rattle.mw_fill.specs.Draws.{words_of, drawn, shuffled, shuffled_down}
-use Rattle.mw_fill.specs.Copies.{ItemCopy, has_number, copies_count}
+use Rattle.mw_fill.specs.Copies.{ItemCopy, copy_numbers, copies_count}
+use Rattle.mw_fill.proofs.Owning.{count_each}
 
 word_small : (n : ℕ) (key : List ℕ) (counter nonce k : ℕ) → block_word n key counter nonce k < 2 ^ 32
 unfolding block_word
@@ -34,5 +36,6 @@ pub shuffled_moves : {A : Type 0} (words : ℕ → ℕ) → ((p : ℕ) → words
 shuffled_moves words small place xs = down_moves words small place (length xs - 1) xs (omega arith)
 
 -- as many copies of each item
-pub shuffled_count : (words : ℕ → ℕ) → ((p : ℕ) → words p < 2 ^ 32) → (place : ℕ) (copies : List ItemCopy) (n : ℕ) → copies_count (shuffled words place copies) n ≡ copies_count copies n
-shuffled_count words small place copies n = sum_by-IsPermutation (λ c. cond (has_number n c) 1 0) copies (shuffled words place copies) (shuffled_moves words small place copies)
+pub shuffled_count : (slots : List Slot) (words : ℕ → ℕ) → ((p : ℕ) → words p < 2 ^ 32) → (place : ℕ) (copies : List ItemCopy) (n : ℕ) → copies_count slots (shuffled words place copies) n ≡ copies_count slots copies n
+shuffled_count slots words small place copies n =
+    count_each slots (shuffled words place copies) n ∙ sum_by-IsPermutation (λ c. times_in n (copy_numbers slots c)) copies (shuffled words place copies) (shuffled_moves words small place copies) ∙ sym (count_each slots copies n)

@@ -2,13 +2,14 @@
 use Rattle.std.proofs.Common.{◌≡◌, ℕ, zero, suc, ◌+◌, ◌<◌, ◌≤◌, ◌*◌, Bool, true, false, List, [], ◌∷◌, All, get_or, length, refl, sym, ap, subst, ◌∙◌, arith}
 use Rattle.std.proofs.lemmas.List.{length-append, length-replicate}
 use Rattle.std.proofs.lemmas.List.Concat.{flat_map-cons}
-use Rattle.std.proofs.lemmas.List.Elements.{All-nil, All-append, All-replicate, All-weaker}
+use Rattle.std.proofs.lemmas.List.Elements.{All-nil, All-cons, All-append, All-replicate, All-weaker}
 use Rattle.std.proofs.lemmas.List.Sums.{sum_by-cons, sum_by-le}
 use Rattle.std.specs.Prelude.{Option, Some, None, flat_map, is_some, option_and_then, replicate, slice_get, sum_by, if◌then◌else◌}
 use Rattle.mw_multi.specs.World.{Item, PoolEntry}
-use Rattle.mw_multi.specs.Joint.{Slot, Joint, SlotKept, IsJoint}
+use Rattle.mw_multi.specs.RulesKept.{is_progression_item}
+use Rattle.mw_multi.specs.Joint.{Slot, Joint, SlotKept, IsJoint, item_total}
 use Rattle.mw_multi.specs.WorldKept.{copies, has_id, EntryKept, PoolKept}
-use Rattle.mw_multi.specs.Placement.{slot_at, item_in, item_at}
+use Rattle.mw_multi.specs.Placement.{slot_at, item_in, item_at, numbers_of}
 use Rattle.mw_reach.proofs.Slots.{slot_fits}
 use Rattle.mw_fill.specs.Kept.{CopyKept}
 use Rattle.mw_multi.proofs.Sites.{get_some}
@@ -61,6 +62,10 @@ item_within [] k e = cc
 item_within (i ∷ items) zero e = omega arith
 item_within (i ∷ items) (suc k) e = omega (arith, item_within items k e)
 
+one_all : (P : ℕ → Type 0) (b : Bool) (n : ℕ) → P n → All P (if b then n ∷ [] else [])
+one_all P true n p = All-cons P n [] p (All-nil P)
+one_all P false n p = All-nil P
+
 -- an item with an id of a slot's world
 module _ (joint : Joint) (kept : IsJoint joint) (k : ℕ) (s : Slot) (within : k < length joint.slots) (is : s ≡ get_or joint.slots k s) where
   slot_there : slot_at joint.slots (suc k) ≡ Some s
@@ -72,9 +77,11 @@ module _ (joint : Joint) (kept : IsJoint joint) (k : ℕ) (s : Slot) (within : k
   copy_kept : (many : Bool) (item : ℕ) → has_id (slice_get s.world.items item) ≡ true → CopyKept joint.slots (copy_of many (suc k) s item)
   copy_kept many item has =
       let fits = slot_fits joint kept k s within is in
+      let P : ℕ → Type 0 = λ n. n < item_total joint.slots in
+      let inside : s.first_item + item < item_total joint.slots = omega (arith, fits.items, item_within s.world.items item (some_item (slice_get s.world.items item) has)) in
       record {
         item = item_there item has;
-        number = omega (arith, fits.items, item_within s.world.items item (some_item (slice_get s.world.items item) has));
+        numbers = subst (λ (o : Option Slot). All P (numbers_of o item)) (sym slot_there) (one_all P (is_progression_item (item_in item s)) (s.first_item + item) inside);
       }
 
   entry_kept : (group : Group) (many : Bool) (e : PoolEntry) (here : Bool) → has_id (slice_get s.world.items e.item) ≡ true → All (CopyKept joint.slots) (if here then replicate e.count (copy_of many (suc k) s e.item) else [])

@@ -1,14 +1,13 @@
 -- The run over the copies that rules ask for, copy by copy.
-use Rattle.std.proofs.Common.{◌≡◌, ℕ, ◌+◌, ◌-◌, ◌<◌, ◌≤◌, ◌&&◌, Bool, List, [], ◌∷◌, ◌++◌, Option, Some, None, All, length, get_or, map, set, take, drop, refl, sym, ap, ap₂, subst, ◌∙◌, arith, append_assoc, append-nil, take-append-drop}
+use Rattle.std.proofs.Common.{◌≡◌, ℕ, ◌+◌, ◌-◌, ◌<◌, ◌≤◌, ◌&&◌, Bool, List, [], ◌∷◌, ◌++◌, Option, Some, None, All, length, get_or, map, set, take, drop, refl, sym, ap, subst, ◌∙◌, arith, append_assoc, append-nil, take-append-drop}
 use Rattle.std.specs.Prelude.{sum_by}
-use Rattle.std.proofs.lemmas.List.{drop_all, length-append, length-drop, map-append, map_push, take-map, take_all, take_more}
+use Rattle.std.proofs.lemmas.List.{drop_all, length-append, length-drop, map_more, map_push, take_all}
 use Rattle.std.proofs.lemmas.List.Elements.{All-push, All-nil}
-use Rattle.std.proofs.lemmas.List.Sums.{count_by-le-length}
-use Rattle.mw_rules.specs.Holds.{Bag, Places, bag_of, places_of}
+use Rattle.mw_rules.specs.Holds.{Places, bag_of, places_of}
 use Rattle.mw_multi.specs.Joint.{Joint, IsJoint}
 use Rattle.mw_multi.specs.Bags.{start_count, IsBagOf}
 use Rattle.mw_multi.specs.Steps.{steps_of}
-use Rattle.mw_multi.specs.Placement.{Put, IsPlaced}
+use Rattle.mw_multi.specs.Placement.{Put, put_numbers, IsPlaced}
 use Rattle.mw_multi.specs.Events.{events_of}
 use Rattle.mw_multi.proofs.Counts.{start_bound}
 use Rattle.mw_multi.proofs.Few.{events_are_few}
@@ -18,14 +17,14 @@ use Rattle.mw_reach.specs.Reached.{IsPlacedFor}
 use Rattle.mw_reach.proofs.Found.{found-le}
 use Rattle.mw_reach.proofs.Placing.{placed_for, placed-le}
 use Rattle.mw_reach.proofs.Settling.{settled_alike}
-use Rattle.mw_fill.specs.Copies.{ItemCopy, has_number}
+use Rattle.mw_fill.specs.Copies.{ItemCopy, copy_numbers}
 use Rattle.mw_fill.specs.Openings.{Opening, accepts}
 use Rattle.mw_fill.specs.Fill.{filled, stuck_with, put_of, first_fit, in_hand, is_reached, FillRun}
-use Rattle.mw_fill.specs.Kept.{CopyKept, IsCounted, OpeningKept, IsHeldFor}
+use Rattle.mw_fill.specs.Kept.{CopyKept, OpeningKept, IsHeldFor}
 use Rattle.mw_fill.specs.Asks.{FindsNone}
-use Rattle.mw_fill.specs.Laying.{copy_number, laid_put, laid_number, puts_of, IsLaid, AreLaid}
-use Rattle.mw_fill.specs.declared.laid.Laid.{Laid}
+use Rattle.mw_fill.specs.Laying.{IsLaid, AreLaid}
 use Rattle.mw_fill.proofs.Fitting.{find_all}
+use Rattle.mw_fill.proofs.Owning.{count_le}
 use Rattle.mw_fill.proofs.Stepping.{next_copy, held_next}
 
 -- ---- the list of places
@@ -53,7 +52,7 @@ module _ (joint : Joint) (kept : IsJoint joint) (puts : List Put) (table : Place
         settled.tally i,
         start_bound joint.slots i kept.each,
         kept.few,
-        count_by-le-length (has_number i) (drop to copies),
+        count_le joint.slots (drop to copies) i,
         length-drop to copies,
         found-le 0 table (places_of done) i,
         table_few,
@@ -61,7 +60,7 @@ module _ (joint : Joint) (kept : IsJoint joint) (puts : List Put) (table : Place
 
 -- ---- the copies that were put
 
-pub begin : (joint : Joint) (openings : List Opening) (copies : List ItemCopy) (laid : List Laid) (held : List (Option Put)) (table : Placed)
+pub begin : (joint : Joint) (openings : List Opening) (copies : List ItemCopy) (laid : List Put) (held : List (Option Put)) (table : Placed)
     → laid ≡ [] → IsHeldFor joint [] held → IsPlaced joint.slots (events_of joint) table → AreLaid joint openings copies laid held table
 begin joint openings copies laid held table none nothing events =
     rw none record {
@@ -72,55 +71,54 @@ begin joint openings copies laid held table none nothing events =
       runs = λ out r. r;
     }
 
-module _ (joint : Joint) (kept : IsJoint joint) (openings : List Opening) (copies : List ItemCopy) (laid : List Laid) (held : List (Option Put)) (table : Placed) (so_far : AreLaid joint openings copies laid held table) where
+module _ (joint : Joint) (kept : IsJoint joint) (openings : List Opening) (copies : List ItemCopy) (laid : List Put) (held : List (Option Put)) (table : Placed) (so_far : AreLaid joint openings copies laid held table) where
   pub placed_here : IsPlacedFor joint table
-  placed_here = placed_for joint kept (events_of joint ++ puts_of laid) table so_far.table_is
+  placed_here = placed_for joint kept (events_of joint ++ laid) table so_far.table_is
 
-  pub end_is : length copies ≤ length laid → FillRun is_reached joint openings copies [] (filled (puts_of laid))
-  end_is past = so_far.runs (filled (puts_of laid)) (rw (drop_all (length laid) copies past) refl)
+  pub end_is : length copies ≤ length laid → FillRun is_reached joint openings copies [] (filled laid)
+  end_is past = so_far.runs (filled laid) (rw (drop_all (length laid) copies past) refl)
 
   module _ (copy : ItemCopy) (within : length laid < length copies) (is : copy ≡ get_or copies (length laid) copy) (w : Places)
       (least : IsLeast (steps_of joint) (in_hand joint (drop (length laid + 1) copies)) table w) where
     rest_is : drop (length laid) copies ≡ copy ∷ drop (length laid + 1) copies
     rest_is = next_copy copies (length laid) copy within is
 
-    numbers_more : take (length laid + 1) (map copy_number copies) ≡ take (length laid) (map copy_number copies) ++ copy.number ∷ []
-    numbers_more =
-        take-map copy_number (length laid + 1) copies ∙ ap (map copy_number) (take_more copies (length laid) copy within) ∙ map_push copy_number (take (length laid) copies) (get_or copies (length laid) copy)
-        ∙ ap₂ (λ ns n. ns ++ n ∷ []) (sym (take-map copy_number (length laid) copies)) (ap copy_number (sym is))
+    abbrev own : ItemCopy → List ℕ
+    own = copy_numbers joint.slots
 
-    pub stuck_here : first_fit (λ s. accepts copy s && w s.place) (puts_of laid) openings ≡ None → FillRun is_reached joint openings copies [] (stuck_with copy)
+    numbers_more : map own (take (length laid + 1) copies) ≡ map own (take (length laid) copies) ++ own copy ∷ []
+    numbers_more = map_more own copies (length laid) copy within ∙ ap (λ c. map own (take (length laid) copies) ++ own c ∷ []) (sym is)
+
+    pub stuck_here : first_fit (λ s. accepts copy s && w s.place) laid openings ≡ None → FillRun is_reached joint openings copies [] (stuck_with copy)
     stuck_here e = so_far.runs (stuck_with copy) (rw rest_is (table, w, so_far.table_is, least, rw e refl))
 
     -- the next copy finds no location
-    pub none_here : first_fit (λ s. accepts copy s && w s.place) (puts_of laid) openings ≡ None → FindsNone joint openings (drop (length laid) copies) (puts_of laid)
+    pub none_here : first_fit (λ s. accepts copy s && w s.place) laid openings ≡ None → FindsNone joint openings (drop (length laid) copies) laid
     none_here e = (copy, drop (length laid + 1) copies, table, w, rest_is, so_far.table_is, least, e)
 
-    pub one_placed : CopyKept joint.slots copy → IsCounted joint.slots copy → All (OpeningKept joint.slots) openings → (opening : Opening) (next : Placed)
-        → first_fit (λ s. accepts copy s && w s.place) (puts_of laid) openings ≡ Some opening
-        → IsPlaced joint.slots ((events_of joint ++ puts_of laid) ++ put_of copy opening ∷ []) next
-        → AreLaid joint openings copies (laid ++ record { put = put_of copy opening; number = copy.number } ∷ []) (set held opening.place (Some (put_of copy opening))) next
-    one_placed copy_kept counted there opening next e placed =
-        let l : Laid = record { put = put_of copy opening; number = copy.number } in
+    pub one_placed : CopyKept joint.slots copy → All (OpeningKept joint.slots) openings → (opening : Opening) (next : Placed)
+        → first_fit (λ s. accepts copy s && w s.place) laid openings ≡ Some opening
+        → IsPlaced joint.slots ((events_of joint ++ laid) ++ put_of copy opening ∷ []) next
+        → AreLaid joint openings copies (laid ++ put_of copy opening ∷ []) (set held opening.place (Some (put_of copy opening))) next
+    one_placed copy_kept there opening next e placed =
+        let l : Put = put_of copy opening in
         let site = find_all (OpeningKept joint.slots) _ openings opening there e in
-        let puts : puts_of (laid ++ l ∷ []) ≡ puts_of laid ++ put_of copy opening ∷ [] = map_push laid_put laid l in
         let long : length (laid ++ l ∷ []) ≡ length laid + 1 = length-append laid (l ∷ []) in
         record {
-          held_is = rw puts (held_next joint copy (λ s. accepts copy s && w s.place) (puts_of laid) openings opening held copy_kept there so_far.held_is e);
-          table_is = rw puts (subst (λ ps. IsPlaced joint.slots ps next) (append_assoc (events_of joint) (puts_of laid) (put_of copy opening ∷ [])) placed);
-          numbers = map_push laid_number laid l ∙ ap (λ ns. ns ++ copy.number ∷ []) so_far.numbers ∙ sym numbers_more ∙ ap (λ k. take k (map copy_number copies)) (sym long);
-          each = All-push (IsLaid joint.slots) laid l so_far.each record { place = site.place; within = copy_kept.number; numbers = counted.numbers };
-          runs = λ out r. so_far.runs out (rw rest_is (table, w, so_far.table_is, least, rw e (rw (puts, long) at r)));
+          held_is = held_next joint copy (λ s. accepts copy s && w s.place) laid openings opening held copy_kept there so_far.held_is e;
+          table_is = subst (λ ps. IsPlaced joint.slots ps next) (append_assoc (events_of joint) laid (l ∷ [])) placed;
+          numbers = map_push (put_numbers joint.slots) laid l ∙ ap (λ ns. ns ++ own copy ∷ []) so_far.numbers ∙ sym numbers_more ∙ ap (λ k. map own (take k copies)) (sym long);
+          each = All-push (IsLaid joint.slots) laid l so_far.each record { place = site.place; numbers = copy_kept.numbers };
+          runs = λ out r. so_far.runs out (rw rest_is (table, w, so_far.table_is, least, rw e (rw long at r)));
         }
 
 -- ---- one half after the other
 
 -- those that were put since a number
-pub since_at : (joint : Joint) (laid : List Laid) (n : ℕ) (table : Placed) → IsPlaced joint.slots (events_of joint ++ puts_of laid) table
-    → IsPlaced joint.slots ((events_of joint ++ puts_of (take n laid)) ++ puts_of (drop n laid)) table
+pub since_at : (joint : Joint) (laid : List Put) (n : ℕ) (table : Placed) → IsPlaced joint.slots (events_of joint ++ laid) table
+    → IsPlaced joint.slots ((events_of joint ++ take n laid) ++ drop n laid) table
 since_at joint laid n table placed =
-    let puts : puts_of laid ≡ puts_of (take n laid) ++ puts_of (drop n laid) = ap puts_of (sym (take-append-drop n laid)) ∙ map-append laid_put (take n laid) (drop n laid) in
-    subst (λ ps. IsPlaced joint.slots ps table) (sym (append_assoc (events_of joint) (puts_of (take n laid)) (puts_of (drop n laid)))) (subst (λ ps. IsPlaced joint.slots (events_of joint ++ ps) table) puts placed)
+    subst (λ ps. IsPlaced joint.slots ps table) (sym (append_assoc (events_of joint) (take n laid) (drop n laid))) (subst (λ ps. IsPlaced joint.slots (events_of joint ++ ps) table) (sym (take-append-drop n laid)) placed)
 
-pub rest_of : (later slice : List Laid) (k from : ℕ) → slice ≡ later → from ≡ k → take (length slice - from) (drop from slice) ≡ drop k later
+pub rest_of : (later slice : List Put) (k from : ℕ) → slice ≡ later → from ≡ k → take (length slice - from) (drop from slice) ≡ drop k later
 rest_of later slice k from same at = rw (same, at) (take_all (length later - k) (drop k later) (omega (arith, length-drop k later)))

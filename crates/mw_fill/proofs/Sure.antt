@@ -15,10 +15,9 @@ use Rattle.mw_reach.specs.Reached.{IsWorkFor}
 use Rattle.mw_reach.proofs.SameLeast.{Closed-less}
 use Rattle.mw_fill.specs.Copies.{ItemCopy}
 use Rattle.mw_fill.specs.Openings.{Opening, accepts}
-use Rattle.mw_fill.specs.Fill.{in_hand, first_fit}
+use Rattle.mw_fill.specs.Fill.{in_hand}
 use Rattle.mw_fill.specs.Kept.{is_open_in}
-use Rattle.mw_fill.specs.Laying.{puts_of, IsLaid, IsSure, FindsAlike}
-use Rattle.mw_fill.specs.declared.laid.Laid.{Laid}
+use Rattle.mw_fill.specs.Laying.{IsLaid, IsSure, FindsAlike}
 use Rattle.mw_fill.proofs.Fitting.{find_passes, held_first}
 use Rattle.mw_fill.proofs.Hands.{in_hand_more}
 use Rattle.mw_fill.proofs.Finding.{found_laid}
@@ -51,9 +50,9 @@ found_by copy held openings opening first w there =
     (λ s e. let parts = and_parts (free s) (accepts copy s && w s.place) e in and_from (free s) (accepts copy s) parts.0 (and_parts (accepts copy s) (w s.place) parts.1).0)
     first (and_from (free opening) (accepts copy opening && w opening.place) here.0 (and_from (accepts copy opening) (w opening.place) here.1 there))
 
-module _ (joint : Joint) (copies : List ItemCopy) (laid : List Laid) (n to : ℕ) (before table : Placed) (places : Places) where
+module _ (joint : Joint) (copies : List ItemCopy) (laid : List Put) (n to : ℕ) (before table : Placed) (places : Places) where
   -- the list with fewer copies in hand, and with the first ones alone where they were put, is part of the next copy's
-  small_part : All (IsLaid joint.slots) laid → IsPlaced joint.slots (events_of joint ++ puts_of (take n laid)) before → IsPlaced joint.slots (events_of joint ++ puts_of laid) table
+  small_part : All (IsLaid joint.slots) laid → IsPlaced joint.slots (events_of joint ++ take n laid) before → IsPlaced joint.slots (events_of joint ++ laid) table
       → length laid + 1 ≤ to → IsLeast (steps_of joint) (in_hand joint (drop to copies)) before places
       → (v : Places) → Closed (steps_of joint) (in_hand joint (drop (length laid + 1) copies)) table v → IsPartOf places v
   small_part each was placed short least v closed =
@@ -61,12 +60,12 @@ module _ (joint : Joint) (copies : List ItemCopy) (laid : List Laid) (n to : ℕ
       (λ i. omega (
         arith,
         in_hand_more joint copies (length laid + 1) to short i,
-        found_laid joint (drop n laid) (events_of joint ++ puts_of (take n laid)) before table (All-drop (IsLaid joint.slots) n laid each) was (since_at joint laid n table placed) v i,
+        found_laid joint (drop n laid) (events_of joint ++ take n laid) before table (All-drop (IsLaid joint.slots) n laid each) was (since_at joint laid n table placed) v i,
       )) closed)
 
   -- so a location that is known by it is the one that the copy's own list finds
   pub sure_alike : (openings : List Opening) (held : List (Option Put)) (work : Work) → IsWorkFor joint work → All (IsLaid joint.slots) laid
-      → IsPlaced joint.slots (events_of joint ++ puts_of (take n laid)) before → IsPlaced joint.slots (events_of joint ++ puts_of laid) table → AreStanding (puts_of laid) held
+      → IsPlaced joint.slots (events_of joint ++ take n laid) before → IsPlaced joint.slots (events_of joint ++ laid) table → AreStanding laid held
       → length laid + 1 ≤ to → IsLeast (steps_of joint) (in_hand joint (drop to copies)) before places → IsSure openings copies laid held places → FindsAlike joint openings copies laid table places
   sure_alike openings held work made each was placed standing short least sure =
       let own = least_list (steps_of joint) (in_hand joint (drop (length laid + 1) copies)) table (place_total joint.slots) (steps_fit joint work made) in
@@ -77,13 +76,13 @@ module _ (joint : Joint) (copies : List ItemCopy) (laid : List Laid) (n to : ℕ
         λ copy is.
             let first = sure copy is in
             let opening = first.0 in
-            sym (held_first (λ s. accepts copy s && w s.place) (puts_of laid) held openings standing)
+            sym (held_first (λ s. accepts copy s && w s.place) laid held openings standing)
             ∙ found_by copy held openings opening first.1 w (part opening.place first.2)
             ∙ sym (found_by copy held openings opening first.1 places first.2)
-            ∙ held_first (λ s. accepts copy s && places s.place) (puts_of laid) held openings standing,
+            ∙ held_first (λ s. accepts copy s && places s.place) laid held openings standing,
       )
 
 -- with the list of its own
-pub own_alike : (joint : Joint) (openings : List Opening) (copies : List ItemCopy) (laid : List Laid) (table : Placed) (places : Places) → IsLeast (steps_of joint) (in_hand joint (drop (length laid + 1) copies)) table places
+pub own_alike : (joint : Joint) (openings : List Opening) (copies : List ItemCopy) (laid : List Put) (table : Placed) (places : Places) → IsLeast (steps_of joint) (in_hand joint (drop (length laid + 1) copies)) table places
     → FindsAlike joint openings copies laid table places
 own_alike joint openings copies laid table places least = (places, least, λ copy is. refl)

@@ -1,5 +1,5 @@
 -- How often rules are asked while copies are put by halves.
-use Rattle.std.specs.Prelude.{ℕ, zero, suc, ◌≡◌, ◌+◌, ◌-◌, ◌*◌, ◌/◌, ◌^◌, ◌≤◌, ◌⊎◌, List, [], ◌∷◌, ◌++◌, None, Bool, Result, MatchResult, drop, length, map, take}
+use Rattle.std.specs.Prelude.{ℕ, zero, suc, ◌≡◌, ◌+◌, ◌-◌, ◌*◌, ◌/◌, ◌^◌, ◌≤◌, ◌⊎◌, List, [], ◌∷◌, ◌++◌, None, Bool, Result, MatchResult, drop, length, take}
 use Rattle.mw_rules.specs.Holds.{Places, places_of}
 use Rattle.mw_multi.specs.Joint.{Joint, place_total}
 use Rattle.mw_multi.specs.Steps.{steps_of}
@@ -7,7 +7,7 @@ use Rattle.mw_multi.specs.Placement.{Put, IsPlaced}
 use Rattle.mw_multi.specs.Events.{events_of}
 use Rattle.mw_reach.specs.Reach.{Placed, bag_with, IsLeast}
 use Rattle.mw_reach.specs.Bound.{asks_allowed, asks_naming, asks_at, new_in}
-use Rattle.mw_fill.specs.Copies.{ItemCopy}
+use Rattle.mw_fill.specs.Copies.{ItemCopy, all_numbers}
 use Rattle.mw_fill.specs.Openings.{Opening, regular}
 use Rattle.mw_fill.specs.Fill.{Outcome, first_fit, in_hand, is_reached, FillRun}
 use Rattle.mw_fill.specs.Answer.{OnStuck}
@@ -50,16 +50,13 @@ asks_of_levels joint tables lists (suc levels) from to =
     + (asks_of_levels joint tables lists levels from middle
     + asks_of_levels joint tables lists levels middle to)
 
--- the numbers over all slots
-abbrev pub all_numbers : List ItemCopy → List ℕ
-all_numbers copies = map (λ copy. copy.number) copies
-
--- the asks of a fill: those for its first list; at each level each rule once for each copy whose item it names, in hand for
--- one half or found where it was put for the other; and those for the places that are new in the lists of the halves
+-- the asks of a fill: those for its first list; at each level each rule once for each owner of each copy whose item it
+-- names, in hand for one half or found where it was put for the other; and those for the places that are new in the lists
+-- of the halves
 abbrev pub asks_of_fill : Joint → List ItemCopy → (ℕ → Placed) → (ℕ → ℕ → List Bool) → ℕ → ℕ
 asks_of_fill joint copies tables lists levels =
     asks_allowed (steps_of joint) (tables 0) (lists 0 (length copies))
-    + (levels * asks_naming (steps_of joint) (all_numbers copies)
+    + (levels * asks_naming (steps_of joint) (all_numbers joint.slots copies)
     + asks_of_levels joint tables lists levels 0 (length copies))
 
 -- the next of these copies finds no location: with the later ones in hand, none that is free and accepts it is reached

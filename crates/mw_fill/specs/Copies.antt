@@ -1,22 +1,22 @@
 -- The copies of the pools, and where each may stand.
-use Rattle.std.specs.Prelude.{ℕ, ◌+◌, ◌==◌, List, [], Option, Some, None, Bool, true, false, ◌&&◌, count_by, flat_map, length, nat_lt, replicate, slice_get, slice_index_or, if◌then◌else◌}
+use Rattle.std.specs.Prelude.{ℕ, List, [], Option, Some, None, Bool, true, false, ◌&&◌, flat_map, length, nat_lt, replicate, slice_get, slice_index_or, if◌then◌else◌}
 use Rattle.mw_multi.specs.World.{Item, PoolEntry}
 use Rattle.mw_multi.specs.RulesKept.{is_progression}
 use Rattle.mw_multi.specs.Joint.{Slot, Joint}
 use Rattle.mw_multi.specs.declared.item.Class.{Class}
 use Rattle.mw_multi.specs.declared.item.Class.TheVariants.{Progression, Useful, Filler, Trap}
 use Rattle.mw_multi.specs.Numbered.{each_numbered}
+use Rattle.mw_multi.specs.Placement.{slot_at, numbers_of}
+use Rattle.mw_reach.specs.Reach.{times_in}
 use Rattle.mw_fill.specs.declared.group.Group.{Group}
 use Rattle.mw_fill.specs.declared.group.Group.TheVariants.{Asked, Helping, Filling}
 use Rattle.mw_fill.specs.declared.locality.Locality.{Locality}
 use Rattle.mw_fill.specs.declared.locality.Locality.TheVariants.{Anywhere, AtHome, Abroad}
 
--- a copy of an item: its receiver's number, the item's index in the receiver's world and its number over all slots, and
--- where it may stand
+-- a copy of an item: its receiver's number, the item's index in the receiver's world, and where it may stand
 pub record ItemCopy : Type 0 where
   pub receiver : ℕ
   pub item : ℕ
-  pub number : ℕ
   pub locality : Locality
 
 abbrev pub is_useful : Class → Bool
@@ -51,7 +51,6 @@ abbrev pub copy_of : Bool → ℕ → Slot → ℕ → ItemCopy
 copy_of many number s item = record {
   receiver = number;
   item = item;
-  number = s.first_item + item;
   locality = locality_of many (slice_index_or s.local_items item false)
       (slice_index_or s.non_local_items item false);
 }
@@ -74,10 +73,16 @@ has_others joint = nat_lt 1 (length joint.slots)
 abbrev pub copies_of : Group → Joint → List ItemCopy
 copies_of group joint = each_numbered (slot_copies group (has_others joint)) 1 joint.slots
 
--- the copy is of the item with this number over all slots
-abbrev pub has_number : ℕ → ItemCopy → Bool
-has_number n copy = copy.number == n
+-- ---- numbers over all slots
 
--- how many of these copies are of it
-abbrev pub copies_count : List ItemCopy → ℕ → ℕ
-copies_count copies n = count_by (has_number n) copies
+-- the numbers over all slots of the copy's item, one for each owner of its receiver; none where it is no progression item
+abbrev pub copy_numbers : List Slot → ItemCopy → List ℕ
+copy_numbers slots copy = numbers_of (slot_at slots copy.receiver) copy.item
+
+-- those of these copies, copy by copy
+abbrev pub all_numbers : List Slot → List ItemCopy → List ℕ
+all_numbers slots copies = flat_map (copy_numbers slots) copies
+
+-- how many of the item with this number these copies are, each once for each owner of its receiver
+abbrev pub copies_count : List Slot → List ItemCopy → ℕ → ℕ
+copies_count slots copies n = times_in n (all_numbers slots copies)

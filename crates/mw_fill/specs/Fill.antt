@@ -36,9 +36,9 @@ stuck_with copy = stuck copy.receiver copy.item
 
 -- ---- where it can be reached
 
--- the starting items and these copies
+-- the starting items and these copies, each once for each owner of its receiver
 abbrev pub in_hand : Joint → List ItemCopy → Bag
-in_hand joint copies n = start_count joint.slots n + copies_count copies n
+in_hand joint copies n = start_count joint.slots n + copies_count joint.slots copies n
 
 -- what is asked of a location for a copy, by the items in hand and found and by the places reached
 abbrev pub Test : Type 0

@@ -1,20 +1,16 @@
 -- For proofs alone: what copies and locations of a joint keep, and what is put in the midst of a fill.
-use Rattle.std.specs.Prelude.{ℕ, ◌≡◌, ◌<◌, List, [], ◌∷◌, Option, None, Bool, true, false, ◌&&◌, All, is_none, is_some, length, slice_index_or}
+use Rattle.std.specs.Prelude.{ℕ, ◌≡◌, ◌<◌, List, Option, None, Bool, true, false, ◌&&◌, All, is_none, is_some, length, slice_index_or}
 use Rattle.mw_multi.specs.Joint.{Slot, Joint, place_total, item_total}
-use Rattle.mw_multi.specs.Placement.{Put, PutKept, AreStanding, site_at, item_at, slot_at, numbers_of}
+use Rattle.mw_multi.specs.Placement.{Put, PutKept, AreStanding, site_at, item_at}
 use Rattle.mw_multi.specs.Events.{has_no_event}
-use Rattle.mw_fill.specs.Copies.{ItemCopy}
+use Rattle.mw_fill.specs.Copies.{ItemCopy, copy_numbers}
 use Rattle.mw_fill.specs.Openings.{Opening}
 use Rattle.mw_fill.specs.Try.{or_filler}
 
--- the item is one of its receiver's world, and its number one of the joint's
+-- the item is one of its receiver's world, and its numbers are the joint's
 pub record CopyKept (slots : List Slot) (copy : ItemCopy) : Type 0 where
   pub item : is_some (item_at slots copy.receiver copy.item) ≡ true
-  pub number : copy.number < item_total slots
-
--- the copy is one that counts, by its number
-pub record IsCounted (slots : List Slot) (copy : ItemCopy) : Type 0 where
-  pub numbers : numbers_of (slot_at slots copy.receiver) copy.item ≡ copy.number ∷ []
+  pub numbers : All (λ n. n < item_total slots) (copy_numbers slots copy)
 
 -- the place is a location of the joint that has no event, and the filler is an item of its slot's world
 pub record OpeningKept (slots : List Slot) (opening : Opening) : Type 0 where

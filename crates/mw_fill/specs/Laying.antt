@@ -1,5 +1,5 @@
 -- For proofs alone: the copies that were put, in the order of the run.
-use Rattle.std.specs.Prelude.{ℕ, ◌≡◌, ◌<◌, ◌≤◌, ◌+◌, ◌-◌, ◌*◌, ◌^◌, ◌++◌, ◌&&◌, List, [], ◌∷◌, Option, Some, Bool, true, All, drop, filter, find, length, map, slice_index_or, take}
+use Rattle.std.specs.Prelude.{ℕ, ◌≡◌, ◌<◌, ◌≤◌, ◌+◌, ◌-◌, ◌*◌, ◌^◌, ◌++◌, ◌&&◌, List, [], Option, Some, Bool, true, All, drop, filter, find, flat_map, length, map, slice_index_or, take}
 use Rattle.mw_rules.specs.Holds.{Places}
 use Rattle.mw_multi.specs.Joint.{Slot, Joint, place_total, item_total}
 use Rattle.mw_multi.specs.Steps.{steps_of}
@@ -7,63 +7,60 @@ use Rattle.mw_multi.specs.Placement.{Put, put_numbers, IsPlaced}
 use Rattle.mw_multi.specs.Events.{events_of}
 use Rattle.mw_reach.specs.Reach.{Placed, IsLeast}
 use Rattle.mw_reach.specs.Bound.{asks_naming, asks_at, new_in}
-use Rattle.mw_fill.specs.Copies.{ItemCopy}
+use Rattle.mw_fill.specs.Copies.{ItemCopy, copy_numbers, all_numbers}
 use Rattle.mw_fill.specs.Openings.{Opening, accepts}
 use Rattle.mw_fill.specs.Fill.{Outcome, first_fit, in_hand, is_reached, FillRun}
 use Rattle.mw_fill.specs.Asks.{AreLists, asks_of_levels}
-use Rattle.mw_fill.specs.Kept.{CopyKept, IsCounted, OpeningKept, IsHeldFor, AreTaken, is_open_in}
-use Rattle.mw_fill.specs.declared.laid.Laid.{Laid}
+use Rattle.mw_fill.specs.Kept.{CopyKept, OpeningKept, IsHeldFor, AreTaken, is_open_in}
 use Rattle.mw_fill.specs.declared.laying.Laying.{Laying}
 
-abbrev pub copy_number : ItemCopy → ℕ
-copy_number copy = copy.number
-
-abbrev pub laid_put : Laid → Put
-laid_put l = l.put
-
-abbrev pub laid_number : Laid → ℕ
-laid_number l = l.number
-
-abbrev pub puts_of : List Laid → List Put
-puts_of laid = map laid_put laid
-
 -- it lies at a place of the list
-abbrev pub lies_in : Places → Laid → Bool
-lies_in w l = w l.put.place
+abbrev pub lies_in : Places → Put → Bool
+lies_in w put = w put.place
 
--- the numbers of those that lie at places of the list
-abbrev pub numbers_found : Places → List Laid → List ℕ
-numbers_found w laid = map laid_number (filter (lies_in w) laid)
+-- the numbers of those that lie at places of the list, one for each owner of each
+abbrev pub numbers_found : List Slot → Places → List Put → List ℕ
+numbers_found slots w laid = flat_map (put_numbers slots) (filter (lies_in w) laid)
 
--- it is at a place of the joint, and its number is one of the joint's and the one that counts
-pub record IsLaid (slots : List Slot) (l : Laid) : Type 0 where
-  pub place : l.put.place < place_total slots
-  pub within : l.number < item_total slots
-  pub numbers : put_numbers slots l.put ≡ l.number ∷ []
+-- it is at a place of the joint, and its numbers are the joint's
+pub record IsLaid (slots : List Slot) (put : Put) : Type 0 where
+  pub place : put.place < place_total slots
+  pub numbers : All (λ n. n < item_total slots) (put_numbers slots put)
 
--- copies, with their numbers over all slots, and locations of the joint
-pub record AreOrdered (slots : List Slot) (copies : List ItemCopy) (numbers : List ℕ)
+-- for each copy where its numbers begin among those of all, and last where they end
+pub record AreBegins (slots : List Slot) (copies : List ItemCopy) (begins : List ℕ) : Type 0 where
+  pub size : length begins ≡ length copies + 1
+  pub each : (k d : ℕ) → k ≤ length copies
+      → slice_index_or begins k d ≡ length (all_numbers slots (take k copies))
+
+-- copies, with their numbers over all slots and where those of each begin, and locations of the joint
+pub record AreOrdered (slots : List Slot) (copies : List ItemCopy) (numbers begins : List ℕ)
     (openings : List Opening) : Type 0 where
   pub copies_kept : All (CopyKept slots) copies
-  pub counted : All (IsCounted slots) copies
   pub few : length copies ≤ 10240000
-  pub numbers_are : numbers ≡ map copy_number copies
+  pub numbers_are : numbers ≡ all_numbers slots copies
+  pub begins_are : AreBegins slots copies begins
   pub openings_kept : All (OpeningKept slots) openings
 
+-- the copies that were put have the numbers of the first copies
+abbrev pub AreFirst : List Slot → List ItemCopy → List Put → Type 0
+AreFirst slots copies laid =
+    map (put_numbers slots) laid ≡ map (copy_numbers slots) (take (length laid) copies)
+
 -- the first copies were put where the run puts them: what it gives from there on, the whole run gives
-abbrev pub RunsOn : Joint → List Opening → List ItemCopy → List Laid → Type 0
+abbrev pub RunsOn : Joint → List Opening → List ItemCopy → List Put → Type 0
 RunsOn joint openings copies laid =
     (out : Outcome)
-    → FillRun is_reached joint openings (drop (length laid) copies) (puts_of laid) out
+    → FillRun is_reached joint openings (drop (length laid) copies) laid out
     → FillRun is_reached joint openings copies [] out
 
--- the first copies were put, each with its number, where the run puts them
+-- the first copies were put where the run puts them
 pub record AreLaid (joint : Joint) (openings : List Opening) (copies : List ItemCopy)
-    (laid : List Laid) (held : List (Option Put)) (table : Placed) : Type 0 where
-  pub held_is : IsHeldFor joint (puts_of laid) held
-  pub table_is : IsPlaced joint.slots (events_of joint ++ puts_of laid) table
+    (laid : List Put) (held : List (Option Put)) (table : Placed) : Type 0 where
+  pub held_is : IsHeldFor joint laid held
+  pub table_is : IsPlaced joint.slots (events_of joint ++ laid) table
   pub each : All (IsLaid joint.slots) laid
-  pub numbers : map laid_number laid ≡ take (length laid) (map copy_number copies)
+  pub numbers : AreFirst joint.slots copies laid
   pub runs : RunsOn joint openings copies laid
 
 -- the same of what was put so far
@@ -77,26 +74,26 @@ pub record IsPast (openings : List Opening) (laying : Laying) : Type 0 where
   pub taken : AreTaken laying.held.items openings laying.from
 
 -- the first location that is free and accepts the next copy is in the list
-abbrev pub IsSure : List Opening → List ItemCopy → List Laid → List (Option Put) → Places → Type 0
+abbrev pub IsSure : List Opening → List ItemCopy → List Put → List (Option Put) → Places → Type 0
 IsSure openings copies laid held places =
     (copy : ItemCopy) → copy ≡ slice_index_or copies (length laid) copy
     → (opening : Opening) × (find (is_open_in (accepts copy) held) openings ≡ Some opening)
     × (places opening.place ≡ true)
 
 -- the next copy finds the same location by this list as by its own
-abbrev pub FindsAlike : Joint → List Opening → List ItemCopy → List Laid → Placed → Places → Type 0
+abbrev pub FindsAlike : Joint → List Opening → List ItemCopy → List Put → Placed → Places → Type 0
 FindsAlike joint openings copies laid table places =
     (w : Places)
     × IsLeast (steps_of joint) (in_hand joint (drop (length laid + 1) copies)) table w
     × ((copy : ItemCopy) → copy ≡ slice_index_or copies (length laid) copy
-    → first_fit (λ s. accepts copy s && w s.place) (puts_of laid) openings
-    ≡ first_fit (λ s. accepts copy s && places s.place) (puts_of laid) openings)
+    → first_fit (λ s. accepts copy s && w s.place) laid openings
+    ≡ first_fit (λ s. accepts copy s && places s.place) laid openings)
 
 -- ---- asks
 
--- the numbers over all slots of the copies from one to another
-abbrev pub numbers_between : List ItemCopy → ℕ → ℕ → List ℕ
-numbers_between copies from to = take (to - from) (drop from (map copy_number copies))
+-- the numbers over all slots of the copies from one to another, one for each owner of each
+abbrev pub numbers_between : List Slot → List ItemCopy → ℕ → ℕ → List ℕ
+numbers_between slots copies from to = all_numbers slots (take (to - from) (drop from copies))
 
 -- what it costs to go on from one list to another with these items more
 abbrev pub asks_more : Joint → Placed → List ℕ → List Bool → List Bool → ℕ
@@ -107,33 +104,34 @@ asks_more joint table more before later =
 abbrev pub asks_of_range : Joint → List ItemCopy → (ℕ → Placed) → (ℕ → ℕ → List Bool) → ℕ → ℕ → ℕ
     → ℕ
 asks_of_range joint copies tables lists levels from to =
-    levels * asks_naming (steps_of joint) (numbers_between copies from to)
+    levels * asks_naming (steps_of joint) (numbers_between joint.slots copies from to)
     + asks_of_levels joint tables lists levels from to
 
 -- between two counts lie no more asks than those within a range, whatever is put after those that were put
-abbrev pub RangeWithin : Joint → List ItemCopy → List Laid → ℕ → ℕ → ℕ → ℕ → Type 0
+abbrev pub RangeWithin : Joint → List ItemCopy → List Put → ℕ → ℕ → ℕ → ℕ → Type 0
 RangeWithin joint copies laid from to before after =
     (levels : ℕ) (puts : List Put) (tables : ℕ → Placed) (lists : ℕ → ℕ → List Bool)
-    → to ≤ from + 2 ^ levels → take (length laid) puts ≡ puts_of laid
+    → to ≤ from + 2 ^ levels → take (length laid) puts ≡ laid
     → AreLists joint copies puts tables lists
     → after ≤ before + asks_of_range joint copies tables lists levels from to
 
 -- the asks within the first half of a range, with those for its list; the whole's list was there
-abbrev pub FirstWithin : Joint → List ItemCopy → List Laid → ℕ → ℕ → ℕ → ℕ → ℕ → Type 0
+abbrev pub FirstWithin : Joint → List ItemCopy → List Put → ℕ → ℕ → ℕ → ℕ → ℕ → Type 0
 FirstWithin joint copies laid from middle to before after =
     (levels : ℕ) (puts : List Put) (tables : ℕ → Placed) (lists : ℕ → ℕ → List Bool)
-    → middle ≤ from + 2 ^ levels → take (length laid) puts ≡ puts_of laid
+    → middle ≤ from + 2 ^ levels → take (length laid) puts ≡ laid
     → AreLists joint copies puts tables lists
-    → after ≤ before + (asks_naming (steps_of joint) (numbers_between copies middle to)
+    → after ≤ before + (asks_naming (steps_of joint) (numbers_between joint.slots copies middle to)
     + asks_at (steps_of joint) (tables from) (new_in (lists from to) (lists from middle)))
     + asks_of_range joint copies tables lists levels from middle
 
 -- the same of the second half
-abbrev pub SecondWithin : Joint → List ItemCopy → List Laid → ℕ → ℕ → ℕ → ℕ → ℕ → Type 0
+abbrev pub SecondWithin : Joint → List ItemCopy → List Put → ℕ → ℕ → ℕ → ℕ → ℕ → Type 0
 SecondWithin joint copies laid from middle to before after =
     (levels : ℕ) (puts : List Put) (tables : ℕ → Placed) (lists : ℕ → ℕ → List Bool)
-    → to ≤ middle + 2 ^ levels → take (length laid) puts ≡ puts_of laid
+    → to ≤ middle + 2 ^ levels → take (length laid) puts ≡ laid
     → AreLists joint copies puts tables lists
-    → after ≤ before + (asks_naming (steps_of joint) (numbers_between copies from middle)
+    → after ≤ before
+    + (asks_naming (steps_of joint) (numbers_between joint.slots copies from middle)
     + asks_at (steps_of joint) (tables middle) (new_in (lists from to) (lists middle to)))
     + asks_of_range joint copies tables lists levels middle to

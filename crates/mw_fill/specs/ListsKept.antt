@@ -1,13 +1,12 @@
 -- For proofs alone: what the lists of a try keep.
 use Rattle.std.specs.Prelude.{◌≤◌, List, All, length}
 use Rattle.mw_multi.specs.Joint.{Slot}
-use Rattle.mw_fill.specs.Kept.{CopyKept, IsCounted, OpeningKept}
+use Rattle.mw_fill.specs.Kept.{CopyKept, OpeningKept}
 use Rattle.mw_fill.specs.Try.{Lists}
 
 -- the copies and the locations are the joint's
 pub record AreKept (slots : List Slot) (lists : Lists) : Type 0 where
   pub asked : All (CopyKept slots) lists.asked
-  pub counted : All (IsCounted slots) lists.asked
   pub few : length lists.asked ≤ 10240000
   pub openings : All (OpeningKept slots) lists.openings
   pub helping : All (CopyKept slots) lists.helping

@@ -1,4 +1,4 @@
-ghost use Rattle.std.specs.Prelude.{◌≡◌, ◌<◌, ◌≤◌, ◌++◌, [], List, All, IfOk, IfErr, OnOk, MatchResult, drop, length, map, take};
+ghost use Rattle.std.specs.Prelude.{◌≡◌, ◌<◌, ◌≤◌, ◌++◌, [], List, All, IfErr, OnOk, MatchResult, drop, length, take};
 ghost use Rattle.mw_multi.specs.Placement as plain;
 ghost use Rattle.mw_multi.specs.Placement.{IsPlaced};
 ghost use Rattle.mw_multi.specs.Steps.{rule_list};
@@ -7,15 +7,16 @@ ghost use Rattle.mw_reach.specs.Reach.{Placed};
 ghost use Rattle.mw_reach.specs.Reached.{IsMadeFor, HasLeast, counts_in, flags_in};
 ghost use Rattle.mw_fill.specs.Fill.{filled, stuck, in_hand, is_reached, FillRun};
 ghost use Rattle.mw_fill.specs.Asks.{AsksWithin, FindsNone};
-ghost use Rattle.mw_fill.specs.Kept.{CopyKept, IsCounted, OpeningKept, IsHeldFor};
-ghost use Rattle.mw_fill.specs.Laying.{copy_number, IsLaid, RunsOn, AreOrdered, IsLaying, IsPast, RangeWithin, FirstWithin, SecondWithin, puts_of};
+ghost use Rattle.mw_fill.specs.Kept.{CopyKept, OpeningKept, IsHeldFor};
+ghost use Rattle.mw_fill.specs.Laying.{IsLaid, RunsOn, AreOrdered, IsLaying, IsPast, RangeWithin, FirstWithin, SecondWithin};
 ghost use Rattle.mw_fill.specs.Answer.{OnStuck};
 
 use crate::error::FillError;
 use crate::item_copy::ItemCopy;
-use crate::laying::{Laying, Order};
+use crate::laying::Laying;
 use crate::opening::Opening;
-use mw_base::{List, Memory};
+use crate::order::Order;
+use crate::owned::owned_of;
 use mw_multi::{Bag, Joint, Put};
 use mw_reach::{Reached, reach_by};
 use mw_rules::{Ruling, Steps};
@@ -40,7 +41,7 @@ fn place_first<R: Ruling, L: Ledger>(
 ) -> Result<(), FillError>
     requires rules { R.stands_for rules.now (rule_list joint.now) }
     requires order { AreOrdered joint.now.slots order.now.copies.now order.now.numbers.now
-        order.now.openings.now }
+        order.now.begins.now order.now.openings.now }
     requires range { (length laying.old.laid < middle) × (middle ≤ to)
         × (to ≤ length order.now.copies.now) }
     requires laid { IsLaying joint.now order.now.openings.now order.now.copies.now laying.old }
@@ -63,7 +64,7 @@ fn place_first<R: Ruling, L: Ledger>(
         order.now.copies.now [] (stuck slot item))) }
     ensures none { IfErr result (λ e. OnStuck e (λ slot item. FindsNone joint.now
         order.now.openings.now (drop (length laying.new.laid) order.now.copies.now)
-        (puts_of laying.new.laid))) }
+        laying.new.laid)) }
     ensures steps { FirstWithin joint.now order.now.copies.now laying.new.laid
         (length laying.old.laid) middle to steps.old steps.new }
 {
@@ -95,7 +96,7 @@ fn place_second<R: Ruling, L: Ledger>(
 ) -> Result<(), FillError>
     requires rules { R.stands_for rules.now (rule_list joint.now) }
     requires order { AreOrdered joint.now.slots order.now.copies.now order.now.numbers.now
-        order.now.openings.now }
+        order.now.begins.now order.now.openings.now }
     requires range { (from ≤ length laying.old.laid) × (length laying.old.laid < to)
         × (to ≤ length order.now.copies.now) }
     requires laid { IsLaying joint.now order.now.openings.now order.now.copies.now laying.old }
@@ -103,7 +104,7 @@ fn place_second<R: Ruling, L: Ledger>(
     requires made { IsMadeFor joint.now reached.old }
     requires least { (before : Placed)
         × IsPlaced joint.now.slots
-        (events_of joint.now ++ puts_of (take from laying.old.laid)) before
+        (events_of joint.now ++ take from laying.old.laid) before
         × HasLeast joint.now (in_hand joint.now (drop to order.now.copies.now)) before
         reached.old }
     ensures made { IsMadeFor joint.now reached.new }
@@ -119,7 +120,7 @@ fn place_second<R: Ruling, L: Ledger>(
         order.now.copies.now [] (stuck slot item))) }
     ensures none { IfErr result (λ e. OnStuck e (λ slot item. FindsNone joint.now
         order.now.openings.now (drop (length laying.new.laid) order.now.copies.now)
-        (puts_of laying.new.laid))) }
+        laying.new.laid)) }
     ensures steps { SecondWithin joint.now order.now.copies.now laying.new.laid from
         (length laying.old.laid) to steps.old steps.new }
 {
@@ -128,7 +129,7 @@ fn place_second<R: Ruling, L: Ledger>(
     if laying.is_sure(order, to, reached) {
         return laying.put_next(joint, order, reached);
     }
-    laying.find_from(alloc, joint, rules, from, reached, steps)?;
+    laying.find_from(alloc, joint, rules, order, from, reached, steps)?;
     place_range(alloc, joint, rules, order, to, laying, reached, steps)
 }
 
@@ -150,7 +151,7 @@ fn place_range<R: Ruling, L: Ledger>(
 ) -> Result<(), FillError>
     requires rules { R.stands_for rules.now (rule_list joint.now) }
     requires order { AreOrdered joint.now.slots order.now.copies.now order.now.numbers.now
-        order.now.openings.now }
+        order.now.begins.now order.now.openings.now }
     requires range { (length laying.old.laid ≤ to) × (to ≤ length order.now.copies.now) }
     requires laid { IsLaying joint.now order.now.openings.now order.now.copies.now laying.old }
     requires past { IsPast order.now.openings.now laying.old }
@@ -170,7 +171,7 @@ fn place_range<R: Ruling, L: Ledger>(
         order.now.copies.now [] (stuck slot item))) }
     ensures none { IfErr result (λ e. OnStuck e (λ slot item. FindsNone joint.now
         order.now.openings.now (drop (length laying.new.laid) order.now.copies.now)
-        (puts_of laying.new.laid))) }
+        laying.new.laid)) }
     ensures steps { RangeWithin joint.now order.now.copies.now laying.new.laid
         (length laying.old.laid) to steps.old steps.new }
 {
@@ -190,17 +191,6 @@ fn place_range<R: Ruling, L: Ledger>(
     place_second(alloc, joint, rules, order, from, to, laying, reached, steps)
 }
 
-/// The copies' numbers over all slots.
-fn numbers_of(alloc: Global, copies: &[ItemCopy]) -> Result<List<u32>, Memory>
-    ensures { IfOk result (λ numbers. numbers ≡ map copy_number copies.now) }
-{
-    let mut numbers = List::new(alloc);
-    for copy in copies {
-        numbers.push(copy.number)?;
-    }
-    Ok(numbers)
-}
-
 /// Puts each copy in order at the first of the locations that is free, accepts it and can be reached with the starting items
 /// and the later copies, and gives for each place what stands there.
 pub(crate) fn place_asked<R: Ruling, L: Ledger>(
@@ -214,7 +204,6 @@ pub(crate) fn place_asked<R: Ruling, L: Ledger>(
 ) -> Result<Vec<Option<Put>>, FillError>
     requires rules { R.stands_for rules.now (rule_list joint.now) }
     requires copies { All (CopyKept joint.now.slots) copies.now }
-    requires counted { All (IsCounted joint.now.slots) copies.now }
     requires few { length copies.now ≤ 10240000 }
     requires openings { All (OpeningKept joint.now.slots) openings.now }
     requires reached { IsMadeFor joint.now reached.old }
@@ -230,11 +219,11 @@ pub(crate) fn place_asked<R: Ruling, L: Ledger>(
     let _ = &joint.slots;
     let start = Bag::starting(alloc, joint)?;
     let mut laying = Laying::new(alloc, joint)?;
-    let numbers = numbers_of(alloc, copies)?;
-    let numbers = numbers.as_slice();
+    let owned = owned_of(alloc, joint, copies)?;
     let order = Order {
         copies,
-        numbers,
+        numbers: owned.numbers.as_slice(),
+        begins: owned.begins.as_slice(),
         openings,
     };
     reach_by(joint, rules, &start, &laying.placed, reached, steps);

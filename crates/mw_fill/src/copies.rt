@@ -1,4 +1,4 @@
-ghost use Rattle.std.specs.Prelude.{◌≡◌, ◌<◌, ◌≤◌, ◌+◌, ◌*◌, ◌^◌, ◌++◌, All, IfOk, OnOk, length, replicate};
+ghost use Rattle.std.specs.Prelude.{◌≡◌, ◌<◌, ◌≤◌, ◌*◌, ◌++◌, All, IfOk, OnOk, length, replicate};
 ghost use Rattle.mw_multi.specs.Joint.{slot_items};
 ghost use Rattle.mw_fill.specs.Kept.{CopyKept};
 ghost use Rattle.mw_fill.specs.Copies as plain;
@@ -14,7 +14,6 @@ use std::alloc::Global;
 /// A copy of an item of the slot of this number; `many` says whether there are other slots.
 fn copy_of(many: bool, number: u16, slot: &Slot, item: u32) -> ItemCopy
     requires item { item < slot_items slot.now }
-    requires fits { slot.now.first_item + slot_items slot.now < 2 ^ 32 }
     ensures { result ≡ plain.copy_of many number slot.now item }
 {
     let local = slot.local_items.as_slice()[item as usize];
@@ -22,7 +21,6 @@ fn copy_of(many: bool, number: u16, slot: &Slot, item: u32) -> ItemCopy
     ItemCopy {
         receiver: number,
         item,
-        number: slot.first_item + item,
         locality: Locality::of(many, local, non_local),
     }
 }
@@ -47,7 +45,6 @@ fn push_entry(
     entry: PoolEntry,
 ) -> Result<(), Memory>
     requires item { entry.item < slot_items slot.now }
-    requires fits { slot.now.first_item + slot_items slot.now < 2 ^ 32 }
     ensures { OnOk result (copies.new ≡ copies.old
         ++ entry_copies group many number slot.now entry) }
 {
@@ -67,7 +64,6 @@ fn push_slot(
     number: u16,
     slot: &Slot,
 ) -> Result<(), Memory>
-    requires fits { slot.now.first_item + slot_items slot.now < 2 ^ 32 }
     ensures { OnOk result (copies.new ≡ copies.old ++ slot_copies group many number slot.now) }
 {
     let world = slot.world;

@@ -11,8 +11,6 @@ pub(crate) struct ItemCopy {
     pub receiver: u16,
     /// The item's index in the receiver's world, from 0.
     pub item: u32,
-    /// The item's number over all slots.
-    pub number: u32,
     /// Where it may stand.
     pub locality: Locality,
 }
@@ -25,14 +23,12 @@ impl Model for ItemCopy {
     ghost view = { λ c. record {
       receiver = c.receiver;
       item = c.item;
-      number = c.number;
       locality = c.locality;
     } };
 
     ghost inverse = { λ c. record {
       receiver = c.receiver;
       item = c.item;
-      number = c.number;
       locality = c.locality;
     } };
 }

@@ -6,22 +6,13 @@ ghost use Rattle.mw_fill.specs.Kept.{IsHeldFor, AreTaken, is_open_in};
 use crate::anywhere::first_accepting;
 use crate::error::FillError;
 use crate::item_copy::ItemCopy;
-use crate::laid::Laid;
 use crate::opening::Opening;
+use crate::order::Order;
 use crate::taken::past_taken;
 use mw_base::{List, Memory};
 use mw_multi::{Joint, Placed, Put};
 use mw_reach::Reached;
 use std::alloc::Global;
-
-/// Copies to be put in this order, and the locations to put them at.
-#[derive(Clone, Copy)]
-pub(crate) struct Order<'a> {
-    pub copies: &'a [ItemCopy],
-    /// The copies' numbers over all slots.
-    pub numbers: &'a [u32],
-    pub openings: &'a [Opening],
-}
 
 /// What was put so far.
 #[derive(Drop)]
@@ -33,7 +24,7 @@ pub(crate) struct Laying {
     /// For each place, what stands there for reach, with the events.
     pub placed: Placed,
     /// The copies that were put, in their order.
-    pub laid: List<Laid>,
+    pub laid: List<Put>,
 }
 
 /// The first of the locations that is free, accepts the copy and is reached.
@@ -88,7 +79,7 @@ impl Laying {
     ghost use Rattle.mw_fill.specs.Openings.{Opening};
     ghost use Rattle.mw_fill.specs.Fill.{stuck, is_reached, FillRun};
     ghost use Rattle.mw_fill.specs.Asks.{FindsNone};
-    ghost use Rattle.mw_fill.specs.Laying.{puts_of, IsLaid, RunsOn, AreOrdered, IsLaying, IsPast, IsSure, FindsAlike};
+    ghost use Rattle.mw_fill.specs.Laying.{IsLaid, RunsOn, AreOrdered, IsLaying, IsPast, IsSure, FindsAlike};
     ghost use Rattle.mw_fill.specs.Answer.{OnStuck};
 
     /// The events alone; `Memory` where memory ran out.
@@ -138,7 +129,7 @@ impl Laying {
         reached: &Reached,
     ) -> Result<(), FillError>
         requires order { AreOrdered joint.now.slots order.now.copies.now order.now.numbers.now
-            order.now.openings.now }
+            order.now.begins.now order.now.openings.now }
         requires next { length self.old.laid < length order.now.copies.now }
         requires laid { IsLaying joint.now order.now.openings.now order.now.copies.now self.old }
         requires past { IsPast order.now.openings.now self.old }
@@ -156,7 +147,7 @@ impl Laying {
             order.now.copies.now [] (stuck slot item))) }
         ensures none { IfErr result (λ e. OnStuck e (λ slot item. FindsNone joint.now
             order.now.openings.now (drop (length self.new.laid) order.now.copies.now)
-            (puts_of self.new.laid))) }
+            self.new.laid)) }
     {
         // Reading the joint makes known what its type keeps.
         let _ = &joint.slots;
@@ -169,8 +160,7 @@ impl Laying {
             Some(opening) => {
                 let put = copy.put_at(&opening);
                 self.placed.put(joint, put)?;
-                let number = copy.number;
-                self.laid.push(Laid { put, number })?;
+                self.laid.push(put)?;
                 let held = self.held.as_mut_slice();
                 held[opening.place as usize] = Some(put);
                 Ok(())

@@ -1,11 +1,9 @@
-use Rattle.std.proofs.Common.{◌∙◌, subst}
+use Rattle.std.proofs.Common.{arith, subst}
 use Rattle.std.specs.Prelude.{Ok}
-use Rattle.std.proofs.lemmas.List.{length-map}
 use Rattle.mw_multi.specs.Joint.{IsJoint}
 use Rattle.mw_reach.specs.Reached.{counts_in, flags_in}
-use Rattle.mw_fill.specs.Laying.{laid_put}
 use Rattle.mw_fill.proofs.Asked.{whole_within, ends_there}
-use Rattle.mw_fill.proofs.Runs.{first_list, placed_here}
+use Rattle.mw_fill.proofs.Runs.{first_list, placed_here, end_is}
 use Rattle.mw_fill.proofs.assumed.place_asked.Goals as goal
 
 pub reach_by-requires-clause-placed : goal.reach_by-requires-clause-placed
@@ -21,6 +19,14 @@ pub place_range-requires-clause-least : goal.place_range-requires-clause-least
 place_range-requires-clause-least g c =
     let into = c.reach_by.new.into in
     first_list c.args.joint.now c.args.copies.now c.in_ok-start.start c.in_ok-laying.laying.placed (flags_in into) (counts_in into) c.in_ok-start.ensures record { least = c.reach_by.ensures.least; tally = c.reach_by.ensures.counts }
+
+pub returns-clause-answer : goal.returns-clause-answer
+returns-clause-answer g c =
+    let a = c.args in
+    let kept : IsJoint a.joint.now = subst IsJoint c.joint.view_is c.joint.invariant in
+    let laying = c.place_range.new.laying in
+    let end = c.in_ok-place_range.ensures.answer in
+    (laying.laid, end.held_is, end_is a.joint.now kept a.openings.now a.copies.now laying.laid laying.held.items laying.placed end (omega (arith, c.in_ok-place_range.ensures.more)))
 
 pub returns-in_err-place_range-clause-steps : goal.returns-in_err-place_range-clause-steps
 returns-in_err-place_range-clause-steps g c =
@@ -44,4 +50,4 @@ returns-clause-steps g c =
     let first = first_list a.joint.now a.copies.now c.in_ok-start.start begin.placed (flags_in into) (counts_in into) c.in_ok-start.ensures record { least = reach.least; tally = reach.counts } in
     whole_within a.joint.now a.openings.now a.copies.now begin.laid c.place_range.new.laying.laid begin.placed into _ c.reach_by.new.steps _ c.in_ok-laying.ensures.empty (c.in_ok-laying.ensures.laid a.openings.now a.copies.now).table_is
     reach.kept first.least reach.steps range.each range.runs range.steps (Ok c.place_range.new.laying.held)
-    (length-map c.place_range.new.laying.laid laid_put ∙ c.in_ok-place_range.ensures.more)
+    c.in_ok-place_range.ensures.more

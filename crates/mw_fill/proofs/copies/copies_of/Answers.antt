@@ -1,21 +1,12 @@
 use Rattle.std.proofs.Common.{◌≡◌, All, ◌++◌, ◌+◌, length, take, take_all, ap, sym, subst, ◌∙◌, arith}
 use Rattle.std.specs.Prelude.{nat_lt}
 use Rattle.mw_multi.specs.Joint.{Joint, IsJoint}
-use Rattle.mw_reach.proofs.Slots.{slot_fits}
 use Rattle.mw_fill.specs.Kept.{CopyKept}
 use Rattle.mw_multi.specs.Numbered.{each_numbered}
 use Rattle.mw_fill.specs.Copies.{slot_copies, copies_of as plain_copies}
 use Rattle.mw_multi.proofs.Numbered.{numbered_more}
 use Rattle.mw_fill.proofs.Pools.{copies_are_few, copies_kept}
 use Rattle.mw_fill.proofs.copies.copies_of.Goals as goal
-
-pub push_slot-requires : goal.push_slot-requires
-push_slot-requires c =
-    let joint = c.args.joint.now in
-    let kept : IsJoint joint = subst IsJoint c.joint.view_is c.joint.invariant in
-    let slots : c.as_slice-slots.result.now ≡ joint.slots = c.as_slice-slots.ensures ∙ ap (λ j. j.slots) c.joint.view_is in
-    let fits = slot_fits joint kept c.loop-index.index c.index-slots-index.result (rw slots at c.loop-index-test.true) (rw slots at c.index-slots-index.is) in
-    record { fits = omega (arith, fits.items, fits.few_items) }
 
 pub loop-index-preserved : goal.loop-index-preserved
 loop-index-preserved c =

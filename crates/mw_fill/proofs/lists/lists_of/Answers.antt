@@ -4,7 +4,7 @@ use Rattle.mw_fill.specs.Draws.{start_of, words_of, at_place, shuffled, place_af
 use Rattle.mw_fill.specs.Copies.{ItemCopy}
 use Rattle.mw_fill.specs.Openings.{Opening}
 use Rattle.mw_fill.specs.Try.{Lists, shuffled_lists, openings_begin, helping_begin, filling_begin}
-use Rattle.mw_fill.specs.Kept.{CopyKept, IsCounted, OpeningKept}
+use Rattle.mw_fill.specs.Kept.{CopyKept, OpeningKept}
 use Rattle.mw_fill.specs.ListsKept.{AreKept}
 use Rattle.mw_fill.proofs.Shuffling.{shuffled_all, shuffled_length, shuffled_wraps, moved_on}
 use Rattle.mw_fill.proofs.lists.lists_of.Goals as goal
@@ -42,7 +42,6 @@ returns-clause-kept c = λ slots kept.
     let words = words_of (start_of c.args.seed c.args.stream) in
     subst (AreKept slots) (sym same) record {
       asked = shuffled_all (CopyKept slots) words 0 stock.asked kept.asked;
-      counted = shuffled_all (IsCounted slots) words 0 stock.asked kept.counted;
       few = omega (arith, shuffled_length words 0 stock.asked, kept.few);
       openings = shuffled_all (OpeningKept slots) words (openings_begin stock) stock.openings kept.openings;
       helping = shuffled_all (CopyKept slots) words (helping_begin stock) stock.helping kept.helping;

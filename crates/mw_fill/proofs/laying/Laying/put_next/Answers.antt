@@ -1,18 +1,16 @@
 use Rattle.std.proofs.Common.{◌≡◌, ◌&&◌, ◌++◌, ◌∷◌, [], List, Some, None, length, drop, get_or, set, sym, ap, ap₂, subst, ◌∙◌, arith}
 use Rattle.std.specs.Prelude.{find}
-use Rattle.std.proofs.lemmas.List.{length-map, length-set, take_at}
+use Rattle.std.proofs.lemmas.List.{length-set, take_at}
 use Rattle.mw_multi.specs.Joint.{IsJoint}
 use Rattle.mw_multi.specs.Placement.{Put, PutKept, IsPlaced}
 use Rattle.mw_multi.specs.Events.{events_of}
 use Rattle.mw_reach.specs.Reached.{places_in}
-use Rattle.mw_fill.specs.Copies.{ItemCopy}
 use Rattle.mw_fill.specs.Openings.{Opening, accepts}
 use Rattle.mw_fill.specs.Fill.{stuck, put_of, first_fit, is_reached, FillRun}
-use Rattle.mw_fill.specs.Kept.{CopyKept, IsCounted, OpeningKept, is_open_in}
+use Rattle.mw_fill.specs.Kept.{CopyKept, OpeningKept, is_open_in}
 use Rattle.mw_fill.specs.Asks.{FindsNone}
-use Rattle.mw_fill.specs.Laying.{laid_put, puts_of, AreLaid}
+use Rattle.mw_fill.specs.Laying.{AreLaid}
 use Rattle.mw_fill.specs.Answer.{OnStuck}
-use Rattle.mw_fill.specs.declared.laid.Laid.{Laid}
 use Rattle.mw_fill.proofs.Fitting.{find_all, held_first}
 use Rattle.mw_fill.proofs.Locations.{put_kept}
 use Rattle.mw_fill.proofs.Runs.{table_few, none_here, stuck_here, one_placed}
@@ -36,7 +34,7 @@ put-requires-clause-room c =
     let joint = c.args.joint.now in
     let kept : IsJoint joint = subst IsJoint c.joint.view_is c.joint.invariant in
     let laid = c.args.self.now.laid in
-    omega (arith, table_few joint kept (puts_of laid) c.args.self.now.placed c.requires.laid.table_is, length-map laid laid_put, c.requires.order.few, c.requires.next)
+    omega (arith, table_few joint kept laid c.args.self.now.placed c.requires.laid.table_is, c.requires.order.few, c.requires.next)
 
 pub bounds-held-opening-inside : goal.bounds-held-opening-inside
 bounds-held-opening-inside c =
@@ -56,8 +54,8 @@ returns-in-None-clause-answer c =
     let is : copy ≡ get_or a.order.now.copies.now (length laid) copy = c.index-copies-len.is ∙ ap (λ k. get_or a.order.now.copies.now k copy) c.len.ensures in
     let w = c.requires.found.0 in
     let seen = places_in a.reached.now in
-    let none : first_fit (λ s. accepts copy s && w s.place) (puts_of laid) a.order.now.openings.now ≡ None =
-    c.requires.found.2 copy is ∙ sym (held_first (λ s. accepts copy s && seen s.place) (puts_of laid) a.self.now.held.items a.order.now.openings.now c.requires.laid.held_is.entries) ∙ ap (λ h. find (is_open_in (λ s. accepts copy s && seen s.place) h) a.order.now.openings.now) (sym c.as_slice-2.ensures.value) ∙ sym c.first_after.ensures ∙ c.in-None.is in
+    let none : first_fit (λ s. accepts copy s && w s.place) laid a.order.now.openings.now ≡ None =
+    c.requires.found.2 copy is ∙ sym (held_first (λ s. accepts copy s && seen s.place) laid a.self.now.held.items a.order.now.openings.now c.requires.laid.held_is.entries) ∙ ap (λ h. find (is_open_in (λ s. accepts copy s && seen s.place) h) a.order.now.openings.now) (sym c.as_slice-2.ensures.value) ∙ sym c.first_after.ensures ∙ c.in-None.is in
     subst (λ e. OnStuck e (λ slot item. FillRun is_reached joint a.order.now.openings.now a.order.now.copies.now [] (stuck slot item))) (sym c.stuck.ensures)
     (stuck_here joint kept a.order.now.openings.now a.order.now.copies.now laid a.self.now.held.items a.self.now.placed c.requires.laid copy c.requires.next is w c.requires.found.1 none)
 
@@ -71,9 +69,9 @@ returns-in-None-clause-none c =
     let is : copy ≡ get_or a.order.now.copies.now (length laid) copy = c.index-copies-len.is ∙ ap (λ k. get_or a.order.now.copies.now k copy) c.len.ensures in
     let w = c.requires.found.0 in
     let seen = places_in a.reached.now in
-    let none : first_fit (λ s. accepts copy s && w s.place) (puts_of laid) a.order.now.openings.now ≡ None =
-    c.requires.found.2 copy is ∙ sym (held_first (λ s. accepts copy s && seen s.place) (puts_of laid) a.self.now.held.items a.order.now.openings.now c.requires.laid.held_is.entries) ∙ ap (λ h. find (is_open_in (λ s. accepts copy s && seen s.place) h) a.order.now.openings.now) (sym c.as_slice-2.ensures.value) ∙ sym c.first_after.ensures ∙ c.in-None.is in
-    subst (λ e. OnStuck e (λ slot item. FindsNone joint a.order.now.openings.now (drop (length laid) a.order.now.copies.now) (puts_of laid))) (sym c.stuck.ensures)
+    let none : first_fit (λ s. accepts copy s && w s.place) laid a.order.now.openings.now ≡ None =
+    c.requires.found.2 copy is ∙ sym (held_first (λ s. accepts copy s && seen s.place) laid a.self.now.held.items a.order.now.openings.now c.requires.laid.held_is.entries) ∙ ap (λ h. find (is_open_in (λ s. accepts copy s && seen s.place) h) a.order.now.openings.now) (sym c.as_slice-2.ensures.value) ∙ sym c.first_after.ensures ∙ c.in-None.is in
+    subst (λ e. OnStuck e (λ slot item. FindsNone joint a.order.now.openings.now (drop (length laid) a.order.now.copies.now) laid)) (sym c.stuck.ensures)
     (none_here joint kept a.order.now.openings.now a.order.now.copies.now laid a.self.now.held.items a.self.now.placed c.requires.laid copy c.requires.next is w c.requires.found.1 none)
 
 pub returns-in_ok-push-in-Some-clause-answer : goal.returns-in_ok-push-in-Some-clause-answer
@@ -85,26 +83,24 @@ returns-in_ok-push-in-Some-clause-answer c =
     let copy = c.index-copies-len.result in
     let is : copy ≡ get_or a.order.now.copies.now (length laid) copy = c.index-copies-len.is ∙ ap (λ k. get_or a.order.now.copies.now k copy) c.len.ensures in
     let copy_kept : CopyKept joint.slots copy = subst (CopyKept joint.slots) (sym is) (c.requires.order.copies_kept (length laid) copy c.requires.next) in
-    let counted : IsCounted joint.slots copy = subst (IsCounted joint.slots) (sym is) (c.requires.order.counted (length laid) copy c.requires.next) in
     let opening = c.in-Some.opening in
     let w = c.requires.found.0 in
     let seen = places_in a.reached.now in
-    let found : first_fit (λ s. accepts copy s && w s.place) (puts_of laid) a.order.now.openings.now ≡ Some opening =
-    c.requires.found.2 copy is ∙ sym (held_first (λ s. accepts copy s && seen s.place) (puts_of laid) a.self.now.held.items a.order.now.openings.now c.requires.laid.held_is.entries) ∙ ap (λ h. find (is_open_in (λ s. accepts copy s && seen s.place) h) a.order.now.openings.now) (sym c.as_slice-2.ensures.value) ∙ sym c.first_after.ensures ∙ c.in-Some.is in
+    let found : first_fit (λ s. accepts copy s && w s.place) laid a.order.now.openings.now ≡ Some opening =
+    c.requires.found.2 copy is ∙ sym (held_first (λ s. accepts copy s && seen s.place) laid a.self.now.held.items a.order.now.openings.now c.requires.laid.held_is.entries) ∙ ap (λ h. find (is_open_in (λ s. accepts copy s && seen s.place) h) a.order.now.openings.now) (sym c.as_slice-2.ensures.value) ∙ sym c.first_after.ensures ∙ c.in-Some.is in
     let put = c.put_at-put.ensures in
-    let placed : IsPlaced joint.slots ((events_of joint ++ puts_of laid) ++ put_of copy opening ∷ []) c.put.new.self =
-    subst (λ p. IsPlaced joint.slots ((events_of joint ++ puts_of laid) ++ p ∷ []) c.put.new.self) put (c.in_ok-put-in-Some.ensures.ok (events_of joint ++ puts_of laid) c.requires.laid.table_is) in
-    let next = one_placed joint kept a.order.now.openings.now a.order.now.copies.now laid a.self.now.held.items a.self.now.placed c.requires.laid copy c.requires.next is w c.requires.found.1 copy_kept counted c.requires.order.openings_kept opening c.put.new.self found placed in
+    let placed : IsPlaced joint.slots ((events_of joint ++ laid) ++ put_of copy opening ∷ []) c.put.new.self =
+    subst (λ p. IsPlaced joint.slots ((events_of joint ++ laid) ++ p ∷ []) c.put.new.self) put (c.in_ok-put-in-Some.ensures.ok (events_of joint ++ laid) c.requires.laid.table_is) in
+    let next = one_placed joint kept a.order.now.openings.now a.order.now.copies.now laid a.self.now.held.items a.self.now.placed c.requires.laid copy c.requires.next is w c.requires.found.1 copy_kept c.requires.order.openings_kept opening c.put.new.self found placed in
     let entry : set a.self.now.held.items opening.place (Some (put_of copy opening)) ≡ set a.self.now.held.items c.opening.inside.place (Some c.put_at-put.result) = sym (ap₂ (λ n p. set a.self.now.held.items n (Some p)) (ap (λ (s : Opening). s.place) c.opening.view_is) put) in
-    let last : laid ++ record { put = put_of copy opening; number = copy.number } ∷ [] ≡ c.push.new.self =
-    sym (c.in_ok-push-in-Some.ensures.ok ∙ ap₂ (λ (p : Put) n. laid ++ record { put = p; number = n } ∷ []) put (ap (λ (i : ItemCopy). i.number) c.copy.view_is)) in
+    let last : laid ++ put_of copy opening ∷ [] ≡ c.push.new.self = sym (c.in_ok-push-in-Some.ensures.ok ∙ ap (λ p. laid ++ p ∷ []) put) in
     let slice = c.as_mut_slice-held.result.now in
     let place = c.opening.inside.place in
     let stood = Some c.put_at-put.result in
     let written = take_at (set slice place stood) _ a.self.now.held.len (length-set slice place stood ∙ c.as_mut_slice-held.ensures.len) ∙ ap (λ h. set h place stood) c.as_mut_slice-held.ensures.value in
     subst (λ h. AreLaid joint a.order.now.openings.now a.order.now.copies.now c.push.new.self h c.put.new.self) (sym written)
-    (subst (λ (ls : List Laid). AreLaid joint a.order.now.openings.now a.order.now.copies.now ls (set a.self.now.held.items place stood) c.put.new.self) last
-    (subst (λ h. AreLaid joint a.order.now.openings.now a.order.now.copies.now (laid ++ record { put = put_of copy opening; number = copy.number } ∷ []) h c.put.new.self) entry next))
+    (subst (λ (ls : List Put). AreLaid joint a.order.now.openings.now a.order.now.copies.now ls (set a.self.now.held.items place stood) c.put.new.self) last
+    (subst (λ h. AreLaid joint a.order.now.openings.now a.order.now.copies.now (laid ++ put_of copy opening ∷ []) h c.put.new.self) entry next))
 
 pub returns-in_ok-push-in-Some-clause-runs : goal.returns-in_ok-push-in-Some-clause-runs
 returns-in_ok-push-in-Some-clause-runs c = (returns-in_ok-push-in-Some-clause-answer c).runs
