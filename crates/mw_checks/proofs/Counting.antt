@@ -145,7 +145,7 @@ all_awaited many team slot n (o ∷ os) =
     ap₂ (λ (x y : ℕ). x + y) (ap (λ (b : Bool). one_if (o slot && not b)) (get_or-replicate_same many (seat n team) false) ∙ and_true (o slot)) (all_awaited many team slot (n + 1) os)
 
 -- empty rows of memory for all that may come
-pub fits_none : (owners counts : List ℕ) (many : ℕ) (rows : List (Vec ℕ Global)) → Counts owners counts → Empty counts rows → Fit owners (replicate many false) rows
+pub fits_none : (owners : List Owners) (counts : List ℕ) (many : ℕ) (rows : List (Vec ℕ Global)) → Counts owners counts → Empty counts rows → Fit owners (replicate many false) rows
 fits_none owners counts many rows c e = record {
   many = e.many;
   room = λ team slot d t s.

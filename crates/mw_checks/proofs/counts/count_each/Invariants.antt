@@ -1,4 +1,4 @@
-use Rattle.std.proofs.Common.{◌≡◌, ◌+◌, ◌≤◌, ◌^◌, ℕ, length, drop, get_or}
+use Rattle.std.proofs.Common.{◌≡◌, ◌+◌, ◌≤◌, ℕ, length, drop, get_or}
 use Rattle.std.specs.Ordering.{nat_cmp}
 use Rattle.mw_model.specs.Ascending.{Ascend}
 use Rattle.mw_model.specs.Seed.{has_number}
