@@ -1,6 +1,6 @@
 -- Where a seed file's entries first differ from those of the placement that they put, tables and file first differ.
-use Rattle.std.proofs.Common.{◌≡◌, ◌+◌, ℕ, ℤ, suc, List, [], ◌∷◌, Bool, true, false, Option, Some, None, map, option_map, refl, sym, ap, subst, ◌∙◌, arith, All}
-use Rattle.std.specs.Prelude.{Contains, is_some}
+use Rattle.std.proofs.Common.{◌≡◌, ◌+◌, ◌&&◌, ℕ, ℤ, suc, List, [], ◌∷◌, Bool, true, false, Option, Some, None, map, length, option_map, refl, sym, ap, subst, ◌∙◌, arith, All}
+use Rattle.std.specs.Prelude.{Contains, is_some, nat_le}
 use Rattle.std.proofs.lemmas.List.Sorted.{All-permutation, Contains-permutation}
 use mathlib.Core.Path.{fun_ext}
 use Rattle.mw_model.specs.Seed.{Seed, Held, held_among}
@@ -11,13 +11,13 @@ use Rattle.mw_multi.specs.Placement.{Put, slot_at, what_stands}
 use Rattle.mw_model.specs.Ascending.{Ascend}
 use Rattle.mw_multidata.specs.SeedKept.{held_cmp}
 use Rattle.mw_seeds.specs.SeedFile.{held_where, location_held, slot_held, all_held, AreLocations}
-use Rattle.mw_seeds.specs.Agreeing.{has_location, held_index, index_among, slot_items, agrees_with, agrees_at, TablesAgree, IsFirstDifference}
+use Rattle.mw_seeds.specs.Agreeing.{has_location, fits_tables, held_index, index_among, slot_items, agrees_with, agrees_at, TablesAgree, IsFirstDifference}
 use Rattle.mw_seeds.specs.FilePuts.{first_apart, file_puts}
 use Rattle.mw_seeds.specs.Judging.{IsPlacementIn}
 use Rattle.mw_seeds.specs.Keys.{Key, as_held, AreKeys, first_other, key_of, fits_among, first_other_key}
 use Rattle.mw_seeds.proofs.InOrder.{in_order}
 use Rattle.mw_seeds.proofs.KeyOrder.{keys_tell}
-use Rattle.mw_seeds.proofs.Walk.{is_fit, agree, agree_all, differ_at}
+use Rattle.mw_seeds.proofs.Walk.{agree, agree_all, differ_at}
 use Rattle.mw_seeds.proofs.SeedHeld.{IsOfSlot, all_of, all_apart}
 use Rattle.mw_seeds.proofs.Apart.{among_there, among_is, apart_is, same_lists}
 use Rattle.mw_seeds.proofs.Elements.{in_numbered, here}
@@ -31,24 +31,17 @@ module _ (slots : List Slot) (due found : Option Held) where
     pub fits : is_some (held_index slots e) ≡ true
     pub same : (h : Held) → found ≡ Some h → is_some (held_index slots h) ≡ true → e ≡ h
 
-agreed_same : (slots : List Slot) (due found : Option Held) (e : Held) → IsDue slots due found e → agrees_with slots true found ≡ true → due ≡ found
-agreed_same slots due None e d h = cc
-agreed_same slots due (Some f) e d h = d.is ∙ ap Some (d.same f refl h)
+second : (a b : Bool) → (a && b) ≡ true → b ≡ true
+second true b e = e
+second false b e = cc
 
-same_agreed : (slots : List Slot) (due found : Option Held) (e : Held) → IsDue slots due found e → due ≡ found → agrees_with slots true found ≡ true
-same_agreed slots due None e d h = let never : Some e ≡ None = sym d.is ∙ h in cc
-same_agreed slots due (Some f) e d h =
-    let equal : Some e ≡ Some f = sym d.is ∙ h in
-    let same : e ≡ f = cc in
-    subst (λ x. is_some (held_index slots x) ≡ true) same d.fits
+agreed_same : (slots : List Slot) (many : ℕ) (due found : Option Held) (e : Held) → IsDue slots due found e → agrees_with (fits_tables slots many) true found ≡ true → due ≡ found
+agreed_same slots many due None e d h = cc
+agreed_same slots many due (Some f) e d h = d.is ∙ ap Some (d.same f refl (second (nat_le f.receiver many) (is_some (held_index slots f)) h))
 
-agreed_none : (slots : List Slot) (due found : Option Held) → due ≡ None → agrees_with slots false found ≡ true → due ≡ found
-agreed_none slots due None is h = is
-agreed_none slots due (Some f) is h = cc
-
-none_agreed : (slots : List Slot) (due found : Option Held) → due ≡ None → due ≡ found → agrees_with slots false found ≡ true
-none_agreed slots due None is h = refl
-none_agreed slots due (Some f) is h = let never : None ≡ Some f = sym is ∙ h in cc
+agreed_none : (fits : Held → Bool) (due found : Option Held) → due ≡ None → agrees_with fits false found ≡ true → due ≡ found
+agreed_none fits due None is h = is
+agreed_none fits due (Some f) is h = cc
 
 disagrees : (b : Bool) → (b ≡ true → ⊥) → b ≡ false
 disagrees true h = absurd (h refl)
@@ -115,89 +108,84 @@ module _ (joint : Joint) (kept : IsJoint joint) (seed : Seed) (ascend : Ascend h
         },
       )
 
-  by_tables : (s : ℕ) (l : ℤ) (b : Bool) → has_location l (slot_at joint.slots s) ≡ b → ((agrees_with joint.slots b (held_among seed.locations s l) ≡ true → held_among due s l ≡ held_among seed.locations s l)
-      × (held_among due s l ≡ held_among seed.locations s l → agrees_with joint.slots b (held_among seed.locations s l) ≡ true))
+  abbrev fits : Held → Bool
+  fits = fits_tables joint.slots (length seed.slots)
+
+  by_tables : (s : ℕ) (l : ℤ) (b : Bool) → has_location l (slot_at joint.slots s) ≡ b → agrees_with fits b (held_among seed.locations s l) ≡ true → held_among due s l ≡ held_among seed.locations s l
   by_tables s l true has =
       let d = due_there s l (located joint.slots s l has) in
-      (agreed_same joint.slots (held_among due s l) (held_among seed.locations s l) d.0 d.1, same_agreed joint.slots (held_among due s l) (held_among seed.locations s l) d.0 d.1)
-  by_tables s l false has =
-      let none = not_listed s l (held_among due s l) refl has in
-      (agreed_none joint.slots (held_among due s l) (held_among seed.locations s l) none, none_agreed joint.slots (held_among due s l) (held_among seed.locations s l) none)
+      agreed_same joint.slots (length seed.slots) (held_among due s l) (held_among seed.locations s l) d.0 d.1
+  by_tables s l false has = agreed_none fits (held_among due s l) (held_among seed.locations s l) (not_listed s l (held_among due s l) refl has)
 
-  agreed : (s : ℕ) (l : ℤ) → held_among due s l ≡ held_among seed.locations s l → agrees_at joint seed s l ≡ true
-  agreed s l = (by_tables s l (has_location l (slot_at joint.slots s)) refl).1
-
-  -- the first entry that differs shows where tables and file first differ
-  pub first_difference : (h : Held) → first_apart due seed.locations ≡ Some h → IsFirstDifference joint seed h.slot h.location
-  first_difference h e =
+  -- where an entry differs, tables and file don't agree
+  apart_differs : (h : Held) → first_apart due seed.locations ≡ Some h → agrees_at joint seed h.slot h.location ≡ false
+  apart_differs h e =
       let a = apart_is due seed.locations h are.ascend ascend e in
-      record {
-        differs = disagrees (agrees_at joint seed h.slot h.location) (λ agree. a.differ ((by_tables h.slot h.location (has_location h.location (slot_at joint.slots h.slot)) refl).0 agree));
-        earlier = λ s l less. agreed s l (a.earlier s l less);
-      }
+      disagrees (agrees_at joint seed h.slot h.location) (λ agree. a.differ (by_tables h.slot h.location (has_location h.location (slot_at joint.slots h.slot)) refl agree))
 
-  -- and where none differs they agree
-  pub placed_in : first_apart due seed.locations ≡ None → IsPlacementIn joint seed puts
-  placed_in e =
-      let same : due ≡ seed.locations = same_lists due seed.locations e in
-      record {
-        agree = λ s l. agreed s l (ap (λ hs. held_among hs s l) same);
-        placement = is_placement joint kept seed.locations;
-        entries = subst (AreLocations joint.slots puts) same are;
-      }
+  -- where they agree, none differs, and the entries are those of what they put
+  by_difference : TablesAgree joint seed → (o : Option Held) → first_apart due seed.locations ≡ o → IsPlacementIn joint seed puts
+  by_difference agree None e = record {
+    agree = agree;
+    placement = is_placement joint kept seed.locations;
+    entries = subst (AreLocations joint.slots puts) (same_lists due seed.locations e) are;
+  }
+  by_difference agree (Some h) e =
+      let never : true ≡ false = sym (agree h.slot h.location) ∙ apart_differs h e in
+      cc
+
+  pub placed_so : TablesAgree joint seed → IsPlacementIn joint seed puts
+  placed_so agree = by_difference agree (first_apart due seed.locations) refl
 
 -- where the tables and the file agree, its entries are those of what they put
 module _ (joint : Joint) (kept : IsJoint joint) (seed : Seed) (ascend : Ascend held_cmp seed.locations) where
-  by_difference : (due : List Held) → AreLocations joint.slots (file_puts joint.slots seed.locations) due → TablesAgree joint seed → (o : Option Held) → first_apart due seed.locations ≡ o
-      → IsPlacementIn joint seed (file_puts joint.slots seed.locations)
-  by_difference due are agree None e = placed_in joint kept seed ascend due are e
-  by_difference due are agree (Some h) e =
-      let found = first_difference joint kept seed ascend due are h e in
-      let never : true ≡ false = sym (agree h.slot h.location) ∙ found.differs in
-      cc
-
   pub placed_where_agreed : TablesAgree joint seed → IsPlacementIn joint seed (file_puts joint.slots seed.locations)
   placed_where_agreed agree =
       let held = all_held joint.slots (what_stands (file_puts joint.slots seed.locations)) in
       let due = in_order held (all_apart joint.slots (what_stands (file_puts joint.slots seed.locations)) 1 joint.slots (λ k d l. (kept.each k d l).world.locations.ids)) in
-      by_difference due.0 record { same = due.1; ascend = due.2 } agree (first_apart due.0 seed.locations) refl
+      placed_so joint kept seed ascend due.0 record { same = due.1; ascend = due.2 } agree
 
 -- by the keys of the tables' locations
 module _ (joint : Joint) (kept : IsJoint joint) (seed : Seed) (ascend : Ascend held_cmp seed.locations) (keys : List Key) (are : AreKeys joint.slots keys) where
   abbrev listed_keys : List Held
   listed_keys = map as_held keys
 
-  told : (s : ℕ) (l : ℤ) → agree joint.slots listed_keys seed.locations s l ≡ agrees_at joint seed s l
-  told s l = ap (λ b. agrees_with joint.slots b (held_among seed.locations s l)) (keys_tell joint.slots keys are s l)
+  abbrev own_fits : Held → Bool
+  own_fits = fits_tables joint.slots (length seed.slots)
 
-  pub placed_by_keys : first_other (is_fit joint.slots) listed_keys seed.locations ≡ None → IsPlacementIn joint seed (file_puts joint.slots seed.locations)
-  placed_by_keys e = placed_where_agreed joint kept seed ascend (λ s l. sym (told s l) ∙ agree_all joint.slots listed_keys seed.locations are.ascend ascend e s l)
+  told : (s : ℕ) (l : ℤ) → agree own_fits listed_keys seed.locations s l ≡ agrees_at joint seed s l
+  told s l = ap (λ b. agrees_with own_fits b (held_among seed.locations s l)) (keys_tell joint.slots keys are s l)
 
-  pub differs_by_keys : (h : Held) → first_other (is_fit joint.slots) listed_keys seed.locations ≡ Some h → IsFirstDifference joint seed h.slot h.location
+  pub placed_by_keys : first_other own_fits listed_keys seed.locations ≡ None → IsPlacementIn joint seed (file_puts joint.slots seed.locations)
+  placed_by_keys e = placed_where_agreed joint kept seed ascend (λ s l. sym (told s l) ∙ agree_all own_fits listed_keys seed.locations are.ascend ascend e s l)
+
+  pub differs_by_keys : (h : Held) → first_other own_fits listed_keys seed.locations ≡ Some h → IsFirstDifference joint seed h.slot h.location
   differs_by_keys h e =
-      let d = differ_at joint.slots listed_keys seed.locations h are.ascend ascend e in
+      let d = differ_at own_fits listed_keys seed.locations h are.ascend ascend e in
       record { differs = sym (told h.slot h.location) ∙ d.differs; earlier = λ s l less. sym (told s l) ∙ d.earlier s l less }
 
   -- over what the code has
-  fits_same : (tables : List (List Item)) → tables ≡ map slot_items joint.slots → fits_among tables ≡ is_fit joint.slots
-  fits_same tables same = ap fits_among same ∙ fun_ext (λ h. ap (λ o. is_some (index_among h o)) (catalog_is joint.slots h.receiver))
+  fits_same : (tables : List (List Item)) (many : ℕ) → tables ≡ map slot_items joint.slots → many ≡ length seed.slots → fits_among tables many ≡ own_fits
+  fits_same tables many same count =
+      ap (λ ts. fits_among ts many) same ∙ ap (fits_among (map slot_items joint.slots)) count
+      ∙ fun_ext (λ h. ap (λ o. nat_le h.receiver (length seed.slots) && is_some (index_among h o)) (catalog_is joint.slots h.receiver))
 
-  module _ (tables : List (List Item)) (same : tables ≡ map slot_items joint.slots) (held : List Held) (is : held ≡ seed.locations) where
-    found_so : first_other_key tables keys held ≡ option_map key_of (first_other (is_fit joint.slots) listed_keys seed.locations)
-    found_so = ap (λ f. option_map key_of (first_other f listed_keys held)) (fits_same tables same) ∙ ap (λ hs. option_map key_of (first_other (is_fit joint.slots) listed_keys hs)) is
+  module _ (tables : List (List Item)) (same : tables ≡ map slot_items joint.slots) (many : ℕ) (count : many ≡ length seed.slots) (held : List Held) (is : held ≡ seed.locations) where
+    found_so : first_other_key tables many keys held ≡ option_map key_of (first_other own_fits listed_keys seed.locations)
+    found_so = ap (λ f. option_map key_of (first_other f listed_keys held)) (fits_same tables many same count) ∙ ap (λ hs. option_map key_of (first_other own_fits listed_keys hs)) is
 
     none_of : (o : Option Held) → option_map key_of o ≡ None → o ≡ None
     none_of None e = refl
     none_of (Some h) e = cc
 
-    pub placed_at : first_other_key tables keys held ≡ None → IsPlacementIn joint seed (file_puts joint.slots held)
-    placed_at e = subst (λ hs. IsPlacementIn joint seed (file_puts joint.slots hs)) (sym is) (placed_by_keys (none_of (first_other (is_fit joint.slots) listed_keys seed.locations) (sym found_so ∙ e)))
+    pub placed_at : first_other_key tables many keys held ≡ None → IsPlacementIn joint seed (file_puts joint.slots held)
+    placed_at e = subst (λ hs. IsPlacementIn joint seed (file_puts joint.slots hs)) (sym is) (placed_by_keys (none_of (first_other own_fits listed_keys seed.locations) (sym found_so ∙ e)))
 
-    one_of : (o : Option Held) (k : Key) → first_other (is_fit joint.slots) listed_keys seed.locations ≡ o → option_map key_of o ≡ Some k → IsFirstDifference joint seed k.slot k.location
+    one_of : (o : Option Held) (k : Key) → first_other own_fits listed_keys seed.locations ≡ o → option_map key_of o ≡ Some k → IsFirstDifference joint seed k.slot k.location
     one_of None k e f = cc
     one_of (Some h) k e f =
         let same_key : key_of h ≡ k = cc in
         subst (λ (x : Key). IsFirstDifference joint seed x.slot x.location) same_key (differs_by_keys h e)
 
-    pub difference_at : (k : Key) → first_other_key tables keys held ≡ Some k → IsFirstDifference joint seed k.slot k.location
-    difference_at k e = one_of (first_other (is_fit joint.slots) listed_keys seed.locations) k refl (sym found_so ∙ e)
+    pub difference_at : (k : Key) → first_other_key tables many keys held ≡ Some k → IsFirstDifference joint seed k.slot k.location
+    difference_at k e = one_of (first_other own_fits listed_keys seed.locations) k refl (sym found_so ∙ e)

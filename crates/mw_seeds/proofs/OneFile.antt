@@ -112,6 +112,7 @@ one_file joint number puts spheres a b one p q =
     let server : a.server ≡ b.server = p.server ∙ sym q.server in
     let games : a.games ≡ b.games = one_games joint.slots one a.games b.games p.games q.games in
     let slots : a.slots ≡ b.slots = p.slots ∙ sym q.slots in
+    let groups : a.groups ≡ b.groups = p.groups ∙ sym q.groups in
     let locations : a.locations ≡ b.locations = one_order joint.slots puts a.locations b.locations p.locations q.locations in
     let same : a.spheres ≡ b.spheres = p.spheres ∙ sym q.spheres in
-    λ i. record { seed_name = name i; teams = teams i; server = server i; games = games i; slots = slots i; locations = locations i; spheres = same i }
+    λ i. record { seed_name = name i; teams = teams i; server = server i; games = games i; slots = slots i; groups = groups i; locations = locations i; spheres = same i }

@@ -1,15 +1,15 @@
 -- The seed that is made of a joint and a placement keeps the rules of a seed.
-use Rattle.std.proofs.Common.{◌≡◌, ◌≤◌, ◌<◌, ◌^◌, ◌++◌, ℕ, zero, suc, List, [], ◌∷◌, true, Some, Ok, IsUtf8, decimal, chars, length, map, refl, sym, ap, subst, ◌∙◌, arith}
+use Rattle.std.proofs.Common.{◌≡◌, ◌≤◌, ◌<◌, ◌^◌, ◌+◌, ◌++◌, ℕ, zero, suc, List, [], ◌∷◌, true, Some, Ok, IsUtf8, decimal, chars, length, map, refl, sym, ap, subst, ◌∙◌, append-nil, arith}
 use Rattle.std.specs.Prelude.{All, slice_index_or}
 use Rattle.std.proofs.lemmas.Fmt.{IsAscii-decimal, decimal_nonempty, length-decimal-le}
 use Rattle.std.proofs.lemmas.List.{length-map}
-use Rattle.std.proofs.lemmas.List.Elements.{All-cons}
+use Rattle.std.proofs.lemmas.List.Elements.{All-nil, All-cons}
 use Rattle.std.proofs.lemmas.List.Sorted.{All-permutation, length_permutation}
 use Rattle.std.proofs.lemmas.Str.{IsUtf8-from_ascii, encodes-chars, length-le-encodes}
 use Rattle.mw_base.specs.Permissions.{permission_number}
 use Rattle.mw_base.specs.declared.options.Permission.{Permission}
 use Rattle.mw_base.specs.declared.options.Permission.TheVariants.{Disabled, Enabled, Goal, Auto, AutoEnabled}
-use Rattle.mw_model.specs.Seed.{Seed, Slot as FileSlot, Game, Held, RoomOptions, Spot}
+use Rattle.mw_model.specs.Seed.{Seed, Slot as FileSlot, Group, Game, Held, RoomOptions, Spot}
 use Rattle.mw_multi.specs.World.{World}
 use Rattle.mw_multi.specs.Players.{Players}
 use Rattle.mw_multi.specs.PlayersKept.{IsPlayers}
@@ -18,8 +18,8 @@ use Rattle.mw_multi.specs.Joint.{Slot, Joint, IsJoint}
 use Rattle.mw_multi.specs.JointOf.{joint_of}
 use Rattle.mw_multi.specs.Placement.{Put, slot_at, what_stands}
 use Rattle.mw_multi.specs.Names.{NamesDiffer}
-use Rattle.mw_multidata.specs.Names.{all_names}
-use Rattle.mw_multidata.specs.SeedKept.{is_permission, is_remaining, ServerKept, GameKept, SlotKept, SpotKept, SphereKept, IsSeed}
+use Rattle.mw_multidata.specs.Names.{all_names, names_with}
+use Rattle.mw_multidata.specs.SeedKept.{is_permission, is_remaining, ServerKept, GameKept, SlotKept, GroupKept, SpotKept, SphereKept, IsSeed}
 use Rattle.mw_spheres.specs.Spots.{IsSpot, placement_table}
 use Rattle.mw_spheres.specs.Spheres.{AreSpheres, IsSpheres}
 use Rattle.mw_spheres.proofs.Playing.{spheres_are_spots}
@@ -74,15 +74,16 @@ module _ (joint : Joint) (kept : IsJoint joint) where
 
 -- the parts make the seed
 pub made : (worlds : List World) (players : Players) (joint : Joint) (joined : joint_of worlds players ≡ Ok joint) (number : ℕ) (puts : List Put) (list : List (List Spot)) (name : List ℕ) (teams : ℕ) (server : RoomOptions)
-    (games : List Game) (slots : List FileSlot) (held : List Held) (spheres : List (List Spot)) → name ≡ decimal number → teams ≡ players.teams → server ≡ players.room → AreGames joint.slots games
-    → slots ≡ map file_slot joint.slots → AreLocations joint.slots puts held → spheres ≡ list
-    → SeedFile joint number puts list record { seed_name = name; teams = teams; server = server; games = games; slots = slots; locations = held; spheres = spheres }
-made worlds players joint joined number puts list name teams server games slots held spheres is_name are_teams is_room are_games are_slots are_held are_spheres = record {
+    (games : List Game) (slots : List FileSlot) (groups : List Group) (held : List Held) (spheres : List (List Spot)) → name ≡ decimal number → teams ≡ players.teams → server ≡ players.room → AreGames joint.slots games
+    → slots ≡ map file_slot joint.slots → groups ≡ [] → AreLocations joint.slots puts held → spheres ≡ list
+    → SeedFile joint number puts list record { seed_name = name; teams = teams; server = server; games = games; slots = slots; groups = groups; locations = held; spheres = spheres }
+made worlds players joint joined number puts list name teams server games slots groups held spheres is_name are_teams is_room are_games are_slots no_groups are_held are_spheres = record {
   seed_name = is_name;
   teams = are_teams ∙ sym (joint_teams worlds players joint joined);
   server = is_room ∙ sym (joint_room worlds players joint joined);
   games = are_games;
   slots = are_slots;
+  groups = no_groups;
   locations = are_held;
   spheres = are_spheres;
 }
@@ -93,6 +94,7 @@ module _ (worlds : List World) (players : Players) (joint : Joint) (joined : joi
   made_kept =
       let slots = joint.slots in
       let teams : seed.teams ≡ players.teams = file.teams ∙ joint_teams worlds players joint joined in
+      let names : NamesDiffer (all_names seed.slots) = subst (λ ss. NamesDiffer (all_names ss)) (sym file.slots) (names_differ_all worlds players joint joined p) in
       let many : length seed.slots ≡ length slots = ap length file.slots ∙ length-map slots file_slot in
       let found : All (IsFound seed.games) slots = all_found slots seed.games file.games (one_world_each worlds players joint joined kept) in
       let held = all_held slots (what_stands puts) in
@@ -118,7 +120,12 @@ module _ (worlds : List World) (players : Players) (joint : Joint) (joined : joi
           few = omega (arith, many, kept.few);
           each = subst (All (SlotKept seed.teams seed.games)) (sym file.slots)
               (subst (λ n. All (SlotKept n seed.games) (map file_slot slots)) (sym file.teams) (slots_good joint.teams seed.games slots (names_good worlds players joint joined p) kept.each found));
-          differ = subst (λ ss. NamesDiffer (all_names ss)) (sym file.slots) (names_differ_all worlds players joint joined p);
+          differ = names;
+        };
+        groups = record {
+          few = subst (λ (gs : List Group). length seed.slots + length gs ≤ 1024) (sym file.groups) (omega (arith, many, kept.few));
+          each = subst (All (GroupKept seed)) (sym file.groups) (All-nil (GroupKept seed));
+          differ = subst (λ (gs : List Group). NamesDiffer (names_with seed gs)) (sym file.groups) (subst NamesDiffer (sym (append-nil (all_names seed.slots))) names);
         };
         locations = record {
           few = omega (arith, length_permutation held seed.locations file.locations.same, few_in_all slots (what_stands puts) 1 slots, kept.places);

@@ -1,6 +1,6 @@
 -- The games that the slots of a joint play, and what of them the slots and locations name.
 use Rattle.std.proofs.Common.{◌≡◌, ◌≤◌, ◌<◌, ◌+◌, ℕ, ℤ, zero, suc, List, [], ◌∷◌, Bool, true, false, Option, Some, None, length, map, flat_map, replicate, bytes_eq, option_map, slice_get, get_or, sum_by, refl, sym, ap, subst, ◌∙◌, arith}
-use Rattle.std.specs.Prelude.{All, Contains, is_some}
+use Rattle.std.specs.Prelude.{All, Contains, is_some, nat_le}
 use Rattle.std.proofs.lemmas.List.{length-append}
 use Rattle.std.proofs.lemmas.List.Elements.{All-nil, All-cons, All-head, All-tail, All-append, Contains-get_or}
 use Rattle.std.proofs.lemmas.List.Sums.{sum_by-cons}
@@ -14,7 +14,8 @@ use Rattle.mw_multi.specs.Placement.{slot_at}
 use Rattle.mw_multi.specs.declared.item.Class.{Class}
 use Rattle.mw_multi.specs.declared.item.Class.TheVariants.{Progression, Useful, Filler, Trap}
 use Rattle.mw_multidata.specs.Names.{has_id, find_game}
-use Rattle.mw_multidata.specs.SeedKept.{is_class, has_item, has_location, game_of, played, game_name, StartKept, SlotKept, HeldKept}
+use Rattle.mw_multidata.specs.SeedKept.{is_class, has_item, has_location, game_of, played, received, game_name, StartKept, SlotKept, HeldKept}
+use Rattle.mw_multidata.proofs.Plays.{number_within}
 use Rattle.mw_seeds.specs.SeedFile.{class_flags, IsGameOf, IsPlayed, HasGameOf, AreGames, start_with, start_of, start_copies, file_slot}
 use Rattle.mw_seeds.proofs.Elements.{holds_at, holds_in, get_mapped}
 use Rattle.mw_seeds.proofs.SeedTables.{name_kept, item_there, location_there}
@@ -129,6 +130,12 @@ module _ (seed : Seed) (slots : List joined.Slot) (same : seed.slots ≡ map fil
   game_at zero s e = cc
   game_at (suc k) s e = ap (λ ss. game_of seed.games (slice_get ss k)) same ∙ ap (game_of seed.games) (get_mapped file_slot slots k ∙ ap (option_map file_slot) e)
 
+  receives : (n : ℕ) (g : Game) → played seed n ≡ Some g → received seed n ≡ Some g
+  receives n g e =
+      let there = number_within seed n (ap is_some e) in
+      let own : nat_le n (length seed.slots) ≡ true = grind (arith, there.1) in
+      rw own e
+
   slot_found : (n : ℕ) (s : joined.Slot) → slot_at slots n ≡ Some s → IsFound seed.games s × IsWorld s.world
   slot_found zero s e = cc
   slot_found (suc k) s e = (holds_at (IsFound seed.games) slots k s found e, (holds_at joined.SlotKept slots k s kept e).world)
@@ -139,7 +146,7 @@ module _ (seed : Seed) (slots : List joined.Slot) (same : seed.slots ≡ map fil
       let finder : IsFound seed.games s × IsWorld s.world = slot_found (suc k) s at in
       let owner : IsFound seed.games of.owner × IsWorld of.owner.world = slot_found h.receiver of.owner of.receiver in
       let mine : played seed h.slot ≡ Some finder.0.0 = ap (played seed) (of.slot ∙ number) ∙ game_at (suc k) s at ∙ finder.0.1 in
-      let theirs : played seed h.receiver ≡ Some owner.0.0 = game_at h.receiver of.owner of.receiver ∙ owner.0.1 in
+      let theirs : received seed h.receiver ≡ Some owner.0.0 = receives h.receiver owner.0.0 (game_at h.receiver of.owner of.receiver ∙ owner.0.1) in
       record {
         location = ap (λ g. has_location g h.location) mine ∙ ap (has_id finder.0.0.location_name_to_id) of.location ∙ location_there s.world finder.0.0 finder.0.2 finder.1 index l id there named;
         item = ap (λ g. has_item g h.item) theirs ∙ item_there of.owner.world owner.0.0 owner.0.2 owner.1 of.index of.what h.item of.there of.named;

@@ -3,32 +3,28 @@ use Rattle.std.proofs.Common.{◌≡◌, ◌&&◌, ◌==◌, ℕ, ℤ, List, [],
 use Rattle.std.specs.Prelude.{if◌then◌else◌, is_some}
 use Rattle.std.specs.Ordering.{ordering_reverse}
 use Rattle.mw_model.specs.Seed.{Held, held_among}
-use Rattle.mw_multi.specs.Joint.{Slot}
 use Rattle.mw_model.specs.Ascending.{Ascend}
 use Rattle.mw_multidata.specs.SeedKept.{held_cmp}
 use Rattle.mw_multidata.proofs.NamesKept.{held_total}
-use Rattle.mw_seeds.specs.Agreeing.{held_index, agrees_with, location_cmp}
+use Rattle.mw_seeds.specs.Agreeing.{agrees_with, location_cmp}
 use Rattle.mw_seeds.specs.FilePuts.{earlier_of}
 use Rattle.mw_seeds.specs.Keys.{entry_at, fits_at, first_other}
 use Rattle.mw_seeds.proofs.Apart.{is_at, at_it, none_before, none_earlier, first_there, earlier_first, earlier_second, earlier_tied}
 
-module _ (slots : List Slot) where
-  abbrev pub is_fit : Held → Bool
-  is_fit h = is_some (held_index slots h)
-
+module _ (fits : Held → Bool) where
   abbrev pub agree : List Held → List Held → ℕ → ℤ → Bool
-  agree ds hs s l = agrees_with slots (is_some (held_among ds s l)) (held_among hs s l)
+  agree ds hs s l = agrees_with fits (is_some (held_among ds s l)) (held_among hs s l)
 
   -- there they differ, and before they don't
   pub record DifferAt (ds hs : List Held) (x : Held) : Type 0 where
     pub differs : agree ds hs x.slot x.location ≡ false
     pub earlier : (s : ℕ) (l : ℤ) → location_cmp s l x.slot x.location ≡ Less → agree ds hs s l ≡ true
 
-  by : (a b : Option Held) (c d : Option Held) → a ≡ b → c ≡ d → agrees_with slots (is_some a) c ≡ agrees_with slots (is_some b) d
-  by a b c d e f = ap (λ o. agrees_with slots (is_some o) c) e ∙ ap (agrees_with slots (is_some b)) f
+  by : (a b : Option Held) (c d : Option Held) → a ≡ b → c ≡ d → agrees_with fits (is_some a) c ≡ agrees_with fits (is_some b) d
+  by a b c d e f = ap (λ o. agrees_with fits (is_some o) c) e ∙ ap (agrees_with fits (is_some b)) f
 
   module _ (d h : Held) (ds hs : List Held) (dsc : Ascend held_cmp (d ∷ ds)) (hsc : Ascend held_cmp (h ∷ hs)) where
-    heads_differ : fits_at is_fit d h ≡ false → (o : Ordering) → held_cmp d h ≡ o → DifferAt (d ∷ ds) (h ∷ hs) (earlier_of d h)
+    heads_differ : fits_at fits d h ≡ false → (o : Ordering) → held_cmp d h ≡ o → DifferAt (d ∷ ds) (h ∷ hs) (earlier_of d h)
     heads_differ f Less is = subst (DifferAt (d ∷ ds) (h ∷ hs)) (sym (earlier_first d h is)) record {
       differs = by _ (Some d) _ None (first_there d ds) (none_earlier d.slot d.location h hs is hsc);
       earlier = λ s l e. by _ None _ None (none_earlier s l d ds e dsc) (none_earlier s l h hs (held_total.trans (entry_at s l) d h e is) hsc);
@@ -44,7 +40,7 @@ module _ (slots : List Slot) where
         let location : d.location ≡ h.location = grind (arith, is) in
         let right : held_among (h ∷ hs) d.slot d.location ≡ Some h =
         ap (λ s. held_among (h ∷ hs) s d.location) slot ∙ ap (λ l. held_among (h ∷ hs) h.slot l) location ∙ first_there h hs in
-        let none : is_some (held_index slots h) ≡ false = grind (arith, f, slot, location) in
+        let none : fits h ≡ false = grind (arith, f, slot, location) in
         subst (DifferAt (d ∷ ds) (h ∷ hs)) (sym (earlier_tied d h is)) record {
           differs = by _ (Some d) _ (Some h) (first_there d ds) right ∙ none;
           earlier = λ s l e.
@@ -52,14 +48,14 @@ module _ (slots : List Slot) where
               by _ None _ None (none_earlier s l d ds e dsc) (none_earlier s l h hs also hsc);
         }
 
-    module _ (f : fits_at is_fit d h ≡ true) where
+    module _ (f : fits_at fits d h ≡ true) where
       one_slot : d.slot ≡ h.slot
       one_slot = grind (arith, f)
 
       one_location : d.location ≡ h.location
       one_location = grind (arith, f)
 
-      it_fits : is_some (held_index slots h) ≡ true
+      it_fits : fits h ≡ true
       it_fits = grind (arith, f)
 
       one_place : (s : ℕ) (l : ℤ) → is_at s l h ≡ is_at s l d
@@ -98,18 +94,18 @@ module _ (slots : List Slot) where
         earlier = λ s l e. more_agree s l (k.earlier s l e);
       }
 
-    by_heads : (x : Held) (b : Bool) → fits_at is_fit d h ≡ b → (if b then first_other is_fit ds hs else Some (earlier_of d h)) ≡ Some x → (first_other is_fit ds hs ≡ Some x → DifferAt ds hs x) → DifferAt (d ∷ ds) (h ∷ hs) x
+    by_heads : (x : Held) (b : Bool) → fits_at fits d h ≡ b → (if b then first_other fits ds hs else Some (earlier_of d h)) ≡ Some x → (first_other fits ds hs ≡ Some x → DifferAt ds hs x) → DifferAt (d ∷ ds) (h ∷ hs) x
     by_heads x true f e rest = tail_differs f x (rest e)
     by_heads x false f e rest =
         let same : earlier_of d h ≡ x = cc in
         subst (DifferAt (d ∷ ds) (h ∷ hs)) same (heads_differ f (held_cmp d h) refl)
 
-    none_differs : (b : Bool) → fits_at is_fit d h ≡ b → (if b then first_other is_fit ds hs else Some (earlier_of d h)) ≡ None → (first_other is_fit ds hs ≡ None → (s : ℕ) (l : ℤ) → agree ds hs s l ≡ true) → (s : ℕ) (l : ℤ)
+    none_differs : (b : Bool) → fits_at fits d h ≡ b → (if b then first_other fits ds hs else Some (earlier_of d h)) ≡ None → (first_other fits ds hs ≡ None → (s : ℕ) (l : ℤ) → agree ds hs s l ≡ true) → (s : ℕ) (l : ℤ)
         → agree (d ∷ ds) (h ∷ hs) s l ≡ true
     none_differs true f e rest s l = more_agree f s l (rest e s l)
     none_differs false f e rest s l = cc
 
-  pub differ_at : (ds hs : List Held) (x : Held) → Ascend held_cmp ds → Ascend held_cmp hs → first_other is_fit ds hs ≡ Some x → DifferAt ds hs x
+  pub differ_at : (ds hs : List Held) (x : Held) → Ascend held_cmp ds → Ascend held_cmp hs → first_other fits ds hs ≡ Some x → DifferAt ds hs x
   differ_at [] [] x dsc hsc e = cc
   differ_at [] (h ∷ hs) x dsc hsc e =
       let same : h ≡ x = cc in
@@ -123,10 +119,10 @@ module _ (slots : List Slot) where
         differs = by _ (Some d) None None (first_there d ds) refl;
         earlier = λ s l less. by _ None None None (none_earlier s l d ds less dsc) refl;
       }
-  differ_at (d ∷ ds) (h ∷ hs) x dsc hsc e = by_heads d h ds hs dsc hsc x (fits_at is_fit d h) refl e (differ_at ds hs x dsc.1 hsc.1)
+  differ_at (d ∷ ds) (h ∷ hs) x dsc hsc e = by_heads d h ds hs dsc hsc x (fits_at fits d h) refl e (differ_at ds hs x dsc.1 hsc.1)
 
-  pub agree_all : (ds hs : List Held) → Ascend held_cmp ds → Ascend held_cmp hs → first_other is_fit ds hs ≡ None → (s : ℕ) (l : ℤ) → agree ds hs s l ≡ true
+  pub agree_all : (ds hs : List Held) → Ascend held_cmp ds → Ascend held_cmp hs → first_other fits ds hs ≡ None → (s : ℕ) (l : ℤ) → agree ds hs s l ≡ true
   agree_all [] [] dsc hsc e s l = refl
   agree_all [] (h ∷ hs) dsc hsc e s l = cc
   agree_all (d ∷ ds) [] dsc hsc e s l = cc
-  agree_all (d ∷ ds) (h ∷ hs) dsc hsc e s l = none_differs d h ds hs dsc hsc (fits_at is_fit d h) refl e (agree_all ds hs dsc.1 hsc.1) s l
+  agree_all (d ∷ ds) (h ∷ hs) dsc hsc e s l = none_differs d h ds hs dsc hsc (fits_at fits d h) refl e (agree_all ds hs dsc.1 hsc.1) s l

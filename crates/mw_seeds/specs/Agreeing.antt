@@ -1,5 +1,5 @@
 -- Whether joined tables and a seed file agree on what stands where.
-use Rattle.std.specs.Prelude.{◌≡◌, ◌==◌, ◌&&◌, ℕ, ℤ, List, Bool, true, false, Option, Some, None, is_some, map, not, option_map, slice_get, if◌then◌else◌}
+use Rattle.std.specs.Prelude.{◌≡◌, ◌==◌, ◌&&◌, ℕ, ℤ, List, Bool, true, false, Option, Some, None, is_some, length, map, nat_le, not, option_map, slice_get, if◌then◌else◌}
 use Rattle.std.specs.Ordering.{nat_cmp, int_cmp, ordering_then}
 use Rattle.std.specs.declared.cmp.Ordering.{Ordering}
 use Rattle.std.specs.declared.cmp.Ordering.TheVariants.{Less}
@@ -40,16 +40,20 @@ slot_items s = s.world.items
 abbrev pub held_index : List Slot → Held → Option ℕ
 held_index slots h = index_among h (option_map slot_items (slot_at slots h.receiver))
 
--- neither has an entry for the location, or both have one, and the file's is of such an item
-abbrev pub agrees_with : List Slot → Bool → Option Held → Bool
-agrees_with slots has None = not has
-agrees_with slots has (Some h) = has && is_some (held_index slots h)
+-- the same, for one of the file's slots, of which there are so many, and not for a group
+abbrev pub fits_tables : List Slot → ℕ → Held → Bool
+fits_tables slots many h = nat_le h.receiver many && is_some (held_index slots h)
+
+-- neither has an entry for the location, or both have one, and the file's fits
+abbrev pub agrees_with : (Held → Bool) → Bool → Option Held → Bool
+agrees_with fits has None = not has
+agrees_with fits has (Some h) = has && fits h
 
 -- at a location of the slot of this number, by its id
 abbrev pub agrees_at : Joint → Seed → ℕ → ℤ → Bool
 agrees_at joint seed slot location =
-    agrees_with joint.slots (has_location location (slot_at joint.slots slot))
-    (held_at seed slot location)
+    agrees_with (fits_tables joint.slots (length seed.slots))
+    (has_location location (slot_at joint.slots slot)) (held_at seed slot location)
 
 -- they agree everywhere
 abbrev pub TablesAgree : Joint → Seed → Type 0

@@ -150,5 +150,6 @@ pub record SeedFile (joint : joined.Joint) (number : ℕ) (puts : List Put)
   pub server : seed.server ≡ joint.room
   pub games : AreGames joint.slots seed.games
   pub slots : seed.slots ≡ map file_slot joint.slots
+  pub groups : seed.groups ≡ []
   pub locations : AreLocations joint.slots puts seed.locations
   pub spheres : seed.spheres ≡ listed

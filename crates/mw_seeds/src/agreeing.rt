@@ -12,13 +12,20 @@ use mw_multi::{Joint, Placement};
 use mw_multidata::{Held, Multidata};
 use std::alloc::Global;
 
-/// Whether an entry is at the location of this key, with an item that fits.
-fn agrees(catalogs: &[Catalog], key: &Key, held: &Held) -> bool
-    ensures { result ≡ fits_at (fits_among catalogs.now) (as_held key.now) held.now }
+/// Whether an entry is for one of so many slots, with an item that fits.
+fn fits(catalogs: &[Catalog], many: usize, held: &Held) -> bool
+    ensures { result ≡ fits_among catalogs.now many held.now }
+{
+    held.receiver as usize <= many && index_of(catalogs, held).is_some()
+}
+
+/// Whether an entry is at the location of this key, and fits.
+fn agrees(catalogs: &[Catalog], many: usize, key: &Key, held: &Held) -> bool
+    ensures { result ≡ fits_at (fits_among catalogs.now many) (as_held key.now) held.now }
 {
     key.slot.get() == held.slot.get()
         && key.location.get() == held.location.get()
-        && index_of(catalogs, held).is_some()
+        && fits(catalogs, many, held)
 }
 
 /// The location of an entry.
@@ -43,15 +50,15 @@ fn earlier_of(key: Key, held: &Held) -> Key
     }
 }
 
-/// The first location that only one of the two has, or whose entry's item doesn't fit.
-fn first_other(catalogs: &[Catalog], keys: &[Key], held: &[Held]) -> Option<Key>
-    ensures { result ≡ first_other_key catalogs.now keys.now held.now }
+/// The first location that only one of the two has, or whose entry doesn't fit.
+fn first_other(catalogs: &[Catalog], many: usize, keys: &[Key], held: &[Held]) -> Option<Key>
+    ensures { result ≡ first_other_key catalogs.now many keys.now held.now }
 {
     for (index, key) in keys.iter().enumerate() {
         if index >= held.len() {
             return Some(*key);
         }
-        if !agrees(catalogs, key, &held[index]) {
+        if !agrees(catalogs, many, key, &held[index]) {
             return Some(earlier_of(*key, &held[index]));
         }
     }
@@ -61,8 +68,8 @@ fn first_other(catalogs: &[Catalog], keys: &[Key], held: &[Held]) -> Option<Key>
 /// The placement that a seed file's entries are, where they agree with the tables.
 ///
 /// `OtherTables` at the first location, by slot and then by id, that has an entry in only one of
-/// the two, or whose item or flags aren't those of an item with an id of the receiver's world;
-/// `Memory` where memory ran out.
+/// the two, or whose receiver is a group, or whose item or flags aren't those of an item with an id
+/// of the receiver's world; `Memory` where memory ran out.
 pub fn placement_in(
     alloc: Global,
     joint: &Joint,
@@ -76,7 +83,8 @@ pub fn placement_in(
     let held = file.locations.as_slice();
     let catalogs = catalogs_of(alloc, joint.slots.as_slice())?;
     let keys = keys_of(alloc, joint)?;
-    match first_other(catalogs.as_slice(), keys.as_slice(), held) {
+    let many = file.slots.len();
+    match first_other(catalogs.as_slice(), many, keys.as_slice(), held) {
         None => {
             let puts = file_puts(alloc, catalogs.as_slice(), joint, held)?;
             Ok(puts)

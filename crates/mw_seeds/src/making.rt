@@ -65,7 +65,8 @@ fn copy_spheres(alloc: Global, spheres: &[List<Spot>]) -> Result<SphereList, Mem
 /// seed's name is the number in decimal; the teams and the settings are those of the players file;
 /// the games are the different games of the slots' worlds in byte order, each with the names of its
 /// items and of its locations with an id in byte order; each slot has its items to begin with,
-/// copies one after the other; the locations with an id hold what the placement puts there.
+/// copies one after the other; there are no groups; the locations with an id hold what the placement
+/// puts there.
 /// `Memory` where memory ran out.
 pub fn seed_file(
     alloc: Global,
@@ -94,6 +95,7 @@ pub fn seed_file(
         server,
         games,
         slots,
+        groups: List::new(alloc),
         locations,
         spheres,
     })
