@@ -1,7 +1,7 @@
 #!/usr/bin/env bash
 # Prints the time (passed, and of the processor) and memory of `drive` on a seed file of about 17 MB with a script of 2,000 checks over two slots, and on one of about 60 MB;
 # then on one of 64 slots with 3,125 locations each, with 20,000 checks over all slots and with 200,000, and a take after each twentieth. The sessions are silent,
-# but in one run more of 20,000 checks, in which each of the 64 sessions hears of each item that is sent. Last come 2,000 and 20,000 Sets on 100 keys, each of which ten of
+# but in one run more of 20,000 checks, in which each of the 64 sessions hears of each item that is sent. In a room like it each item is for a group of all 64, with 2,000 checks. Last come 2,000 and 20,000 Sets on 100 keys, each of which ten of
 # 64 sessions watch, with a take after each twentieth, and 12 Bounces of 524,288 bytes each, which nobody hears. A run is stopped after 120 s.
 # Where valgrind is installed, it counts the instructions of a check and of an open too, by the differences of scripts.
 # Run after `rt run` in crates/mw_cli, which leaves the program.
@@ -15,17 +15,19 @@ python3 - "$room" <<'PY'
 import json, sys
 folder = sys.argv[1]
 
-def write_seed(name, slots, per):
-    """A seed file of so many slots with so many locations each, written entry by entry."""
+def write_seed(name, slots, per, shared=False):
+    """A seed file of so many slots with so many locations each, written entry by entry; or each item is for a group of all slots."""
     games = {"G": {"item_name_to_id": {"Item": 1}, "location_name_to_id": {"L%d" % n: n for n in range(1, per + 1)}}}
     server = {"collect": "goal", "hint_cost": 10, "location_check_points": 1, "password": "", "release": "goal", "remaining": "goal"}
     people = [{"names": ["P%d" % s], "game": "G", "start": []} for s in range(1, slots + 1)]
     compact = lambda value: json.dumps(value, separators=(",", ":"))
     with open(folder + "/" + name, "w") as f:
-        f.write('{"format":"mw-multidata-1","seed_name":"bench","teams":1,"spheres":[]')
+        f.write('{"format":"mw-multidata-%d","seed_name":"bench","teams":1,"spheres":[]' % (2 if shared else 1))
+        if shared:
+            f.write(',"groups":%s' % compact([{"name": "All", "game": "G", "members": list(range(1, slots + 1))}]))
         f.write(',"server":%s,"games":%s,"slots":%s,"locations":[' % (compact(server), compact(games), compact(people)))
         for s in range(1, slots + 1):
-            entries = ",".join("[%d,%d,1,%d,0]" % (s, n, (s + n) % slots + 1) for n in range(1, per + 1))
+            entries = ",".join("[%d,%d,1,%d,0]" % (s, n, slots + 1 if shared else (s + n) % slots + 1) for n in range(1, per + 1))
             f.write(entries if s == 1 else "," + entries)
         f.write("]}")
 
@@ -33,6 +35,7 @@ write_seed("seed.json", 100, 10000)
 write_seed("large_seed.json", 340, 10000)
 write_seed("many_slots_seed.json", 64, 3125)
 write_seed("small_seed.json", 64, 3)
+write_seed("shared_seed.json", 64, 3125, True)
 connect = '[{"cmd":"Connect","game":"G","items_handling":7,"name":"P%d","tags":%s,"version":{"build":0,"class":"Version","major":0,"minor":5}}]'
 
 def write_script(name, slots, checks, pace, tags='["NoText"]'):
@@ -84,6 +87,7 @@ write_script("few.txt", 2, 2000, 2001)
 write_script("many.txt", 64, 20000, 20)
 write_script("heard.txt", 64, 20000, 20, "[]")
 write_script("most.txt", 64, 200000, 20)
+write_script("shared.txt", 64, 2000, 20)
 open(folder + "/empty.txt", "w").close()
 PY
 ls -l "$room"/*seed.json | awk '{print $9 ": " $5 " bytes"}' | sed 's|.*/||'
@@ -99,6 +103,7 @@ runs = [
     ("many_slots_seed.json", "20,000 checks over 64 slots", "many.txt"),
     ("many_slots_seed.json", "20,000 checks over 64 slots that hear text", "heard.txt"),
     ("many_slots_seed.json", "200,000 checks over 64 slots", "most.txt"),
+    ("shared_seed.json", "2,000 checks of items that 64 slots share", "shared.txt"),
     ("small_seed.json", "2,000 Sets on 100 watched keys", "sets.txt"),
     ("small_seed.json", "20,000 Sets on 100 watched keys", "most_sets.txt"),
     ("small_seed.json", "12 Bounces of 524,288 bytes with objects", "objects.txt"),
@@ -121,7 +126,9 @@ for seed, name, script in runs:
 PY
 command -v valgrind > /dev/null || exit 0
 count() {
-  valgrind --tool=callgrind --callgrind-out-file=/dev/null "$program" drive "$room/many_slots_seed.json" < "$room/$1" 2>&1 > /dev/null | awk '/Collected/ {print $NF}'
+  valgrind --tool=callgrind --callgrind-out-file=/dev/null "$program" drive "$room/${2:-many_slots_seed.json}" < "$room/$1" 2>&1 > /dev/null | awk '/Collected/ {print $NF}'
 }
 none=$(count none.txt)
 echo "instructions: $(( ($(count many.txt) - none) / 20000 )) a check of 20,000 over 64 slots, $(( $(count one_more.txt) - none )) an open"
+none=$(count none.txt shared_seed.json)
+echo "$(( ($(count shared.txt shared_seed.json) - none) / 2000 )) a check of an item that 64 slots share"
