@@ -1,4 +1,5 @@
 //! A group of two players, each of whom gets the group's item.
+use crate::harness::{Run, folder_of, runs_tell};
 use crate::session_harness::marks;
 use crate::team_tests::ROOM as ROOM_OF_TEAMS;
 use mw_cases::ROOM_OF_DUO;
@@ -90,6 +91,31 @@ crash
 "#;
     let change = (r#""collect":"goal""#, r#""collect":"enabled""#);
     duo_marks(&rt, rt.alloc(), change, lines, expected)
+}
+
+/// The room's journal over several runs: Ann finds the shared item, and Bob has it in the next one.
+const KEPT: [Run<'static>; 4] = [
+    ("new-room A J", "", "0 room made\n"),
+    (
+        "drive A J",
+        "open\nconnect 1 Ann 7\nchecks 1 [102]\ncommit\n",
+        "0 ",
+    ),
+    (
+        "drive A J",
+        "open\nconnect 1 Bob 7\ntake 1\nmark\nsync 1\ntake 1\n",
+        r#"mark
+1 [{"cmd":"ReceivedItems","index":0,"items":[{"class":"NetworkItem","flags":0,"item":8,"location":102,"player":1}]}]
+"#,
+    ),
+    ("serve A J --bind 127.0.0.1:38281", "", "0 sessions 0\n"),
+];
+
+#[test]
+fn a_shared_item_is_kept(rt: HostRuntime) -> Result<(), Fail> {
+    let alloc = rt.alloc();
+    let mut folder = folder_of(alloc, &[("A", ROOM_OF_DUO)], "", "")?;
+    runs_tell(&rt, alloc, &mut folder, "", &KEPT, "")
 }
 
 #[test]
