@@ -155,6 +155,6 @@ returns-clause-fault g c is =
       | inl failed ↦ elim (c.host_on-disk.ensures.fault failed) [
         | inl risen ↦ inl (omega (arith, c.close_chosen.ensures.count.journal (omega (arith, risen)), c.open_pair_room.ensures.later))
         | inr gate ↦ inr (inl gate)
-        ]
-      | inr put ↦ inr (inr put)
       ]
+      | inr put ↦ inr (inr put)
+    ]
