@@ -1,18 +1,11 @@
 //! Pair rooms, and their checkpoints.
-use crate::harness::{
-    Run, add_file, case_tells, faults, folder_of, runs_tell, sink_of, source_of, told, words_of,
-};
+use crate::harness::{Run, case_tells, folder_of, runs_tell, told};
 use crate::kept_room_tests::plan_of;
-use crate::new_room_tests::EMPTY;
-use crate::run::run;
 use crate::tests::FOLDER_A;
 use mw_base::{List, Text};
-use mw_cases::ROOM_A;
 use mw_disk::DiskError;
 use mw_edges::MemoryFolder;
-use mw_link::{Heard, SteadyGate, SteadyLink};
 use std::alloc::Global;
-use std::collections::VecDeque;
 use std::sync::Wait;
 use std::test::Fail;
 use std::thread::Threads;
@@ -144,76 +137,6 @@ fn thinned_again(rt: HostRuntime) -> Result<(), Fail> {
     runs_tell(&rt, alloc, &mut folder, "", &LAST_VALUES, "")
 }
 
-/// A link over which Ann connects, gets the stored value and checks 102.
-fn link_of_ann(alloc: Global) -> Result<SteadyLink, Fail> {
-    let texts = [
-        r#"[{"cmd":"Connect","game":"G","items_handling":7,"name":"Ann","tags":["NoText"],"version":{"build":0,"major":0,"minor":5}}]"#,
-        r#"[{"cmd":"Get","keys":["k"]},{"cmd":"LocationChecks","locations":[102]}]"#,
-    ];
-    let mut coming = VecDeque::new(alloc);
-    for text in texts {
-        coming.push_back(Heard::Words(Text::of(alloc, text)?))?;
-    }
-    Ok(SteadyLink::new(alloc, coming, 0))
-}
-
-/// What was sent last over the one link that a pair room is served over.
-fn served_last<R: Threads + Wait + Sync>(
-    rt: &R,
-    alloc: Global,
-    folder: &mut MemoryFolder,
-) -> Result<Text, Fail> {
-    let words = words_of(alloc, "serve A C --pair --bind 127.0.0.1:38281 --workers 1")?;
-    let mut links = VecDeque::new(alloc);
-    links.push_back(link_of_ann(alloc)?)?;
-    let gate = SteadyGate::new(links);
-    let mut input = source_of(alloc, "", "")?;
-    let mut out = sink_of(alloc, "", 2)?;
-    let mut err = sink_of(alloc, "", 3)?;
-    let (status, _, served) = run(
-        rt, alloc, &words, folder, gate, &mut input, &mut out, &mut err,
-    );
-    if status != 0 || out.bytes() != b"sessions 1\n".as_slice() {
-        return Err(Fail::from("not served to the end"));
-    }
-    let worker = served.get(0).ok_or("no worker")?;
-    let entry = worker.get(0).ok_or("no link")?;
-    let last = entry.line.sent().last().ok_or("nothing sent")?;
-    Ok(Text::of(alloc, last.as_str())?)
-}
-
-/// What Ann's check is answered.
-const CHECKED: &str =
-    r#"[{"checked_locations":[102],"cmd":"RoomUpdate","hint_points":2},{"cmd":"ReceivedItems","index":1,"items":[{"class":"NetworkItem","flags":0,"item":8,"location":102,"player":1}]}]"#;
-
-/// What Ann has by the journal that counts, which a checkpoint leaves whole.
-const AFTER_SERVE: [Run<'static>; 3] = [
-    (
-        "drive A C --pair",
-        "open\nconnect 1 Ann 3\ntake 1\nmark\nsync 1\ntake 1\n",
-        r#"mark
-1 [{"cmd":"ReceivedItems","index":0,"items":[{"class":"NetworkItem","flags":0,"item":8,"location":102,"player":1}]}]
-"#,
-    ),
-    ("thin A C", "", "0 kept 3 of 3 records\n"),
-    (
-        "serve A C --pair --bind 127.0.0.1:38281",
-        "",
-        "0 sessions 0\n",
-    ),
-];
-
-/// The room goes on from the checkpoint, and what it sent is kept.
-#[test]
-fn a_pair_room_is_served(rt: HostRuntime) -> Result<(), Fail> {
-    let alloc = rt.alloc();
-    let mut folder = stored(&rt, alloc)?;
-    runs_tell(&rt, alloc, &mut folder, "", &THINNED, "")?;
-    let last = served_last(&rt, alloc, &mut folder)?;
-    assert!(rt; last.as_str() == CHECKED);
-    runs_tell(&rt, alloc, &mut folder, "", &AFTER_SERVE, "")
-}
-
 /// What a pair room is refused for.
 const REFUSED: [Run<'static>; 3] = [
     ("$0", "", "7 journal refused: $1\n"),
@@ -232,34 +155,4 @@ fn refused_pairs(rt: HostRuntime) -> Result<(), Fail> {
         &REFUSED,
         "new-room A A --pair | NotEmpty | A | NotJournal",
     )
-}
-
-/// A folder of Room A and a pair room of it, whose files these bytes end behind their headers.
-fn pair_of(alloc: Global, choice: &[u8], zero: &[u8]) -> Result<MemoryFolder, Fail> {
-    let mut files = List::new(alloc);
-    add_file(alloc, &mut files, "A", ROOM_A.as_bytes())?;
-    for (name, rest) in [("C", choice), ("C.0", zero), ("C.1", b"\0" as &[u8])] {
-        let mut bytes = Vec::from_slice(alloc, &EMPTY[..40])?;
-        bytes.extend_from_slice(rest)?;
-        add_file(alloc, &mut files, name, &bytes)?;
-    }
-    Ok(MemoryFolder::new(files, faults(alloc, "", 0)?))
-}
-
-/// What `thin` and `drive --pair` say of a pair room.
-const BOTH: [Run<'static>; 2] = [("thin A C", "", "$0\n"), ("drive A C --pair", "", "$1\n")];
-
-#[test]
-fn refused_bytes_of_pairs(rt: HostRuntime) -> Result<(), Fail> {
-    let alloc = rt.alloc();
-    let bad_choice = "7 journal refused: BadChoice | 7 journal refused: BadChoice";
-    let mut folder = pair_of(alloc, &[1, 0, 0, 0, 1, 2, 0], &[0])?;
-    runs_tell(&rt, alloc, &mut folder, "", &BOTH, bad_choice)?;
-    let bad_record = "7 journal refused: BadRecord | 7 journal refused: BadRecord";
-    let mut folder = pair_of(alloc, &[0], &[1, 0, 0, 0, 1, 9, 0])?;
-    runs_tell(&rt, alloc, &mut folder, "", &BOTH, bad_record)?;
-    // A status of a slot that the seed hasn't is a whole record.
-    let no_slot = "0 kept 1 of 1 records | 7 journal refused: BadRecord";
-    let mut folder = pair_of(alloc, &[0], &[1, 0, 0, 0, 5, 4, 0, 0, 9, 5, 0])?;
-    runs_tell(&rt, alloc, &mut folder, "", &BOTH, no_slot)
 }
