@@ -23,14 +23,14 @@ picked may_leave named files first second left right = by_test (named == 0)
     by_test true = left
     by_test false = right
 
-other_small : (named : ℕ) → other_of named < 2
+pub other_small : (named : ℕ) → other_of named < 2
 other_small named = by_test (named == 0)
   where
     by_test : (b : Bool) → (if b then 1 else 0) < 2
     by_test true = omega arith
     by_test false = omega arith
 
-named_last : (text : List ℕ) (byte : ℕ) → named_in (text ++ byte ∷ []) ≡ byte
+pub named_last : (text : List ℕ) (byte : ℕ) → named_in (text ++ byte ∷ []) ≡ byte
 named_last text byte =
     ap (λ n. get_or (text ++ byte ∷ []) n 0) (let last : length (text ++ byte ∷ []) - 1 ≡ length text = omega (arith, length-append text (byte ∷ [])) in last)
     ∙ get_or-append_seam text byte [] 0

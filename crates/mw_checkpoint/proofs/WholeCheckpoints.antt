@@ -28,10 +28,10 @@ module _ {D : Type 0} (told : D → Option (List ℕ)) (may_leave : D → List �
     (counts : (d : D) (t : ℕ) (c : List ℕ) → t ≤ moment d → may_leave d c → left_since d t c) (digest : List ℕ) (allowed : List (List Record))
   where
     -- an image now is one since a call began
-    still : (before after : D) (text body : List ℕ) → LeavesOnly moment left_since before after (λ c. IsSettled c digest text body) → AllSettled (may_leave after) digest text body
+    pub still : (before after : D) (text body : List ℕ) → LeavesOnly moment left_since before after (λ c. IsSettled c digest text body) → AllSettled (may_leave after) digest text body
     still before after text body run c left = run.each c (counts after (moment before) c run.later left)
 
-    still_settled : (before after : D) → KeepsSettled may_leave moment left_since digest before after → HasSettled (may_leave before) digest allowed → HasSettled (may_leave after) digest allowed
+    pub still_settled : (before after : D) → KeepsSettled may_leave moment left_since digest before after → HasSettled (may_leave before) digest allowed → HasSettled (may_leave after) digest allowed
     still_settled before after keeps h = record {
       kept = h.kept;
       batch = h.batch;
@@ -75,23 +75,23 @@ module _ {D : Type 0} (told : D → Option (List ℕ)) (may_leave : D → List �
     pub kept_settled : (before after : Files D) → after.zero ≡ before.zero → after.one ≡ before.one → KeepsSettled may_leave moment left_since digest before.choice after.choice
         → AreSettled told may_leave digest before allowed → AllStandForOne may_leave digest after allowed
     kept_settled before after zero one keeps s c first second left here there =
-        elim (settled_stands c digest s.text s.body (still before.choice after.choice s.text s.body (keeps s.text s.body s.choice) c left)) [
-          | inl text ↦ at s.text (inl refl) text s.texts
-          | inr both ↦ at (s.text ++ s.body) (inr refl) both (choices_joined s.text s.body s.texts s.bodies)
+        elim (settled_stands c digest s.stand.text s.stand.body (still before.choice after.choice s.stand.text s.stand.body (keeps s.stand.text s.stand.body s.stand.choice) c left)) [
+          | inl text ↦ at s.stand.text (inl refl) text s.stand.texts
+          | inr both ↦ at (s.stand.text ++ s.stand.body) (inr refl) both (choices_joined s.stand.text s.stand.body s.stand.texts s.stand.bodies)
         ]
       where
-        at : (text : List ℕ) → (named_in text ≡ named_in s.text) ⊎ (named_in text ≡ named_in (s.text ++ s.body)) → Stands c digest text → AreChoices text → StandForOne digest allowed c first second
+        at : (text : List ℕ) → (named_in text ≡ named_in s.stand.text) ⊎ (named_in text ≡ named_in (s.stand.text ++ s.stand.body)) → Stands c digest text → AreChoices text → StandForOne digest allowed c first second
         at text names stands choices =
-            one_stands (may_leave (journal_at (named_in text) before)) (s.journals (named_in text) names) text c first second stands choices
+            one_stands (may_leave (journal_at (named_in text) before)) (s.stand.journals (named_in text) names) text c first second stands choices
             (picked may_leave (named_in text) before first second (subst (λ d. may_leave d first) zero here) (subst (λ d. may_leave d second) one there))
 
     -- the journal that CHOICE names, once it was opened
-    chosen_settled : (before after : Files D) (named : ℕ) → after.zero ≡ before.zero → after.one ≡ before.one → (r : ReadsChoice told may_leave digest before.choice after.choice named)
+    pub chosen_settled : (before after : Files D) (named : ℕ) → after.zero ≡ before.zero → after.one ≡ before.one → (r : ReadsChoice told may_leave digest before.choice after.choice named)
         → AreSettled told may_leave digest before allowed → HasSettled (may_leave (journal_at named after)) digest allowed
     chosen_settled before after named zero one r s =
-        subst (λ d. HasSettled (may_leave d) digest allowed) (ap₂ (λ (a b : D). pick named a b) (sym zero) (sym one)) (s.journals named (names (r.one s.bytes s.text s.body s.tells s.choice)))
+        subst (λ d. HasSettled (may_leave d) digest allowed) (ap₂ (λ (a b : D). pick named a b) (sym zero) (sym one)) (s.stand.journals named (names (r.one s.bytes s.stand.text s.stand.body s.tells s.stand.choice)))
       where
-        names : (r.chosen.text ≡ s.text) ⊎ (r.chosen.text ≡ s.text ++ s.body) → (named ≡ named_in s.text) ⊎ (named ≡ named_in (s.text ++ s.body))
+        names : (r.chosen.text ≡ s.stand.text) ⊎ (r.chosen.text ≡ s.stand.text ++ s.stand.body) → (named ≡ named_in s.stand.text) ⊎ (named ≡ named_in (s.stand.text ++ s.stand.body))
         names (inl is) = inl (r.chosen.last ∙ ap named_in is)
         names (inr is) = inr (r.chosen.last ∙ ap named_in is)
 

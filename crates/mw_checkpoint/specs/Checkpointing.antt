@@ -1,5 +1,5 @@
 -- What a whole checkpoint leaves of three files.
-use Rattle.std.specs.Prelude.{◌≡◌, ◌⊎◌, ℕ, List, ◌++◌, Option, Some, Contains, is_some, length}
+use Rattle.std.specs.Prelude.{◌≡◌, ◌⊎◌, ℕ, List, ◌++◌, Option, Some, Contains, IsTrue, is_some, length, map}
 use Rattle.mw_protocol.specs.Records.{Record}
 use Rattle.mw_protocol.specs.Spelled.{records_bytes}
 use Rattle.mw_thinning.specs.Thinning.{thinned}
@@ -27,13 +27,11 @@ pub record HasSettled (images : List ℕ → Type 0) (digest : List ℕ) (allowe
   pub first : Contains allowed kept
   pub both : Contains allowed (kept ++ batch)
 
--- CHOICE tells its bytes, and each image of it is settled for a text of bytes 0 and 1 and a batch of
--- such; and so it is with records for each journal that the text names, or the text with the batch
-pub record AreSettled {D : Type 0} (told : D → Option (List ℕ)) (may_leave : D → List ℕ → Type 0)
-    (digest : List ℕ) (files : Files D) (allowed : List (List Record))
+-- each image of CHOICE is settled for a text of bytes 0 and 1 and a batch of such; and so it is with
+-- records for each journal that the text names, or the text with the batch
+pub record MayStand {D : Type 0} (may_leave : D → List ℕ → Type 0) (digest : List ℕ)
+    (files : Files D) (allowed : List (List Record))
     : Type 0 where
-  pub bytes : List ℕ
-  pub tells : told files.choice ≡ Some bytes
   pub text : List ℕ
   pub body : List ℕ
   pub choice : AllSettled (may_leave files.choice) digest text body
@@ -41,6 +39,22 @@ pub record AreSettled {D : Type 0} (told : D → Option (List ℕ)) (may_leave :
   pub bodies : AreChoices body
   pub journals : (named : ℕ) → (named ≡ named_in text) ⊎ (named ≡ named_in (text ++ body))
       → HasSettled (may_leave (journal_at named files)) digest allowed
+
+-- so it is, and CHOICE tells its bytes
+pub record AreSettled {D : Type 0} (told : D → Option (List ℕ)) (may_leave : D → List ℕ → Type 0)
+    (digest : List ℕ) (files : Files D) (allowed : List (List Record))
+    : Type 0 where
+  pub bytes : List ℕ
+  pub tells : told files.choice ≡ Some bytes
+  pub stand : MayStand may_leave digest files allowed
+
+-- both journals tell their bytes
+abbrev pub JournalsTell : {D : Type 0} → (D → Option (List ℕ)) → Files D → Type 0
+JournalsTell told files = (number : ℕ) → IsTrue (is_some (told (journal_at number files)))
+
+-- the allowed lists of records, and what counts of each
+abbrev pub with_thinned : List (List Record) → List (List Record)
+with_thinned allowed = allowed ++ map thinned allowed
 
 -- three images stand together for one of the allowed lists of records, or for what counts of it
 pub record StandForOne (digest : List ℕ) (allowed : List (List Record))

@@ -30,7 +30,7 @@ or_parts : (a : Bool) → (a || false) ≡ true → a ≡ true
 or_parts true h = refl
 or_parts false h = h
 
-or_same : (a b : Bool) → a ≡ false → (a || b) ≡ b
+pub or_same : (a b : Bool) → a ≡ false → (a || b) ≡ b
 or_same true b h = cc
 or_same false b h = refl
 

@@ -1,22 +1,18 @@
 -- What the run of a script on a disk comes to, by what the room that is recovered from it stands for.
-use Rattle.std.proofs.Common.{◌≡◌, ◌∙◌, ◌⊎◌, ℕ, List, [], ◌∷◌, ◌++◌, Option, Some, None, true, Result, Ok, Err, refl, sym, subst, inl, inr, append_assoc, append-nil}
-use Rattle.std.proofs.KnownBytes.{Keeps-refl}
+use Rattle.std.proofs.Common.{◌≡◌, ◌∙◌, ◌⊎◌, ℕ, List, [], Option, Some, true, Result, Ok, Err, refl, sym, subst, inl, inr}
 use Rattle.std.proofs.Math.Seq.{take-length}
 use Rattle.std.proofs.lemmas.List.Elements.{All-nil}
-use Rattle.std.specs.Io.KnownBytes.{Keeps as WasKept}
 use Rattle.std.specs.Option.{is_some}
-use Rattle.std.specs.Prelude.{All, IfErr, OnOk}
-use Rattle.mw_edges.specs.Causes.{PutsFront}
+use Rattle.std.specs.Prelude.{IfErr, OnOk}
 use Rattle.mw_model.specs.Seed.{Seed}
 use Rattle.mw_multidata.specs.Digest.{digest_of}
 use Rattle.mw_multidata.specs.SeedOf.{SeedOf}
-use Rattle.mw_protocol.specs.Lives.{Life, Step, crashes as crash_step, new_life, life_anew, life_after_all}
+use Rattle.mw_protocol.specs.Lives.{Life, new_life}
 use Rattle.mw_protocol.specs.Spelled.{records_bytes}
 use Rattle.mw_journal.specs.Settled.{AllShut}
-use Rattle.mw_laws.specs.Kept.{LivesKeep}
 use Rattle.mw_laws.specs.Naming.{NamesFit}
 use Rattle.mw_keep.specs.Keeps.{kept_disk}
-use Rattle.mw_keep.specs.Left.{GoesOn, IsLeft}
+use Rattle.mw_keep.specs.Left.{IsLeft}
 use Rattle.mw_keep.proofs.Leaving.{left_of, shut_of}
 use Rattle.mw_keep.specs.Recovers.{IsNoJournal, Resumes, RefusesResume}
 use Rattle.mw_keep.specs.Recovers.{IsOutside as KeepOutside}
@@ -30,33 +26,11 @@ use Rattle.mw_drive.specs.declared.error.JournalRefusal.{JournalRefusal}
 use Rattle.mw_drive.specs.declared.error.JournalRefusal.TheVariants.{NotJournal, OtherSeed, BadRecord}
 use Rattle.mw_drive.specs.Ends.{IsFound, IsForeign, Refuses, Drives, IsUnread, IsStopped, IsOfJournal}
 use Rattle.mw_drive.specs.Input.{HasNoScript}
-use Rattle.mw_drive.specs.Left.{FindsItself, IsKept, KeepsShown}
+use Rattle.mw_drive.specs.Left.{FindsItself, IsPutFrom, KeepsFound, KeepsFrom}
 use Rattle.mw_drive.specs.Runs.{IsKeptIn, RunsScript, HaltsScript}
 use Rattle.mw_drive.specs.declared.error.DriveError.{DriveError}
 use Rattle.mw_drive.specs.declared.error.DriveError.TheVariants.{Fault, Memory, Full, Journal, Script}
-use Rattle.mw_drive.proofs.Calling.{all_after}
-
--- ---- the life in which a room is recovered
-
--- a run of lives comes to the life that goes on after a crash, with a step more
-pub one_step_more : (seed : Seed) (steps : List Step) (more place : ℕ) → life_anew (life_after_all seed steps) more place ≡ life_after_all seed (steps ++ crash_step more place ∷ [])
-one_step_more seed steps more place = sym (all_after steps (new_life seed [] 40) (crash_step more place ∷ []))
-
--- what is kept from that life on is kept from the earlier one on
-pub kept_from : (images : List ℕ → Type 0) (digest : List ℕ) (seed : Seed) (steps : List Step) (s : Step) (old new : Option (List ℕ)) → KeepsShown images digest seed (steps ++ s ∷ []) old new
-    → KeepsShown images digest seed steps old new
-kept_from images digest seed steps s old new k = record {
-  more = s ∷ k.more;
-  left = subst (λ l. IsLeft images digest (life_after_all seed l)) (append_assoc steps (s ∷ []) k.more) k.left;
-  put = k.put;
-  front = k.front;
-  kept = subst (λ l. All (IsKept seed l) k.put) (append_assoc steps (s ∷ []) k.more) k.kept;
-}
-
-none_put : (old new : Option (List ℕ)) → WasKept old new → PutsFront old new []
-none_put None new kept = ([], [], refl, tt)
-none_put (Some x) None kept = absurd kept
-none_put (Some x) (Some y) kept = ([], [], refl, kept ∙ sym (append-nil x))
+use Rattle.mw_drive.proofs.Telling.{none_put}
 
 finds_same : (told then : Option (List ℕ)) (cs : List Command) → is_some then ≡ is_some told → FindsItself told cs → FindsItself then cs
 finds_same told then cs same (inl some) = inl (same ∙ some)
@@ -119,63 +93,47 @@ module _ {D : Type 0} (told : D → Option (List ℕ)) (may_leave : D → List �
         halted = λ finds. halts seed (new_life seed r.journal r.place) (kept_in cs finds);
       }
 
--- ---- what was put is kept
+-- ---- what the run did alone
 
 either_way : {A X : Type 0} {B : DriveError → Type 0} (answer : Result (Unit {0}) DriveError) → OnOk answer A → IfErr answer B → (A → X) → ((e : DriveError) → B e → X) → X
 either_way (Ok x) a b f g = f a
 either_way (Err e) a b f g = g e b
 
-some_told : (told : Option (List ℕ)) → is_some told ≡ true → (f : List ℕ) × (told ≡ Some f)
-some_told None h = cc
-some_told (Some f) h = (f, refl)
-
 module _ {D : Type 0} (told : D → Option (List ℕ)) (may_leave : D → List ℕ → Type 0) (file : List ℕ) (seed : Seed) (disk : D) (k : KeptRoom D) (accepted : SeedOf file (Ok seed))
-    (fit : NamesFit seed) (r : Resumes told may_leave (digest_of file) seed disk k) (same : is_some (told (kept_disk k)) ≡ is_some (told disk)) (lives : LivesKeep)
-    (steps : List Step) (some : is_some (told disk) ≡ true) (on : GoesOn may_leave (digest_of file) (life_after_all seed steps) k)
+    (fit : NamesFit seed) (r : Resumes told may_leave (digest_of file) seed disk k) (same : is_some (told (kept_disk k)) ≡ is_some (told disk)) (some : is_some (told disk) ≡ true)
+    (from to old new : Option (List ℕ)) (after : D)
   where
-    -- the step to the life in which it was recovered, and that life
-    abbrev crash : Step
-    crash = crash_step on.more on.place
-
+    -- the life in which the room was recovered
     abbrev here : Life
-    here = life_anew (life_after_all seed steps) on.more on.place
-
-    is_here : here ≡ life_after_all seed (steps ++ crash ∷ [])
-    is_here = one_step_more seed steps on.more on.place
+    here = new_life seed r.journal r.place
 
     kept_here : (cs : List Command) → IsKeptIn may_leave told file cs seed here k
-    kept_here cs = record {
-      accepted = accepted;
-      keeps = on.keeps;
-      going = record { seed_is = lives.seed seed steps; unstopped = refl; whole = r.whole };
-      finds = inl (same ∙ some);
+    kept_here cs = kept_in told may_leave file seed disk k accepted fit r same cs (inl some)
+
+    halts_from : (error : DriveError) → HaltsScript may_leave told file k from to old new after error → KeepsFrom (may_leave after) (digest_of file) here old new
+    halts_from error (inl (none, quiet, is)) = record {
+      steps = [];
+      left = subst (λ d. IsLeft (may_leave d) (digest_of file) here) (sym is) (left_of may_leave (digest_of file) here k r.keeps);
+      put = [];
+      front = none_put old new quiet;
+      taken = All-nil (IsPutFrom here []);
     }
+    halts_from error (inr (cs, script, ran, halts)) = (halts seed here (kept_here cs)).kept
 
-    module _ (from to old new : Option (List ℕ)) (after : D) where
-      pub runs_kept : RunsScript may_leave told file k from to old new after → KeepsShown (may_leave after) (digest_of file) seed steps old new
-      runs_kept (cs, script, runs) = kept_from (may_leave after) (digest_of file) seed steps crash old new ((runs seed here (kept_here cs)).1 (steps ++ crash ∷ []) is_here)
+    -- the answer to it
+    pub drive_found : (settled : Type 0) (answer : Result (Unit {0}) DriveError) → OnOk answer (RunsScript may_leave told file k from to old new after)
+        → IfErr answer (HaltsScript may_leave told file k from to old new after) → KeepsFound (IsFound (told disk) (may_leave disk) (digest_of file) seed) settled (may_leave after) (digest_of file) seed old new
+    drive_found settled answer ok err = inr (
+      r.journal,
+      r.place,
+      record { sound = r.sound; stands = r.stands; one = r.one },
+      either_way answer ok err (λ runs. (runs.2 seed here (kept_here runs.0)).1) halts_from,
+    )
 
-      pub halts_kept : (error : DriveError) → HaltsScript may_leave told file k from to old new after error → KeepsShown (may_leave after) (digest_of file) seed steps old new
-      halts_kept error (inl (none, quiet, is)) = record {
-        more = crash ∷ [];
-        left = subst (λ d. IsLeft (may_leave d) (digest_of file) (life_after_all seed (steps ++ crash ∷ []))) (sym is)
-            (subst (IsLeft (may_leave (kept_disk k)) (digest_of file)) is_here (left_of may_leave (digest_of file) here k on.keeps));
-        put = [];
-        front = none_put old new quiet;
-        kept = All-nil (IsKept seed (steps ++ crash ∷ []));
-      }
-      halts_kept error (inr (cs, script, ran, halts)) = kept_from (may_leave after) (digest_of file) seed steps crash old new ((halts seed here (kept_here cs)).kept (steps ++ crash ∷ []) is_here)
-
-      -- the answer to it
-      pub drive_kept : (answer : Result (Unit {0}) DriveError) → OnOk answer (RunsScript may_leave told file k from to old new after)
-          → IfErr answer (HaltsScript may_leave told file k from to old new after) → KeepsShown (may_leave after) (digest_of file) seed steps old new
-      drive_kept answer ok err = either_way answer ok err runs_kept halts_kept
-
-      -- no journal is refused in it
-      pub halts_accepted : (error : DriveError) → HaltsScript may_leave told file k from to old new after error → IsOfJournal error → ⊥
-      halts_accepted error (inl (none, quiet, is)) of = of_script from to error none of
-      halts_accepted error (inr (cs, script, ran, halts)) of =
-          not_of_journal error ((halts seed (new_life seed r.journal r.place) (kept_in told may_leave file seed disk k accepted fit r same cs (inl some))).outside r.journal r.place refl fit r.sound.named) of
+    -- no journal is refused in it
+    pub halts_accepted : (error : DriveError) → HaltsScript may_leave told file k from to old new after error → IsOfJournal error → ⊥
+    halts_accepted error (inl (none, quiet, is)) of = of_script from to error none of
+    halts_accepted error (inr (cs, script, ran, halts)) of = not_of_journal error ((halts seed here (kept_here cs)).outside r.journal r.place refl fit r.sound.named) of
 
 -- ---- no room was recovered
 
@@ -217,12 +175,3 @@ outside_none keep.Memory h of = of
 
 pub unopened_accepted : (error : KeepError) → KeepOutside error → IsOfJournal (error_of error) → ⊥
 unopened_accepted error outside of = outside_none error outside of
-
-pub unopened_kept : (images : List ℕ → Type 0) (digest : List ℕ) (seed : Seed) (steps : List Step) (held : Option (List ℕ)) → IsLeft images digest (life_after_all seed steps) → KeepsShown images digest seed steps held held
-unopened_kept images digest seed steps held now = record {
-  more = [];
-  left = subst (λ l. IsLeft images digest (life_after_all seed l)) (sym (append-nil steps)) now;
-  put = [];
-  front = none_put held held (Keeps-refl held);
-  kept = All-nil (IsKept seed (steps ++ []));
-}

@@ -6,9 +6,10 @@ use Rattle.std.specs.Io.KnownBytes.{Appends}
 use Rattle.std.specs.Prelude.{All}
 use Rattle.mw_edges.specs.Causes.{PutsFront}
 use Rattle.mw_model.specs.Seed.{Seed}
-use Rattle.mw_protocol.specs.Lives.{Life, Step, after_all, committed_of, life_after_all}
+use Rattle.mw_protocol.specs.Lives.{Life, after_all, committed_of}
 use Rattle.mw_protocol.specs.Named.{are_named}
 use Rattle.mw_protocol.specs.Spelled.{records_bytes}
+use Rattle.mw_laws.specs.Naming.{JournalsAreNamed}
 use Rattle.mw_journal.specs.Settled.{AllShut}
 use Rattle.mw_keep.specs.Keeps.{Keeps, kept_disk}
 use Rattle.mw_keep.specs.declared.kept.KeptRoom.{KeptRoom}
@@ -16,11 +17,11 @@ use Rattle.mw_keep.specs.Left.{IsLeft}
 use Rattle.mw_keep.proofs.Leaving.{left_of, shut_of}
 use Rattle.mw_script.specs.Commands.{Command, opens, sends, takes, loses, commits, crashes}
 use Rattle.mw_drive.specs.Drive.{text_put, is_full, calls, puts, after, Run, after_puts, run, drive_text}
-use Rattle.mw_drive.specs.Left.{IsGoing, HasDriven, IsKept, KeepsShown}
-use Rattle.mw_drive.specs.Runs.{IsCut, IsQuietOrDone, HasHalted, IsShownKept}
+use Rattle.mw_drive.specs.Left.{IsGoing, HasDriven, IsPutFrom, KeepsFrom}
+use Rattle.mw_drive.specs.Runs.{IsCut, IsQuietOrDone, HasHalted}
 use Rattle.mw_drive.specs.declared.error.DriveError.{DriveError}
-use Rattle.mw_drive.proofs.Calling.{call_step}
-use Rattle.mw_drive.proofs.Running.{Laws, IsRun, text_both, run_goes, run_full, runs_on, called, kept_on, kept_then}
+use Rattle.mw_drive.proofs.Calling.{all_after}
+use Rattle.mw_drive.proofs.Running.{IsRun, text_both, run_goes, run_full, called, put_then, puts_later}
 
 -- ---- all were done
 
@@ -41,13 +42,13 @@ module _ {D : Type 0} (may_leave : D → List ℕ → Type 0) (digest : List ℕ
       stands = subst (λ (l : Life). AllShut (may_leave (kept_disk k)) digest (records_bytes (committed_of l)) now.place) whole_life (shut_of may_leave digest now k keeps going.whole);
     }
 
-    pub driven_kept : IsShownKept (may_leave (kept_disk k)) digest seed first old new
-    driven_kept before is = record {
-      more = r.steps;
-      left = subst (IsLeft (may_leave (kept_disk k)) digest) (r.is_now ∙ runs_on seed before r.steps first is) (left_of may_leave digest now k keeps);
+    pub driven_kept : KeepsFrom (may_leave (kept_disk k)) digest first old new
+    driven_kept = record {
+      steps = r.steps;
+      left = subst (IsLeft (may_leave (kept_disk k)) digest) r.is_now (left_of may_leave digest now k keeps);
       put = r.ps;
       front = (text_put r.ps, [], sym (append-nil (text_put r.ps)), r.put);
-      kept = r.kept seed before is;
+      taken = r.taken;
     }
 
 -- ---- one was not
@@ -56,7 +57,7 @@ front_then : (front text f rest more : List ℕ) → text ≡ f ++ rest → (fro
 front_then front text f rest more is =
     ap (λ (t : List ℕ). (front ++ t) ++ more) is ∙ ap (λ (t : List ℕ). t ++ more) (sym (append_assoc front f rest)) ∙ append_assoc (front ++ f) rest more
 
-module _ {D : Type 0} (laws : Laws) (may_leave : D → List ℕ → Type 0) (digest : List ℕ) (seed : Seed) (first now : Life) (old mid new : Option (List ℕ)) (c : Command) (left all : List Command)
+module _ {D : Type 0} (named_all : JournalsAreNamed) (may_leave : D → List ℕ → Type 0) (digest : List ℕ) (seed : Seed) (first now : Life) (old mid new : Option (List ℕ)) (c : Command) (left all : List Command)
     (r : IsRun first now old mid (c ∷ left) all) (disk : D) (error : DriveError) (cut : IsCut may_leave digest seed now c mid new disk error)
   where
     -- the text of all, where the next command meets a full journal
@@ -102,35 +103,33 @@ module _ {D : Type 0} (laws : Laws) (may_leave : D → List ℕ → Type 0) (dig
           Appends-trans _ _ _ _ _ r.put f.3,
         )
 
-    module _ (before : List Step) (is : first ≡ life_after_all seed before) where
-      cut_left : IsLeft (may_leave disk) digest (life_after_all seed (before ++ (r.steps ++ cut.steps)))
-      cut_left = subst (IsLeft (may_leave disk) digest)
-          (runs_on seed (before ++ r.steps) cut.steps now (r.is_now ∙ runs_on seed before r.steps first is) ∙ ap (life_after_all seed) (append_assoc before r.steps cut.steps)) cut.left
+    cut_left : IsLeft (may_leave disk) digest (after_all first (r.steps ++ cut.steps))
+    cut_left = subst (IsLeft (may_leave disk) digest) (ap (λ l. after_all l cut.steps) r.is_now ∙ sym (all_after r.steps first cut.steps)) cut.left
 
-      -- nothing more was put, or all that the next command puts, whose calls were done
-      cut_kept_by : IsQuietOrDone now c cut.steps mid new → KeepsShown (may_leave disk) digest seed before old new
-      cut_kept_by (inl none) = record {
-        more = r.steps ++ cut.steps;
-        left = cut_left;
-        put = r.ps;
-        front = (text_put r.ps, [], sym (append-nil (text_put r.ps)), subst (Appends old new) (append-nil (text_put r.ps)) (Appends-trans _ _ _ _ _ r.put none));
-        kept = kept_on laws first now old mid new c left all r seed before cut.steps is;
-      }
-      cut_kept_by (inr done) = record {
-        more = r.steps ++ cut.steps;
-        left = cut_left;
-        put = r.ps ++ puts now c;
-        front = front_shown;
-        kept = subst (λ s. All (IsKept seed (before ++ (r.steps ++ s))) (r.ps ++ puts now c)) (called now c done.0 ∙ sym done.1) (kept_then laws first now old mid new c left all r done.2 seed before is);
-      }
+    -- nothing more was put, or all that the next command puts, whose calls were done
+    cut_kept_by : IsQuietOrDone now c cut.steps mid new → KeepsFrom (may_leave disk) digest first old new
+    cut_kept_by (inl none) = record {
+      steps = r.steps ++ cut.steps;
+      left = cut_left;
+      put = r.ps;
+      front = (text_put r.ps, [], sym (append-nil (text_put r.ps)), subst (Appends old new) (append-nil (text_put r.ps)) (Appends-trans _ _ _ _ _ r.put none));
+      taken = puts_later first r.steps cut.steps r.ps r.taken;
+    }
+    cut_kept_by (inr done) = record {
+      steps = r.steps ++ cut.steps;
+      left = cut_left;
+      put = r.ps ++ puts now c;
+      front = front_shown;
+      taken = subst (λ s. All (IsPutFrom first (r.steps ++ s)) (r.ps ++ puts now c)) (called now c done.0 ∙ sym done.1) (put_then first now old mid new c left all r done.2);
+    }
 
     pub has_halted : (k : KeptRoom D) → Keeps may_leave digest now k → HasHalted (may_leave disk) digest seed first all old new error
     has_halted k keeps = record {
       front = front_by (is_full now c) refl;
       full = λ e. (full_run (cut.full e), put_full (cut.full e));
-      kept = λ before is. cut_kept_by before is cut.told;
+      kept = cut_kept_by cut.told;
       outside = λ journal place begins fit named. cut.outside record {
         spelled = keeps.records;
-        named = subst (λ (l : Life). are_named seed l.room.journal ≡ true) (ap (λ l. after_all l r.steps) (sym begins) ∙ sym r.is_now) (laws.named_all.anywhere seed journal place r.steps fit named);
+        named = subst (λ (l : Life). are_named seed l.room.journal ≡ true) (ap (λ l. after_all l r.steps) (sym begins) ∙ sym r.is_now) (named_all.anywhere seed journal place r.steps fit named);
       };
     }

@@ -9,3 +9,4 @@ pub mod Passing
 pub mod Running
 pub mod Stepping
 pub mod Taking
+pub mod Telling

@@ -5,6 +5,7 @@ use Rattle.std.specs.Option.{is_some}
 use Rattle.mw_model.specs.Seed.{Seed}
 use Rattle.mw_multidata.specs.Digest.{digest_of}
 use Rattle.mw_protocol.specs.Lives.{Life}
+use Rattle.mw_laws.specs.Naming.{JournalsAreNamed}
 use Rattle.mw_keep.specs.Keeps.{kept_disk}
 use Rattle.mw_keep.specs.declared.kept.KeptRoom.{KeptRoom}
 use Rattle.mw_script.specs.Commands.{Command}
@@ -13,7 +14,7 @@ use Rattle.mw_drive.specs.Left.{FindsItself}
 use Rattle.mw_drive.specs.Runs.{HasStepped, IsCut, IsKeptIn, HasHalted}
 use Rattle.mw_drive.specs.declared.error.DriveError.{DriveError}
 use Rattle.mw_drive.proofs.Finishing.{has_halted}
-use Rattle.mw_drive.proofs.Running.{Laws, IsRun, run_more}
+use Rattle.mw_drive.proofs.Running.{IsRun, run_more}
 
 or_left : (a b : Bool) → (a || b) ≡ false → a ≡ false
 or_left true b h = h
@@ -44,7 +45,7 @@ module _ {D : Type 0} (may_leave : D → List ℕ → Type 0) (told : D → Opti
     pub run_so : IsRun first now old new left all
     pub kept : IsKeptIn may_leave told file left seed now k
 
-  module _ (laws : Laws) (mid : Option (List ℕ)) (c : Command) (left all : List Command) (k : KeptRoom D) (at : IsAt mid (c ∷ left) all k) where
+  module _ (named_all : JournalsAreNamed) (mid : Option (List ℕ)) (c : Command) (left all : List Command) (k : KeptRoom D) (at : IsAt mid (c ∷ left) all k) where
     -- what one command needs
     pub one_kept : IsKeptIn may_leave told file (c ∷ []) seed at.now k
     one_kept = record { accepted = at.kept.accepted; keeps = at.kept.keeps; going = at.kept.going; finds = finds_one (told (kept_disk k)) c left at.kept.finds }
@@ -54,11 +55,11 @@ module _ {D : Type 0} (may_leave : D → List ℕ → Type 0) (told : D → Opti
         → HasStepped may_leave (digest_of file) seed at.now c mid new then → IsAt new left all then
     at_more new then same step = record {
       now = _;
-      run_so = run_more laws first at.now old mid new c left all at.run_so step.whole step.put;
+      run_so = run_more first at.now old mid new c left all at.run_so step.whole step.put;
       kept = record { accepted = at.kept.accepted; keeps = step.keeps; going = step.going; finds = finds_rest (told (kept_disk k)) (told (kept_disk then)) c left same at.kept.finds };
     }
 
     -- one wasn't
     pub at_cut : (new : Option (List ℕ)) (disk : D) (error : DriveError) → IsCut may_leave (digest_of file) seed at.now c mid new disk error
         → HasHalted (may_leave disk) (digest_of file) seed first all old new error
-    at_cut new disk error cut = has_halted laws may_leave (digest_of file) seed first at.now old mid new c left all at.run_so disk error cut k at.kept.keeps
+    at_cut new disk error cut = has_halted named_all may_leave (digest_of file) seed first at.now old mid new c left all at.run_so disk error cut k at.kept.keeps

@@ -6,7 +6,7 @@ use Rattle.mw_edges.specs.Causes.{PutsFront}
 use Rattle.mw_model.specs.Seed.{Seed}
 use Rattle.mw_multidata.specs.Digest.{digest_of}
 use Rattle.mw_multidata.specs.SeedOf.{SeedOf}
-use Rattle.mw_protocol.specs.Lives.{Life, Step, after_all, life_after_all, new_life}
+use Rattle.mw_protocol.specs.Lives.{Life, Step, after_all, new_life}
 use Rattle.mw_protocol.specs.Named.{are_named}
 use Rattle.mw_protocol.specs.Records.{Record}
 use Rattle.mw_laws.specs.Naming.{NamesFit}
@@ -18,7 +18,7 @@ use Rattle.mw_drive.specs.Calls.{IsOutside}
 use Rattle.mw_script.specs.Commands.{Command}
 use Rattle.mw_drive.specs.Drive.{is_crash, is_full, after, calls, puts, step_of, text_put, run, drive_text}
 use Rattle.mw_drive.specs.Input.{HasScript, HasNoScript}
-use Rattle.mw_drive.specs.Left.{IsGoing, FindsItself, HasDriven, KeepsShown}
+use Rattle.mw_drive.specs.Left.{IsGoing, FindsItself, HasDriven, KeepsFrom}
 use Rattle.mw_drive.specs.declared.error.DriveError.{DriveError}
 use Rattle.mw_drive.specs.declared.error.DriveError.TheVariants.{Fault, Memory, Full, Journal, Script}
 
@@ -128,13 +128,6 @@ IsOfRun cs (Script line) = ⊥
 
 -- ---- all steps
 
--- what was put is kept, where the life is one that a run of lives comes to
-abbrev pub IsShownKept : (List ℕ → Type 0) → List ℕ → Seed → Life → Option (List ℕ)
-    → Option (List ℕ) → Type 0
-IsShownKept images digest seed life old new =
-    (steps : List Step) → life ≡ life_after_all seed steps
-    → KeepsShown images digest seed steps old new
-
 -- they stopped before their end: a front of their text was put; for a full journal just where the
 -- definition says so, once all before was put; at no crash is a journal refused that began with
 -- records which name only what the seed has, whoever wrote them
@@ -144,7 +137,7 @@ pub record HasHalted (images : List ℕ → Type 0) (digest : List ℕ) (seed : 
     : Type 0 where
   pub front : PutsFront old new (drive_text life cs)
   pub full : error ≡ Full → IsTrue (run life cs).full × Appends old new (drive_text life cs)
-  pub kept : IsShownKept images digest seed life old new
+  pub kept : KeepsFrom images digest life old new
   pub outside : (journal : List Record) (place : ℕ) → life ≡ new_life seed journal place
       → NamesFit seed → IsTrue (are_named seed journal) → IsOutside error
 
@@ -153,7 +146,7 @@ abbrev pub RunsAlways : {D : Type 0} → (D → List ℕ → Type 0) → (D → 
 RunsAlways may_leave told file before cs old new disk =
     (seed : Seed) (life : Life) → IsKeptIn may_leave told file cs seed life before
     → HasDriven (may_leave disk) (digest_of file) life cs old new
-    × IsShownKept (may_leave disk) (digest_of file) seed life old new
+    × KeepsFrom (may_leave disk) (digest_of file) life old new
 
 abbrev pub HaltsAlways : {D : Type 0} → (D → List ℕ → Type 0) → (D → Option (List ℕ)) → List ℕ
     → KeptRoom D → List Command → Option (List ℕ) → Option (List ℕ)

@@ -9,7 +9,7 @@ ghost use Rattle.mw_script.specs.Commands.{command_view};
 ghost use Rattle.mw_drive.specs.Ends.{Drives, IsAsRead, IsFound, IsOfJournal, Refuses};
 ghost use Rattle.mw_drive.specs.Ends.{StaysSettled, StopsWith};
 ghost use Rattle.mw_drive.specs.Input.{HasScript, HasNoScript};
-ghost use Rattle.mw_drive.specs.Left.{KeepsShown};
+ghost use Rattle.mw_drive.specs.Left.{KeepsFound, KeepsShown};
 ghost use Rattle.mw_drive.specs.Runs.{HasLife, RunsScript, HaltsScript};
 
 use crate::crash::drive_error;
@@ -19,7 +19,7 @@ use crate::run::run_all;
 use mw_base::List;
 use mw_disk::Disk;
 use mw_edges::{Sink, Source};
-use mw_keep::laws::{lives_keep, names_fit};
+use mw_keep::laws::{lives_keep, names_fit, shown_is_checked, tails_of_the_last_view};
 use mw_keep::{KeptRoom, resume};
 use mw_multidata::{Multidata, digest};
 use mw_script::{Command, judge_script};
@@ -83,7 +83,9 @@ fn drive_kept<D: Disk, S: Source, O: Sink>(
 ///
 /// Whatever is answered, what a crash may then leave of the disk is settled for a life that goes on
 /// from the one for which it was settled before, and all that was shown by what was put is checked
-/// in that life's journal.
+/// in that life's journal. So it is by what the run does alone, whatever wrote the records that it
+/// found: it goes on from the life that begins with them, and puts only what was taken on the way
+/// (`found`).
 pub fn drive_on<D: Disk, S: Source, O: Sink>(
     alloc: Global,
     disk: D,
@@ -107,6 +109,10 @@ pub fn drive_on<D: Disk, S: Source, O: Sink>(
     ensures fault { result.1 ≡ Err DriveError.Fault → (D.faults disk < D.faults result.0)
         ⊎ (Rose (S.faults input.old) (S.faults input.new)
         ⊎ Rose (O.faults out.old) (O.faults out.new)) }
+    ensures found { IsTrue (is_some (D.told disk)) → KeepsFound
+        (IsFound (D.told disk) (D.may_leave disk) (digest_of file.now) multidata)
+        (StaysSettled (D.may_leave disk) (D.may_leave result.0) (digest_of file.now))
+        (D.may_leave result.0) (digest_of file.now) multidata (O.held out.old) (O.held out.new) }
     ensures kept { (steps : List Step) → IsTrue (is_some (D.told disk))
         → IsLeft (D.may_leave disk) (digest_of file.now) (life_after_all multidata steps)
         → KeepsShown (D.may_leave result.0) (digest_of file.now) multidata steps
@@ -120,8 +126,10 @@ pub fn drive_on<D: Disk, S: Source, O: Sink>(
     ensures later { (S.faults input.old ≤ S.faults input.new)
         × (O.faults out.old ≤ O.faults out.new) }
 {
-    // The laws of lives, by which what was settled stays so.
+    // The laws of lives, by which what was settled stays so, and what was taken is kept.
     lives_keep();
+    shown_is_checked();
+    tails_of_the_last_view();
     names_fit(&multidata);
     match resume(alloc, disk, multidata, &digest(file)) {
         Ok(kept) => drive_kept(alloc, kept, file, input, out),

@@ -15,7 +15,7 @@ use mw_base::List;
 use mw_disk::Disk;
 use mw_edges::{Sink, SinkError};
 use mw_keep::KeptRoom;
-use mw_keep::laws::{journals_are_named, lives_keep, shown_is_checked, tails_of_the_last_view};
+use mw_keep::laws::journals_are_named;
 use mw_script::Command;
 use std::alloc::Global;
 
@@ -124,10 +124,7 @@ pub(crate) fn run_all<D: Disk, O: Sink>(
     ensures count { D.faults (kept_disk kept) ≤ D.faults result.0 }
     ensures later { O.faults out.old ≤ O.faults out.new }
 {
-    // The laws of lives, by which what is put is kept.
-    lives_keep();
-    shown_is_checked();
-    tails_of_the_last_view();
+    // What a room of the seed wrote names only what the seed has.
     journals_are_named();
     let mut kept = kept;
     for command in commands.into_vec() {

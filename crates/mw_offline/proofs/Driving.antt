@@ -1,26 +1,25 @@
 -- What the run of a script on a disk comes to for the file of which it is the disk.
-use Rattle.std.proofs.Common.{◌≡◌, ◌≤◌, ◌∙◌, ◌⊎◌, arith, ℕ, List, [], ◌++◌, Option, Some, None, Result, Ok, Err, Bool, true, false, codes, refl, sym, ap, subst, inl, inr, append-nil}
+use Rattle.std.proofs.Common.{◌≡◌, ◌≤◌, ◌∙◌, ◌⊎◌, arith, ℕ, List, [], ◌++◌, Option, Some, None, Result, Ok, Err, Bool, true, false, codes, refl, sym, ap, subst, inl, inr}
 use Rattle.std.proofs.KnownBytes.{Keeps-refl}
-use Rattle.std.proofs.lemmas.List.Elements.{All-nil}
 use Rattle.std.proofs.lemmas.Slice.Eq.{bytes_eq-Decides}
 use Rattle.std.specs.Option.{is_some}
 use Rattle.std.specs.Str.{bytes_eq}
 use Rattle.std.specs.Io.KnownBytes.{Keeps as WasKept}
 use Rattle.std.specs.Prelude.{IfErr, IsErrAnd, OnOk, ⊤}
-use Rattle.mw_edges.specs.Causes.{PutsFront, Rose}
+use Rattle.mw_edges.specs.Causes.{Rose}
 use Rattle.mw_edges.specs.Files.{open_file}
 use Rattle.mw_edges.specs.Folders.{SameImages, StaysOrIsMade, opened_bytes}
 use Rattle.mw_model.specs.Seed.{Seed}
 use Rattle.mw_multidata.specs.Digest.{digest_of}
 use Rattle.mw_multidata.specs.SeedOf.{SeedOf}
 use Rattle.mw_keep.proofs.OneSeed.{one_seed}
-use Rattle.mw_protocol.specs.Lives.{Life, Step, life_after_all}
+use Rattle.mw_protocol.specs.Lives.{Life, Step, after_all, life_after_all, new_life}
 use Rattle.mw_protocol.specs.Records.{Record}
 use Rattle.mw_protocol.specs.Spelled.{records_bytes}
 use Rattle.mw_journal.specs.Settled.{AllSettled, AllShut}
 use Rattle.mw_script.specs.Commands.{Command}
 use Rattle.mw_drive.specs.Ends.{IsFound, IsForeign, IsReady, Refuses, StaysSettled, Drives, StopsWith, IsOfJournal}
-use Rattle.mw_drive.specs.Left.{FindsItself, HasDriven, IsKept, KeepsShown}
+use Rattle.mw_drive.specs.Left.{FindsItself, HasDriven, KeepsFound, KeepsFrom}
 use Rattle.mw_keep.specs.Left.{IsLeft}
 use Rattle.mw_drive.specs.Runs.{HasHalted}
 use Rattle.mw_drive.specs.declared.error.DriveError.{DriveError}
@@ -29,7 +28,7 @@ use Rattle.mw_drive.specs.declared.error.JournalRefusal.{JournalRefusal}
 use Rattle.mw_drive.proofs.Crashing.{one_journal, one_place, settled_of}
 use Rattle.mw_words.specs.declared.command_line.DriveWords.{DriveWords}
 use Rattle.mw_causes.specs.DriveCauses.{drive_line, drive_status, drive_stop}
-use Rattle.mw_offline.specs.Driving.{DriveEnds, DriveKeeps, DriveStopped, IsNewJournal, JournalKeeps, JournalLeaves, JournalRead, NoImages, ScriptRun, run_of, RunsToEnd, RunsShort}
+use Rattle.mw_offline.specs.Driving.{DriveEnds, DriveKeeps, DriveStopped, IsNewJournal, JournalLeaves, JournalRead, JournalRuns, NoImages, ScriptRun, run_of, RunsToEnd, RunsShort}
 use Rattle.mw_causes.specs.SeedFiles.{IsFile, IsSeedStopped}
 use Rattle.mw_causes.specs.Ends.{Ended, IsTold, Told, stop_with}
 use Rattle.mw_offline.specs.FilesAround.{FilesAround, IsUntouched, files_around}
@@ -40,6 +39,7 @@ use Rattle.mw_causes.specs.declared.seed_cause.SeedCause.{SeedCause}
 use Rattle.mw_causes.specs.declared.stop.Stop.{Stop}
 use Rattle.mw_causes.specs.declared.stop.Stop.TheVariants as stop
 use Rattle.mw_causes.proofs.Endings.{fault_passed, passed_exit}
+use Rattle.mw_offline.proofs.Keeping.{Laws, journal_keeps, nothing_left, quiet_from, still_keeps}
 
 -- ---- fewer images
 
@@ -53,15 +53,15 @@ module _ (left later : List ℕ → Type 0) (fewer : (c : List ℕ) → later c 
   pub fewer_left : (life : Life) → IsLeft left digest life → IsLeft later digest life
   fewer_left life l = record { records = l.records; batch = l.batch; first = l.first; settled = λ c image. l.settled c (fewer c image) }
 
-  pub fewer_kept : (seed : Seed) (steps : List Step) (old new : Option (List ℕ)) → KeepsShown left digest seed steps old new → KeepsShown later digest seed steps old new
-  fewer_kept seed steps old new k = record { more = k.more; left = fewer_left (life_after_all seed (steps ++ k.more)) k.left; put = k.put; front = k.front; kept = k.kept }
+  pub fewer_from : (life : Life) (old new : Option (List ℕ)) → KeepsFrom left digest life old new → KeepsFrom later digest life old new
+  fewer_from life old new k = record { steps = k.steps; left = fewer_left (after_all life k.steps) k.left; put = k.put; front = k.front; taken = k.taken }
 
   pub fewer_driven : (life : Life) (cs : List Command) (old new : Option (List ℕ)) → HasDriven left digest life cs old new → HasDriven later digest life cs old new
   fewer_driven life cs old new d = record { whole = d.whole; put = d.put; place = d.place; stands = λ c image. d.stands c (fewer c image) }
 
   pub fewer_halted : (seed : Seed) (life : Life) (cs : List Command) (old new : Option (List ℕ)) (error : DriveError) → HasHalted left digest seed life cs old new error → HasHalted later digest seed life cs old new error
   fewer_halted seed life cs old new error h =
-      record { front = h.front; full = h.full; kept = λ steps is. fewer_kept seed steps old new (h.kept steps is); outside = h.outside }
+      record { front = h.front; full = h.full; kept = fewer_from life old new h.kept; outside = h.outside }
 
 -- ---- a run on a disk, where less is said of what it held, told and may leave
 
@@ -141,11 +141,11 @@ module _ (told shown : Option (List ℕ)) (same : told ≡ shown) (images might 
         drives_for (IsFound told images digest seed) (IsFound shown might digest seed) (found_for told shown same digest seed images might fewer) left later less told shown
         (finds_for told shown same digest seed) digest seed before after old new d
 
-    pub kept_over : (steps : List Step)
-        → (is_some told ≡ true → IsLeft images digest (life_after_all seed steps) → KeepsShown left digest seed steps old new)
-        → is_some shown ≡ true → IsLeft might digest (life_after_all seed steps) → KeepsShown later digest seed steps old new
-    kept_over steps keeps some is =
-        fewer_kept left later less digest seed steps old new (keeps (some_for told shown same digest seed some) (fewer_left might images fewer digest (life_after_all seed steps) is))
+    pub found_over : KeepsFound (IsFound told images digest seed) (StaysSettled images left digest) left digest seed old new
+        → KeepsFound (IsFound shown might digest seed) (StaysSettled might later digest) later digest seed old new
+    found_over (inl (stays, quiet)) = inl (stays_for told shown same digest seed images might fewer left later less stays, quiet)
+    found_over (inr (journal, place, found, k)) =
+        inr (journal, place, found_for told shown same digest seed images might fewer journal place found, fewer_from left later less digest (new_life seed journal place) old new k)
 
     module _ (error : DriveError) where
       pub stops_over : {S : Type 0} (source : S → Option (List ℕ)) (before after : S) (read seen : Type 0) → (read → seen)
@@ -190,8 +190,15 @@ module _ (f : List ℕ) (images : List ℕ → Type 0) (here : images f) (digest
     drives_new before after d =
         drives_for (IsFound (Some f) images digest seed) IsNewJournal new_found left NoImages (λ c never. absurd never) (Some f) (Some []) (λ cs finds. inl refl) digest seed before after old new d
 
-    pub kept_new : (is_some (Some f) ≡ true → IsLeft images digest (life_after_all seed []) → KeepsShown left digest seed [] old new) → KeepsShown NoImages digest seed [] old new
-    kept_new keeps = fewer_kept left NoImages (λ c never. absurd never) digest seed [] old new (keeps refl new_left)
+    pub runs_new : (is_some (Some f) ≡ true → KeepsFound (IsFound (Some f) images digest seed) (StaysSettled images left digest) left digest seed old new) → KeepsFrom NoImages digest (new_life seed [] 40) old new
+    runs_new keeps = by (keeps refl)
+      where
+        by : KeepsFound (IsFound (Some f) images digest seed) (StaysSettled images left digest) left digest seed old new → KeepsFrom NoImages digest (new_life seed [] 40) old new
+        by (inl (stays, quiet)) = quiet_from NoImages digest (new_life seed [] 40) old new quiet nothing_left
+        by (inr (journal, place, found, k)) =
+            let new_is = new_found journal place found in
+            fewer_from left NoImages (λ c never. absurd never) digest (new_life seed [] 40) old new
+            (subst (λ j. KeepsFrom left digest (new_life seed j 40) old new) new_is.0 (subst (λ p. KeepsFrom left digest (new_life seed journal p) old new) new_is.1 k))
 
     pub stops_new : {S : Type 0} (source : S → Option (List ℕ)) (before after : S) (error : DriveError) → (IsOfJournal error → ⊥)
         → (read : Type 0) → StopsWith source (IsFound (Some f) images digest seed) (Refuses (Some f) digest seed) (StaysSettled images left digest) read (Some f) left digest seed before after old new error
@@ -200,31 +207,6 @@ module _ (f : List ℕ) (images : List ℕ → Type 0) (here : images f) (digest
         stops_for (IsFound (Some f) images digest seed) IsNewJournal new_found left NoImages (λ c never. absurd never) (Some f) (Some []) (λ cs finds. inl refl) digest seed source
         (Refuses (Some f) digest seed) (λ refusal. ⊥) (StaysSettled images left digest) (StaysSettled NoImages NoImages digest) (λ stays text body settled. settled) read ⊤ (λ r. tt) before after old new error
         (λ refusal is why. other (subst IsOfJournal (sym is) tt)) s
-
--- ---- a file that is as it was
-
-none_put : (held : Option (List ℕ)) → PutsFront held held []
-none_put None = ([], [], refl, tt)
-none_put (Some x) = ([], [], refl, sym (append-nil x))
-
-pub unmoved_kept : (images left : List ℕ → Type 0) → ((c : List ℕ) → left c → images c) → (digest : List ℕ) (seed : Seed) (steps : List Step) (held : Option (List ℕ))
-    → IsLeft images digest (life_after_all seed steps) → KeepsShown left digest seed steps held held
-unmoved_kept images left fewer digest seed steps held is = record {
-  more = [];
-  left = fewer_left images left fewer digest (life_after_all seed (steps ++ [])) (subst (λ l. IsLeft images digest (life_after_all seed l)) (sym (append-nil steps)) is);
-  put = [];
-  front = none_put held;
-  kept = All-nil (IsKept seed (steps ++ []));
-}
-
--- nothing was put, and no journal is kept
-pub nothing_kept : (digest : List ℕ) (seed : Seed) (held : Option (List ℕ)) → KeepsShown NoImages digest seed [] held held
-nothing_kept digest seed held = unmoved_kept NoImages NoImages (λ c never. never) digest seed [] held record {
-  records = tt;
-  batch = [];
-  first = ([], refl);
-  settled = λ c never. absurd never;
-}
 
 -- ---- folders that are as they were
 
@@ -241,13 +223,8 @@ module _ (files : FilesAround) (unmoved : AreUnmoved files) where
     opened = unmoved.opened;
   }
 
-  pub unmoved_keeps : (journal : Option (List ℕ)) (digest : List ℕ) (seed : Seed) (held : Option (List ℕ)) → JournalKeeps files journal digest seed held held
-  unmoved_keeps None digest seed held = nothing_kept digest seed held
-  unmoved_keeps (Some name) digest seed held = λ steps some left.
-      unmoved_kept (files.might_leave name) (files.may_leave name) (λ c. ((unmoved.each name).crash c).0) digest seed steps held left
-
   pub unmoved_all : (named : DriveWords) (held : Option (List ℕ)) → DriveKeeps files named held held
-  unmoved_all named held bytes seed told is = unmoved_keeps named.journal _ seed held
+  unmoved_all named held bytes seed told is = still_keeps files (λ n c. ((unmoved.each n).crash c).0) (digest_of bytes) seed held named.journal
 
 module _ {F : Type 0} (holds : F → Files) (images : F → List ℕ → List ℕ → Type 0) (opened : F → List ℕ → Bool) (may_fail : F → Bool) (faults : F → ℕ) where
   pub same_folder : (folder : F) → AreUnmoved (files_around holds images opened may_fail faults folder folder)
@@ -299,13 +276,13 @@ module _ {F : Type 0} (holds : F → Files) (images : F → List ℕ → List �
             (images last name) (images last name) (λ c x. x) (digest_of run.bytes) run.seed run.old run.new why r.accepted;
       }
 
-    pub keeps_since : (journal : Option (List ℕ)) (digest : List ℕ) (seed : Seed) (old new : Option (List ℕ))
-        → JournalKeeps (files_around holds images opened may_fail faults second last) journal digest seed old new
-        → JournalKeeps (files_around holds images opened may_fail faults first last) journal digest seed old new
-    keeps_since None digest seed old new k = k
-    keeps_since (Some name) digest seed old new k = λ steps.
-        kept_over (opened_bytes (holds second name)) (opened_bytes (holds first name)) (ap opened_bytes (same name)) (images second name) (images first name) (λ c. (crash name c).0)
-        (images last name) (images last name) (λ c x. x) digest seed old new steps (k steps)
+    pub journal_since : (journal : Option (List ℕ)) (digest : List ℕ) (seed : Seed) (old new : Option (List ℕ))
+        → JournalRuns (files_around holds images opened may_fail faults second last) journal digest seed old new
+        → JournalRuns (files_around holds images opened may_fail faults first last) journal digest seed old new
+    journal_since None digest seed old new k = k
+    journal_since (Some name) digest seed old new k = λ some.
+        found_over (opened_bytes (holds second name)) (opened_bytes (holds first name)) (ap opened_bytes (same name)) (images second name) (images first name) (λ c. (crash name c).0)
+        (images last name) (images last name) (λ c x. x) digest seed old new (k (ap (λ file. is_some (opened_bytes file)) (same name) ∙ some))
 
     pub leaves_since : (journal : Option (List ℕ)) → ((n : List ℕ) → opened second n ≡ opened first n)
         → JournalLeaves (files_around holds images opened may_fail faults second last) journal → JournalLeaves (files_around holds images opened may_fail faults first last) journal
@@ -324,12 +301,13 @@ told_bytes None bytes read told is = cc
 told_bytes (Some None) bytes read told is = absurd is
 told_bytes (Some (Some held)) bytes read told is = let same : Some (Some held) ≡ Some (Some bytes) = told in is.0 ∙ cc
 
-pub read_keeps : (files : FilesAround) (named : DriveWords) (read : List ℕ) (seed : Seed) (old new : Option (List ℕ)) → IsFile (files.before named.multidata) read → SeedOf read (Ok seed)
-    → JournalKeeps files named.journal (digest_of read) seed old new → DriveKeeps files named old new
-read_keeps files named read seed old new is_file is keeps bytes other told other_is =
+pub read_keeps : Laws → (files : FilesAround) (named : DriveWords) (read : List ℕ) (seed : Seed) (old new : Option (List ℕ)) → IsFile (files.before named.multidata) read → SeedOf read (Ok seed)
+    → JournalRuns files named.journal (digest_of read) seed old new → DriveKeeps files named old new
+read_keeps laws files named read seed old new is_file is runs bytes other told other_is =
     let same : read ≡ bytes = told_bytes (files.before named.multidata) bytes read told is_file in
     let seeds : seed ≡ other = one_seed bytes seed other (subst (λ b. SeedOf b (Ok seed)) same is) other_is in
-    subst (λ b. JournalKeeps files named.journal (digest_of b) other old new) same (subst (λ s. JournalKeeps files named.journal (digest_of read) s old new) seeds keeps)
+    journal_keeps laws files (digest_of bytes) other old new named.journal
+    (subst (λ b. JournalRuns files named.journal (digest_of b) other old new) same (subst (λ s. JournalRuns files named.journal (digest_of read) s old new) seeds runs))
 
 -- a file that stays, or is made empty, is told as before; and so is one whose disk tells as before
 pub tells_made : (before after : Option (Option (List ℕ))) → StaysOrIsMade before after → is_some (opened_bytes after) ≡ is_some (opened_bytes before)
@@ -391,8 +369,8 @@ module _ {F : Type 0} (holds : F → Files) (images : F → List ℕ → List �
         not_of (inl e) of = subst IsOfJournal e of
         not_of (inr e) of = subst IsOfJournal e of
 
-    pub unopened_keeps : (digest : List ℕ) (seed : Seed) (held : Option (List ℕ)) → JournalKeeps (files_around holds images opened may_fail faults first last) (Some name) digest seed held held
-    unopened_keeps digest seed held steps some left = unmoved_kept (images first name) (images last name) (λ c. (crash c).0) digest seed steps held left
+    pub unopened_runs : (digest : List ℕ) (seed : Seed) (held : Option (List ℕ)) → JournalRuns (files_around holds images opened may_fail faults first last) (Some name) digest seed held held
+    unopened_runs digest seed held some = inl ((λ text body settled c image. settled c ((crash c).0 image)), Keeps-refl held)
 
 -- what a disk tells that was only read is what the file held, or none where there was no file
 pub opened_same : (file after : Option (Option (List ℕ))) → after ≡ open_file (opened_bytes file) → StaysOrIsMade file after

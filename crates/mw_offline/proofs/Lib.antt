@@ -1,6 +1,7 @@
 pub mod Counted
 pub mod Generated
 pub mod FirstGates
+pub mod Keeping
 pub mod Driving
 pub mod NewRooms
 pub mod Checked

@@ -15,9 +15,10 @@ use Rattle.mw_keep.specs.Left.{IsLeft}
 use Rattle.mw_journal.proofs.Told.{on_ok_one}
 use Rattle.mw_drive.specs.Ends.{Drives, IsAsRead, IsFound, IsOfJournal, Refuses, StopsWith}
 use Rattle.mw_drive.specs.Ends as ends
-use Rattle.mw_drive.specs.Left.{KeepsShown}
+use Rattle.mw_drive.specs.Left.{KeepsFound}
 use Rattle.mw_drive.specs.declared.error.DriveError.{DriveError}
 use Rattle.mw_drive.specs.declared.error.DriveError.TheVariants as why
+use Rattle.mw_checkpoint.specs.Chosen.{IsChosen}
 use Rattle.mw_checkpoint.specs.Pair.{other_of}
 use Rattle.mw_checkpoint.specs.declared.error.PairError.{PairError}
 use Rattle.mw_checkpoint.specs.declared.error.PairError.TheVariants as error
@@ -40,9 +41,10 @@ use Rattle.mw_pair.proofs.Since.{room_since, unplayed_since}
 use Rattle.mw_pair.proofs.Steps.{closed_opened, unmoved_then}
 use Rattle.mw_offline.specs.Driving.{JournalKeeps, JournalRead, RunsShort, RunsToEnd, SeedWas, run_of}
 use Rattle.mw_offline.specs.FilesAround.{FilesAround, IsUntouched, files_around}
-use Rattle.mw_offline.specs.PairDriving.{ChoiceStays, IsRefusedChoice, PairDriveDone, PairDriveEnds, PairDriveKeeps, PairDriveStopped, RoomFound, RoomStopped}
+use Rattle.mw_offline.specs.PairDriving.{ChoiceStays, IsRefusedChoice, PairDriveDone, PairDriveEnds, PairDriveKeeps, PairDriveStopped, RoomFound, RoomStays, RoomStopped}
 use Rattle.mw_offline.specs.PairFiles.{PairLeaves, PairOthersStay, PairUnplayed}
-use Rattle.mw_offline.proofs.Driving.{accepted_over, drives_over, from_ok, kept_over, opened_same, stops_over, told_bytes}
+use Rattle.mw_offline.proofs.Driving.{accepted_over, drives_over, found_over, from_ok, opened_same, some_for, stops_over, told_bytes}
+use Rattle.mw_offline.proofs.Keeping.{Laws, journal_keeps}
 
 -- ---- errors
 
@@ -157,6 +159,19 @@ module _ {F : Type 0} (holds : F → Files) (images : F → List ℕ → List �
       opened = same_open;
     }
 
+  -- no room was found
+  pub stopped_stays : (first last : F) (multidata choice : List ℕ) (stop : Stop PairDriveCause) → RoomStopped (Around first last) multidata choice stop → RoomStays (Around first last) multidata choice
+  stopped_stays first last multidata choice stop (inl unread) bytes seed told is = record {
+    settled = λ text body settled c image. settled c (((unread.files_stay choice).crash c).0 image);
+    journals = λ number c image. ((unread.files_stay (journal_name choice number)).crash c).0 image;
+  }
+  stopped_stays first last multidata choice stop (inr refused) bytes seed told is =
+      let one : refused.bytes ≡ bytes = told_bytes (holds first multidata) bytes refused.bytes told refused.seed_was.is_file in
+      let unplayed = refused.refused.unplayed in record {
+        settled = subst (λ b. StaysSettled (images first choice) (images last choice) (digest_of b)) one unplayed.settled;
+        journals = λ number. (unplayed.journals number).crash;
+      }
+
   -- ---- a room that was played
 
   module _ {D : Type 0} (told : D → Option (List ℕ)) (may_leave : D → List ℕ → Type 0) (counts : D → ℕ) (first last : F) (choice digest : List ℕ) (room : Chosen D) (o : IsOpenedRoom told may_leave counts (holds first) (images first) choice digest room)
@@ -169,11 +184,15 @@ module _ {F : Type 0} (holds : F → Files) (images : F → List ℕ → List �
       settled : StaysSettled (images first choice) (images last choice) digest
       settled text body s c image = o.settled text body s c ((k.own.left c).0 image)
 
+      chosen : IsChosen (images last) digest room.named choice
+      chosen = record { text = o.chosen.text; place = o.chosen.place; shut = λ c image. o.chosen.shut c ((k.own.left c).0 image); choices = o.chosen.choices; last = o.chosen.last }
+
       pub room_found : (multidata bytes : List ℕ) (seed : Seed) → IsFile (holds first multidata) bytes → SeedOf bytes (Ok seed) → digest ≡ digest_of bytes → RoomFound (Around first last) multidata choice bytes seed room.named
       room_found multidata bytes seed is_file is of = record {
         seed_was = record { is_file = is_file; is = is };
         names = subst (λ d. NamesJournal (opened_bytes (holds first choice)) (images first choice) d room.named) of o.names;
         settled = subst (λ d. StaysSettled (images first choice) (images last choice) d) of settled;
+        chosen = subst (λ d. IsChosen (images last) d room.named choice) of chosen;
         other = closed_opened told may_leave counts room.other o.other (shut_number (opened first) choice shut (other_of room.named)) k.other;
       }
 
@@ -203,11 +222,13 @@ module _ {F : Type 0} (holds : F → Files) (images : F → List ℕ → List �
             drives_over (told room.journal) (opened_bytes (holds first name)) o.journal.tells (may_leave room.journal) (images first name) o.journal.left (may_leave j) (images last name) (λ x. (k.journal.left x).0)
             (digest_of bytes) seed old new (source before) (source after) d
 
-        pub room_keeps : ((steps : List Step) → is_some (told room.journal) ≡ true → IsLeft (may_leave room.journal) (digest_of bytes) (life_after_all seed steps) → KeepsShown (may_leave j) (digest_of bytes) seed steps old new)
+        pub room_keeps : Laws
+            → (is_some (told room.journal) ≡ true
+            → KeepsFound (IsFound (told room.journal) (may_leave room.journal) (digest_of bytes) seed) (ends.StaysSettled (may_leave room.journal) (may_leave j) (digest_of bytes)) (may_leave j) (digest_of bytes) seed old new)
             → JournalKeeps (Around first last) (Some name) (digest_of bytes) seed old new
-        room_keeps keeps steps =
-            kept_over (told room.journal) (opened_bytes (holds first name)) o.journal.tells (may_leave room.journal) (images first name) o.journal.left (may_leave j) (images last name) (λ x. (k.journal.left x).0)
-            (digest_of bytes) seed old new steps (keeps steps)
+        room_keeps laws keeps = journal_keeps laws (Around first last) (digest_of bytes) seed old new (Some name) (λ some.
+            found_over (told room.journal) (opened_bytes (holds first name)) o.journal.tells (may_leave room.journal) (images first name) o.journal.left (may_leave j) (images last name) (λ x. (k.journal.left x).0)
+            (digest_of bytes) seed old new (keeps (some_for (told room.journal) (opened_bytes (holds first name)) o.journal.tells (digest_of bytes) seed some)))
 
         pub room_short : {S : Type 0} (source : S → Option (List ℕ)) (before after : S) (e : DriveError)
             → StopsWith source (IsFound (told room.journal) (may_leave room.journal) (digest_of bytes) seed) (Refuses (told room.journal) (digest_of bytes) seed) (ends.StaysSettled (may_leave room.journal) (may_leave j) (digest_of bytes))
@@ -250,14 +271,16 @@ module _ {F : Type 0} (holds : F → Files) (images : F → List ℕ → List �
       play_fault before after p rose = p.journal (omega (arith, rose))
 
       module _ (old new : Option (List ℕ)) where
-        pub play_keeps : ((steps : List Step) → is_some (told room.journal) ≡ true → IsLeft (may_leave room.journal) (digest_of bytes) (life_after_all seed steps) → KeepsShown (may_leave back.journal) (digest_of bytes) seed steps old new)
+        pub play_keeps : Laws
+            → (is_some (told room.journal) ≡ true
+            → KeepsFound (IsFound (told room.journal) (may_leave room.journal) (digest_of bytes) seed) (ends.StaysSettled (may_leave room.journal) (may_leave back.journal) (digest_of bytes)) (may_leave back.journal) (digest_of bytes) seed old new)
             → PairDriveKeeps (Around first last) multidata choice old new
-        play_keeps keeps = inr record {
+        play_keeps laws keeps = inr record {
           bytes = bytes;
           seed = seed;
           number = room.named;
           found = found;
-          kept = room_keeps told may_leave counts first last choice (digest_of bytes) room o shut back.journal closed bytes seed old new keeps;
+          kept = room_keeps told may_leave counts first last choice (digest_of bytes) room o shut back.journal closed bytes seed old new laws keeps;
         }
 
         module _ {S : Type 0} (source : S → Option (List ℕ)) (before after : S) (outcome : Result (Unit {0}) DriveError) where
@@ -309,5 +332,5 @@ module _ {F : Type 0} (holds : F → Files) (images : F → List ℕ → List �
           opened = λ n. refl;
         };
         stays = λ bytes seed was is text body settled. settled;
-        kept = inl (Keeps-refl held);
+        kept = inl (Keeps-refl held, λ bytes seed was is. record { settled = λ text body settled. settled; journals = λ number c image. image });
       }

@@ -29,9 +29,9 @@ use Rattle.mw_causes.proofs.Endings.{left_late, passed_exit}
 use Rattle.mw_pair.specs.Folders.{IsFault, IsUnmoved, OthersStay}
 use Rattle.mw_pair.specs.Making.{BytesStay, IsMadeIn, RefusesMaking}
 use Rattle.mw_pair.specs.Names.{IsOneOf, file_names}
-use Rattle.mw_pair.specs.Thinning.{AreThinned, KeepAllowed, RefusesThin, bytes_in}
-use Rattle.mw_pair.proofs.Lifted.{still_stands}
-use Rattle.mw_pair.proofs.Since.{bytes_since, keep_since}
+use Rattle.mw_pair.specs.Thinning.{AreThinned, KeepAllowed, KeepSettled, KeepsPair, RefusesThin, bytes_in}
+use Rattle.mw_pair.proofs.Lifted.{still_settles, still_stands}
+use Rattle.mw_pair.proofs.Since.{bytes_since, keep_since, settle_since}
 use Rattle.mw_pair.proofs.Steps.{unmoved_then}
 use Rattle.mw_offline.specs.FilesAround.{FilesAround, IsUntouched, files_around}
 use Rattle.mw_offline.specs.NewRooms.{HasSeed, room_text}
@@ -97,6 +97,13 @@ pub told_fault : {T C : Type 0} (stop : Stop C) → (let r : Result T (Stop C) =
 told_fault {T = T} {C = C} stop e = let same : Err stop ≡ Err Fault = e in cc
 
 -- ---- a seed file that was read before
+
+-- three files that weren't opened
+still_pair : (holds : Files) (images later : List ℕ → List ℕ → Type 0) → ((n : List ℕ) → Stays (images n) (later n)) → (choice digest : List ℕ) → KeepsPair holds images later choice digest
+still_pair holds images later fewer choice digest = record {
+  stands = λ allowed s. still_stands (bytes_in holds) images later digest allowed (file_names choice) fewer s;
+  settled = λ allowed s some. still_settles (bytes_in holds) images later digest allowed (file_names choice) fewer s;
+}
 
 module _ {F : Type 0} (holds : F → Files) (images : F → List ℕ → List ℕ → Type 0) (opened : F → List ℕ → Bool) (may_fail : F → Bool) (faults : F → ℕ)
     (first second last : F) (same : (n : List ℕ) → holds second n ≡ holds first n) (crash : (n : List ℕ) → SameImages (images first n) (images second n)) (same_open : (n : List ℕ) → opened second n ≡ opened first n)
@@ -170,15 +177,17 @@ module _ {F : Type 0} (holds : F → Files) (images : F → List ℕ → List �
       pub thin_refused : (error : PairError) → RefusesThin (holds second) room.choice digest error → ThinFails (Around first last) room (thin_stop error)
       thin_refused error r = inr record { seed = seed.0; digest = digest; seed_in = seed.1; error = error; is = refl; refused = subst (λ h. RefusesThin h room.choice digest error) told_same r }
 
-      pub thin_keeps : KeepAllowed (holds second) (images second) (images last) room.choice digest → ThinKeeps (Around first last) room
-      thin_keeps keeps bytes other told is =
+      pub thin_keeps : KeepAllowed (holds second) (images second) (images last) room.choice digest → KeepSettled (holds second) (images second) (images last) room.choice digest → ThinKeeps (Around first last) room
+      thin_keeps keeps settles bytes other told is =
           let one : seed.1.bytes ≡ bytes = told_bytes (holds first room.multidata) bytes seed.1.bytes told seed.1.is_file in
-          subst (λ d. KeepAllowed (holds first) (images first) (images last) room.choice d) (seed.1.digested ∙ ap digest_of one)
-          (keep_since (holds first) (images first) (images second) fewer room.choice digest (images last) (subst (λ h. KeepAllowed h (images second) (images last) room.choice digest) told_same keeps))
+          subst (λ d. KeepsPair (holds first) (images first) (images last) room.choice d) (seed.1.digested ∙ ap digest_of one) record {
+            stands = keep_since (holds first) (images first) (images second) fewer room.choice digest (images last) (subst (λ h. KeepAllowed h (images second) (images last) room.choice digest) told_same keeps);
+            settled = settle_since (holds first) (images first) (images second) fewer room.choice digest (images last) (subst (λ h. KeepSettled h (images second) (images last) room.choice digest) told_same settles);
+          }
 
     -- the three files were not opened
     pub unread_keeps : (room : ThinWords) → ThinKeeps (Around first second) room
-    unread_keeps room bytes seed told is allowed s = still_stands (bytes_in (holds first)) (images first) (images second) (digest_of bytes) allowed (file_names room.choice) fewer s
+    unread_keeps room bytes seed told is = still_pair (holds first) (images first) (images second) fewer room.choice (digest_of bytes)
 
     pub unread_thin : (room : ThinWords) (why : Stop SeedCause) → IsSeedStopped (holds first room.multidata) (may_fail first) why → ThinFails (Around first second) room (stop_with thin_cause.SeedFile why)
     unread_thin room why cause = inl record { seed_stop = why; is = refl; cause = cause; files_stay = λ n. record { told = same n; crash = crash n } }
@@ -236,5 +245,5 @@ module _ {F : Type 0} (holds : F → Files) (images : F → List ℕ → List �
         record { named = Memory; is = inl refl; is_status = is_status; line = line },
       );
       others = still_others room.choice;
-      keeps = λ bytes seed was is allowed s. still_stands (bytes_in (holds folder)) (images folder) (images folder) (digest_of bytes) allowed (file_names room.choice) (λ n c image. image) s;
+      keeps = λ bytes seed was is. still_pair (holds folder) (images folder) (images folder) (λ n c image. image) room.choice (digest_of bytes);
     }

@@ -15,6 +15,7 @@ use Rattle.mw_drive.specs.Drive.{is_stopped, stop}
 use Rattle.mw_drive.specs.Left.{IsGoing}
 use Rattle.mw_drive.specs.declared.error.DriveError.{DriveError}
 use Rattle.mw_drive.specs.declared.error.DriveError.TheVariants.{Fault, Memory, Full, Journal, Script}
+use Rattle.mw_drive.proofs.Calling.{or_same}
 use Rattle.mw_stress.specs.declared.taken.Taken.{Taken}
 use Rattle.mw_offline.specs.Stressing.{all_checking, all_entering, all_taken, all_taking, entering, first_life, rounds, taken_by, taker, texts_of}
 use Rattle.mw_offline.proofs.Driving.{new_found}
@@ -25,10 +26,6 @@ if_ok_both (Ok x) q p f = f x q p
 if_ok_both (Err e) q p f = tt
 
 -- what a call or a later one does, where the call doesn't do it
-or_same : (a b : Bool) → a ≡ false → (a || b) ≡ b
-or_same true b h = cc
-or_same false b h = refl
-
 or_first : (a b : Bool) → (a || false) ≡ true → (a || b) ≡ true
 or_first true b h = refl
 or_first false b h = cc

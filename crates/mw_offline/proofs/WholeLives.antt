@@ -5,7 +5,7 @@ use Rattle.std.specs.List.{AllByRecursion}
 use Rattle.std.specs.Prelude.{All, Contains, IsTrue, slice_index_or}
 use Rattle.mw_causes.specs.Tables.{Files}
 use Rattle.mw_drive.proofs.Calling.{all_after}
-use Rattle.mw_drive.proofs.Running.{kept_later}
+use Rattle.mw_drive.proofs.Telling.{kept_later}
 use Rattle.mw_drive.specs.Drive.{Put, gone, overrun, message, text_put}
 use Rattle.mw_drive.specs.Ends.{IsFound}
 use Rattle.mw_drive.specs.Left.{IsKept, IsTold, KeepsShown}

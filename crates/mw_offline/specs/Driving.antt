@@ -6,15 +6,17 @@ use Rattle.mw_edges.specs.Folders.{StaysOrIsMade, opened_bytes}
 use Rattle.mw_model.specs.Seed.{Seed}
 use Rattle.mw_multidata.specs.Digest.{digest_of}
 use Rattle.mw_multidata.specs.SeedOf.{SeedOf}
-use Rattle.mw_protocol.specs.Lives.{Step, life_after_all}
+use Rattle.mw_protocol.specs.Lives.{Step, life_after_all, new_life}
 use Rattle.mw_protocol.specs.Records.{Record}
 use Rattle.mw_drive.specs.Ends.{IsFound, Refuses, StaysSettled, Drives, StopsWith, IsOfJournal}
-use Rattle.mw_drive.specs.Left.{KeepsShown}
+use Rattle.mw_drive.specs.Left.{KeepsFound, KeepsFrom, KeepsShown}
+use Rattle.mw_thinning.specs.Checkpoints as across
 use Rattle.mw_keep.specs.Left.{IsLeft}
 use Rattle.mw_drive.specs.declared.error.DriveError.{DriveError}
 use Rattle.mw_drive.specs.declared.error.JournalRefusal.{JournalRefusal}
 use Rattle.mw_causes.specs.DriveCauses.{drive_stop, drive_status, drive_line}
 use Rattle.mw_causes.specs.Ends.{Told, Ended, stop_with}
+use Rattle.mw_offline.specs.Across.{KeepsAcross}
 use Rattle.mw_offline.specs.FilesAround.{FilesAround, IsUntouched}
 use Rattle.mw_causes.specs.SeedFiles.{IsFile, IsSeedStopped}
 use Rattle.mw_causes.specs.declared.seed_cause.SeedCause.{SeedCause}
@@ -78,17 +80,48 @@ pub record JournalLeaves (files : FilesAround) (journal : Option (List ℕ)) : T
   pub others : (n : List ℕ) → (journal ≡ Some n → ⊥) → IsUntouched files n
   pub opened : (n : List ℕ) → files.is_open n ≡ files.was_open n
 
+-- what the run did alone, where the journal is told, whatever wrote it: it found the journal's
+-- records, and went on from the life that begins with them, or else put nothing; a journal in memory
+-- it went on with from the first life
+abbrev pub JournalRuns : FilesAround → Option (List ℕ) → List ℕ → Seed → Option (List ℕ)
+    → Option (List ℕ) → Type 0
+JournalRuns files None digest seed old new =
+    KeepsFrom NoImages digest (new_life seed [] 40) old new
+JournalRuns files (Some name) digest seed old new =
+    IsTrue (is_some (opened_bytes (files.before name)))
+    → KeepsFound
+    (IsFound (opened_bytes (files.before name)) (files.might_leave name) digest seed)
+    (StaysSettled (files.might_leave name) (files.may_leave name) digest)
+    (files.may_leave name) digest seed old new
+
 -- what was put is kept: where the journal is told, and what a crash might leave of it was settled for
 -- the life to which a run of lives comes, then it is settled for a life that goes on from that one,
 -- and what was put keeps to that life; with a journal in memory, to a life that goes on from the
 -- first one
-abbrev pub JournalKeeps : FilesAround → Option (List ℕ) → List ℕ → Seed → Option (List ℕ)
+abbrev pub JournalShows : FilesAround → Option (List ℕ) → List ℕ → Seed → Option (List ℕ)
     → Option (List ℕ) → Type 0
-JournalKeeps files None digest seed old new = KeepsShown NoImages digest seed [] old new
-JournalKeeps files (Some name) digest seed old new = (steps : List Step)
+JournalShows files None digest seed old new = KeepsShown NoImages digest seed [] old new
+JournalShows files (Some name) digest seed old new = (steps : List Step)
     → IsTrue (is_some (opened_bytes (files.before name)))
     → IsLeft (files.might_leave name) digest (life_after_all seed steps)
     → KeepsShown (files.may_leave name) digest seed steps old new
+
+-- so it is where the run of lives has checkpoints between them
+abbrev pub JournalShowsAcross : FilesAround → Option (List ℕ) → List ℕ → Seed → Option (List ℕ)
+    → Option (List ℕ) → Type 0
+JournalShowsAcross files None digest seed old new = KeepsAcross NoImages digest seed [] old new
+JournalShowsAcross files (Some name) digest seed old new = (steps : List across.Step)
+    → IsTrue (is_some (opened_bytes (files.before name)))
+    → IsLeft (files.might_leave name) digest (across.life_after_all seed steps)
+    → KeepsAcross (files.may_leave name) digest seed steps old new
+
+-- what was put is kept in each of these ways
+pub record JournalKeeps (files : FilesAround) (journal : Option (List ℕ)) (digest : List ℕ)
+    (seed : Seed) (old new : Option (List ℕ))
+    : Type 0 where
+  pub runs : JournalRuns files journal digest seed old new
+  pub shown : JournalShows files journal digest seed old new
+  pub across : JournalShowsAcross files journal digest seed old new
 
 -- ---- the run of a script on it
 

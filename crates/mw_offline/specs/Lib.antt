@@ -1,3 +1,4 @@
+pub mod Across
 pub mod Driving
 pub mod Reaching
 pub mod Generating

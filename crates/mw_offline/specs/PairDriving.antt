@@ -6,6 +6,8 @@ use Rattle.mw_model.specs.Seed.{Seed}
 use Rattle.mw_multidata.specs.Digest.{digest_of}
 use Rattle.mw_multidata.specs.SeedOf.{SeedOf}
 use Rattle.mw_drive.specs.declared.error.DriveError.{DriveError}
+use Rattle.mw_disk.specs.Crash.{Stays}
+use Rattle.mw_checkpoint.specs.Chosen.{IsChosen}
 use Rattle.mw_checkpoint.specs.Pair.{other_of}
 use Rattle.mw_checkpoint.specs.declared.error.PairError.{PairError}
 use Rattle.mw_causes.specs.Ends.{Told, Ended, stop_with}
@@ -33,7 +35,8 @@ pair_choice named = choice_in named.pair named.journal
 -- ---- the room
 
 -- the seed file was read and gives this seed, and CHOICE names the journal of a number under its
--- digest; the other journal was opened at most, and CHOICE is settled as it was
+-- digest; the other journal was opened at most, and CHOICE is settled as it was: a crash leaves of
+-- it only what names that journal
 pub record RoomFound (files : FilesAround) (multidata choice bytes : List ℕ) (seed : Seed)
     (number : ℕ)
     : Type 0 where
@@ -41,6 +44,7 @@ pub record RoomFound (files : FilesAround) (multidata choice bytes : List ℕ) (
   pub names : NamesJournal (opened_bytes (files.before choice)) (files.might_leave choice)
       (digest_of bytes) number
   pub settled : StaysSettled (files.might_leave choice) (files.may_leave choice) (digest_of bytes)
+  pub chosen : IsChosen files.may_leave (digest_of bytes) number choice
   pub other : IsOpenedAtMost (files.before (journal_name choice (other_of number)))
       (files.after (journal_name choice (other_of number)))
       (files.might_leave (journal_name choice (other_of number)))
@@ -131,11 +135,24 @@ pub record PairPlayKeeps (files : FilesAround) (multidata choice : List ℕ)
   pub found : RoomFound files multidata choice bytes seed number
   pub kept : JournalKeeps files (Some (journal_name choice number)) (digest_of bytes) seed old new
 
--- so it is where anything was put
+-- where the seed file is told, what a crash may leave of CHOICE is settled as before, and of the
+-- journals it leaves only what it might have left
+pub record IsStillSettled (files : FilesAround) (choice digest : List ℕ) : Type 0 where
+  pub settled : StaysSettled (files.might_leave choice) (files.may_leave choice) digest
+  pub journals : (number : ℕ) → Stays (files.might_leave (journal_name choice number))
+      (files.may_leave (journal_name choice number))
+
+abbrev pub RoomStays : FilesAround → List ℕ → List ℕ → Type 0
+RoomStays files multidata choice = (bytes : List ℕ) (seed : Seed)
+    → files.before multidata ≡ Some (Some bytes) → SeedOf bytes (Ok seed)
+    → IsStillSettled files choice (digest_of bytes)
+
+-- so it is where anything was put; else the room is as it was
 abbrev pub PairDriveKeeps : FilesAround → List ℕ → List ℕ → Option (List ℕ) → Option (List ℕ)
     → Type 0
 PairDriveKeeps files multidata choice old new =
-    Keeps old new ⊎ PairPlayKeeps files multidata choice old new
+    (Keeps old new × RoomStays files multidata choice)
+    ⊎ PairPlayKeeps files multidata choice old new
 
 -- where the seed file is told, what a crash may leave of CHOICE is settled as before
 abbrev pub ChoiceStays : FilesAround → List ℕ → List ℕ → Type 0

@@ -15,7 +15,7 @@ use Rattle.mw_causes.specs.declared.stop.Stop.{Stop}
 use Rattle.mw_causes.specs.declared.stop.Stop.TheVariants.{Fault, Memory}
 use Rattle.mw_causes.specs.declared.thin_cause.ThinCause.{ThinCause}
 use Rattle.mw_causes.specs.declared.thin_cause.ThinCause.TheVariants.{SeedFile}
-use Rattle.mw_pair.specs.Thinning.{AreThinned, KeepAllowed, RefusesThin}
+use Rattle.mw_pair.specs.Thinning.{AreThinned, KeepsPair, RefusesThin}
 use Rattle.mw_offline.specs.FilesAround.{FilesAround, IsUntouched}
 use Rattle.mw_offline.specs.PairFiles.{PairOthersStay}
 use Rattle.mw_words.specs.declared.command_line.ThinWords.{ThinWords}
@@ -81,11 +81,12 @@ ThinStopped files room old new stop =
 -- ---- ends
 
 -- where the seed file is told, and what a crash might have left of the three was settled, each three
--- images stand for one of the records for which they might have stood, or for what counts of such
+-- images stand for one of the records for which they might have stood, or for what counts of such;
+-- and what a crash may leave of the three is settled so, where they were told
 abbrev pub ThinKeeps : FilesAround → ThinWords → Type 0
 ThinKeeps files room = (bytes : List ℕ) (seed : Seed)
     → files.before room.multidata ≡ Some (Some bytes) → SeedOf bytes (Ok seed)
-    → KeepAllowed files.before files.might_leave files.may_leave room.choice (digest_of bytes)
+    → KeepsPair files.before files.might_leave files.may_leave room.choice (digest_of bytes)
 
 -- how `thin` ended with a status, with what the out sink held
 pub record ThinEnds (status : ℕ) (files : FilesAround) (room : ThinWords) (out told : Told)

@@ -3,11 +3,12 @@ ghost use Rattle.std.specs.Prelude.{◌≡◌, ◌≤◌, ◌⊎◌, [], ℕ, Li
 ghost use Rattle.mw_edges.specs.Causes.{Rose};
 ghost use Rattle.mw_multidata.specs.Digest.{digest_of};
 ghost use Rattle.mw_multidata.specs.SeedOf.{SeedOf};
+ghost use Rattle.mw_protocol.specs.Lives.{new_life};
 ghost use Rattle.mw_drive.specs.Ends.{Drives, IsOfJournal, StaysSettled, StopsWith};
-ghost use Rattle.mw_drive.specs.Left.{KeepsShown};
+ghost use Rattle.mw_drive.specs.Left.{KeepsFrom};
 ghost use Rattle.mw_causes.specs.Ends.{told_by};
 ghost use Rattle.mw_offline.specs.FilesAround.{files_around};
-ghost use Rattle.mw_offline.specs.Driving.{NoImages, IsNewJournal, JournalLeaves, JournalKeeps};
+ghost use Rattle.mw_offline.specs.Driving.{NoImages, IsNewJournal, JournalLeaves, JournalRuns};
 ghost use Rattle.mw_offline.specs.Driving.{run_of, RunsToEnd, RunsShort};
 ghost use Rattle.mw_offline.specs.Driving.{DriveDone, DriveStopped, DriveEnds, DriveKeeps};
 ghost use Rattle.mw_offline.specs.PairDriving.{PairDriveEnds, pair_choice};
@@ -19,6 +20,9 @@ use mw_causes::{DriveCause, SeedBytes, Stop, end, read_seed_bytes};
 use mw_disk::SteadyDisk;
 use mw_drive::{DriveError, drive_on};
 use mw_edges::{Folder, FolderError, Sink, Source};
+use mw_keep::laws::{
+    shown_is_checked, shown_is_checked_across, tails_across, tails_of_the_last_view,
+};
 use mw_multidata::digest;
 use mw_words::DriveWords;
 use std::alloc::Global;
@@ -38,7 +42,7 @@ fn drive_in_memory<S: Source, O: Sink>(
         (digest_of seed.bytes) seed.multidata input.old input.new
         (O.held out.old) (O.held out.new)) }
     ensures accepted { IfErr result (λ error. IsOfJournal error → ⊥) }
-    ensures kept { KeepsShown NoImages (digest_of seed.bytes) seed.multidata []
+    ensures runs { KeepsFrom NoImages (digest_of seed.bytes) (new_life seed.multidata [] 40)
         (O.held out.old) (O.held out.new) }
     ensures fault { result ≡ Err DriveError.Fault
         → Rose (S.faults input.old) (S.faults input.new)
@@ -72,7 +76,7 @@ fn drive_on_file<F: Folder, S: Source, O: Sink>(
         (files_around F.holds F.images F.is_open F.may_fail F.faults folder.old folder.new)
         (Some name.now) (run_of seed.bytes seed.multidata input.old input.new
         (O.held out.old) (O.held out.new))) }
-    ensures kept { JournalKeeps
+    ensures runs { JournalRuns
         (files_around F.holds F.images F.is_open F.may_fail F.faults folder.old folder.new)
         (Some name.now) (digest_of seed.bytes) seed.multidata (O.held out.old) (O.held out.new) }
     ensures leaves { JournalLeaves
@@ -113,7 +117,7 @@ fn drive_room<F: Folder, S: Source, O: Sink>(
         (files_around F.holds F.images F.is_open F.may_fail F.faults folder.old folder.new)
         journal.now (run_of seed.bytes seed.multidata input.old input.new
         (O.held out.old) (O.held out.new))) }
-    ensures kept { JournalKeeps
+    ensures runs { JournalRuns
         (files_around F.holds F.images F.is_open F.may_fail F.faults folder.old folder.new)
         journal.now (digest_of seed.bytes) seed.multidata (O.held out.old) (O.held out.new) }
     ensures leaves { JournalLeaves
@@ -156,6 +160,11 @@ fn drive<F: Folder, S: Source, O: Sink>(
         ⊎ (Rose (S.faults input.old) (S.faults input.new)
         ⊎ Rose (O.faults out.old) (O.faults out.new)) }
 {
+    // The laws of runs of lives, by which what was taken is kept.
+    shown_is_checked();
+    tails_of_the_last_view();
+    shown_is_checked_across();
+    tails_across();
     let seed = read_seed_bytes(alloc, folder, &words.multidata)?;
     Ok(drive_room(alloc, seed, &words.journal, folder, input, out)?)
 }
@@ -232,7 +241,9 @@ fn drive_chosen<F: Folder, S: Source, O: Sink, E: Sink>(
 /// it where it refuses.
 ///
 /// Whatever the status is, what a crash may leave of the journal's file stays settled, and keeps all
-/// that was shown by what was put.
+/// that was shown by what was put: whatever runs, crashes and checkpoints the journal is of, since
+/// the run went on from the life that begins with the records that it found, and put only what was
+/// taken on the way.
 pub fn cmd_drive<F: Folder, S: Source, O: Sink, E: Sink>(
     alloc: Global,
     words: &DriveWords,

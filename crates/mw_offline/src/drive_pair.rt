@@ -7,7 +7,7 @@ ghost use Rattle.mw_protocol.specs.Lives.{Step, life_after_all};
 ghost use Rattle.mw_keep.specs.Left.{IsLeft};
 ghost use Rattle.mw_drive.specs.Ends.{Drives, IsAsRead, IsFound, IsOfJournal, Refuses};
 ghost use Rattle.mw_drive.specs.Ends.{StaysSettled, StopsWith};
-ghost use Rattle.mw_drive.specs.Left.{KeepsShown};
+ghost use Rattle.mw_drive.specs.Left.{KeepsFound};
 ghost use Rattle.mw_offline.specs.FilesAround.{files_around};
 ghost use Rattle.mw_offline.specs.PairDriving.{ChoiceStays, PairDriveDone, PairDriveKeeps};
 ghost use Rattle.mw_offline.specs.PairDriving.{PairDriveStopped};
@@ -19,6 +19,9 @@ use mw_causes::{PairDriveCause, SeedBytes, Stop};
 use mw_disk::Disk;
 use mw_drive::{DriveError, drive_on};
 use mw_edges::{Folder, Sink, Source};
+use mw_keep::laws::{
+    shown_is_checked, shown_is_checked_across, tails_across, tails_of_the_last_view,
+};
 use mw_pair::{Chosen, close_chosen};
 use std::alloc::Global;
 
@@ -56,10 +59,12 @@ fn play<D: Disk, S: Source, O: Sink>(
         → (D.faults room.journal < D.faults result.0.journal)
         ⊎ (Rose (S.faults input.old) (S.faults input.new)
         ⊎ Rose (O.faults out.old) (O.faults out.new)) }
-    ensures kept { (steps : List Step) → IsTrue (is_some (D.told room.journal))
-        → IsLeft (D.may_leave room.journal) (digest_of seed.bytes)
-        (life_after_all seed.multidata steps)
-        → KeepsShown (D.may_leave result.0.journal) (digest_of seed.bytes) seed.multidata steps
+    ensures found { IsTrue (is_some (D.told room.journal)) → KeepsFound
+        (IsFound (D.told room.journal) (D.may_leave room.journal) (digest_of seed.bytes)
+        seed.multidata)
+        (StaysSettled (D.may_leave room.journal) (D.may_leave result.0.journal)
+        (digest_of seed.bytes))
+        (D.may_leave result.0.journal) (digest_of seed.bytes) seed.multidata
         (O.held out.old) (O.held out.new) }
     ensures accepted { IfErr result.1 (λ error. (steps : List Step)
         → IsTrue (is_some (D.told room.journal))
@@ -113,6 +118,11 @@ pub(crate) fn drive_pair<F: Folder, S: Source, O: Sink>(
         ⊎ (Rose (S.faults input.old) (S.faults input.new)
         ⊎ Rose (O.faults out.old) (O.faults out.new)) }
 {
+    // The laws of runs of lives, by which what was taken is kept.
+    shown_is_checked();
+    tails_of_the_last_view();
+    shown_is_checked_across();
+    tails_across();
     let PairRoom { seed, names, room } = match open_pair_room(alloc, folder, multidata, choice) {
         Ok(room) => room,
         Err(stop) => return Err(stop),

@@ -103,7 +103,8 @@ fn thin<F: Folder, O: Sink>(
 /// where it refuses.
 ///
 /// Whatever the status is, where what a crash might have left of the files was settled, each three
-/// images of them stand for records for which they might have stood, or for what counts of such.
+/// images of them stand for records for which they might have stood, or for what counts of such; and
+/// what it may leave is settled so.
 pub fn cmd_thin<F: Folder, O: Sink, E: Sink>(
     alloc: Global,
     words: &ThinWords,

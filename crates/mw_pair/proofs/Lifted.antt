@@ -7,7 +7,7 @@ use Rattle.mw_edges.specs.Files.{open_file}
 use Rattle.mw_edges.specs.Folders.{StaysOrIsMade, opened_bytes}
 use Rattle.mw_protocol.specs.Records.{Record}
 use Rattle.mw_journal.specs.Settled.{AllSettled, AllShut, IsSettled}
-use Rattle.mw_checkpoint.specs.Checkpointing.{AllStandForOne, AreSettled, IsThinned, RefusesCheckpoint}
+use Rattle.mw_checkpoint.specs.Checkpointing.{AllStandForOne, AreSettled, HasSettled, IsThinned, JournalsTell, MayStand, RefusesCheckpoint, with_thinned}
 use Rattle.mw_checkpoint.specs.Choices.{named_in}
 use Rattle.mw_checkpoint.specs.Chosen.{ReadsChoice}
 use Rattle.mw_checkpoint.specs.Created.{ArePairEmpty, HasNone, IsMadeUpTo, IsStopped, IsUnmade, OnEach, disk_at}
@@ -18,12 +18,13 @@ use Rattle.mw_checkpoint.specs.declared.error.PairError.{PairError}
 use Rattle.mw_checkpoint.specs.declared.error.PairError.TheVariants.{DiskFault, NotEmpty, NotJournal, OtherSeed, BadChoice, BadRecord, ChoiceFull, Memory}
 use Rattle.mw_checkpoint.specs.declared.files.Files.{Files}
 use Rattle.mw_checkpoint.specs.declared.switching.Kept.{Kept}
+use Rattle.mw_checkpoint.proofs.Settling.{stand_settled}
 use Rattle.mw_checkpoint.proofs.WholeCheckpoints.{kept_settled}
 use Rattle.mw_pair.specs.Choosing.{Chooses, ChoosesNone, IsClosedRoom, IsOpenedRoom, IsUnplayed, PassesRoom, RefusesChoice, StaysSettled}
 use Rattle.mw_pair.specs.Folders.{AreOpenedAtMost, ArePairClosed, ArePairOpened, AreShut, IsClosed, IsFault, IsOpened, IsOpening, OnFiles, PassesAll}
 use Rattle.mw_pair.specs.Making.{BytesStay, IsMadeIn, MadeFiles, RefusesMaking, TellsByte}
 use Rattle.mw_pair.specs.Names.{IsOneOf, file_names, journal_name}
-use Rattle.mw_pair.specs.Thinning.{AreThinned, KeepAllowed, RefusesThin, bytes_in}
+use Rattle.mw_pair.specs.Thinning.{AreThinned, KeepAllowed, KeepSettled, RefusesThin, bytes_in}
 use Rattle.mw_pair.specs.declared.choosing.Chosen.{Chosen}
 use Rattle.mw_pair.proofs.Naming.{shut_number}
 use Rattle.mw_pair.proofs.Steps.{closed_opened}
@@ -64,6 +65,31 @@ module _ {D : Type 0} (faults : D → ℕ) (files : Files D) (before after : ℕ
 rose_zero : (b a : ℕ) → b < a → 0 < a
 rose_zero b a less = omega (arith, less)
 
+-- ---- images that are fewer
+
+pub fewer_has : (images later : List ℕ → Type 0) → Stays images later → (digest : List ℕ) (allowed : List (List Record)) → HasSettled images digest allowed → HasSettled later digest allowed
+fewer_has images later stays digest allowed h = record {
+  kept = h.kept;
+  batch = h.batch;
+  spelled = h.spelled;
+  front = h.front;
+  settled = λ c image. h.settled c (stays c image);
+  first = h.first;
+  both = h.both;
+}
+
+-- of three that stand for three others
+pub fewer_stand : {A B : Type 0} (images : A → List ℕ → Type 0) (later : B → List ℕ → Type 0) (digest : List ℕ) (allowed : List (List Record)) (a : Files A) (b : Files B) → Stays (images a.choice) (later b.choice)
+    → ((n : ℕ) → Stays (images (journal_at n a)) (later (journal_at n b))) → MayStand images digest a allowed → MayStand later digest b allowed
+fewer_stand images later digest allowed a b own stays s = record {
+  text = s.text;
+  body = s.body;
+  choice = λ c image. s.choice c (own c image);
+  texts = s.texts;
+  bodies = s.bodies;
+  journals = λ named is. fewer_has (images (journal_at named a)) (later (journal_at named b)) (stays named) digest allowed (s.journals named is);
+}
+
 -- ---- files that weren't opened
 
 -- where what a crash might have left was settled, and it leaves no more now
@@ -72,6 +98,13 @@ pub still_stands : (told : List ℕ → Option (List ℕ)) (images later : List 
 still_stands told images later digest allowed files stays s c first second a b d =
     kept_settled told images (λ (n : List ℕ). 0) (λ (n : List ℕ) (t : ℕ) (x : List ℕ). images n x) (λ (n : List ℕ) (t : ℕ) (x : List ℕ) (le : t ≤ 0) (image : images n x). image) digest allowed files files refl refl
     (λ text body settled. record { later = omega arith; each = settled; earlier = λ t x le image. inl image }) s c first second (stays files.choice c a) (stays files.zero first b) (stays files.one second d)
+
+pub still_settles : (told : List ℕ → Option (List ℕ)) (images later : List ℕ → List ℕ → Type 0) (digest : List ℕ) (allowed : List (List Record)) (files : Files (List ℕ))
+    → ((n : List ℕ) → Stays (images n) (later n)) → AreSettled told images digest files allowed → MayStand later digest files (with_thinned allowed)
+still_settles told images later digest allowed files stays s =
+    fewer_stand images later digest (with_thinned allowed) files files (stays files.choice) (λ n. stays (journal_at n files))
+    (stand_settled told images (λ (n : List ℕ). 0) (λ (n : List ℕ) (t : ℕ) (x : List ℕ). images n x) (λ (n : List ℕ) (t : ℕ) (x : List ℕ) (le : t ≤ 0) (image : images n x). image) digest allowed files files refl refl
+    (λ text body settled. record { later = omega arith; each = settled; earlier = λ t x le image. inl image }) s)
 
 -- ---- disks that were opened, and closed
 
@@ -93,22 +126,7 @@ module _ {D : Type 0} (told : D → Option (List ℕ)) (may_leave : D → List �
     lift_settled allowed s = record {
       bytes = s.bytes;
       tells = opened.choice.tells ∙ s.tells;
-      text = s.text;
-      body = s.body;
-      choice = λ c image. s.choice c (opened.choice.left c image);
-      texts = s.texts;
-      bodies = s.bodies;
-      journals = λ named is.
-          let h = s.journals named is in
-          record {
-            kept = h.kept;
-            batch = h.batch;
-            spelled = h.spelled;
-            front = h.front;
-            settled = λ c image. h.settled c ((own_number named).left c image);
-            first = h.first;
-            both = h.both;
-          };
+      stand = fewer_stand images may_leave digest allowed (file_names choice) files opened.choice.left (λ n. (own_number n).left) s.stand;
     }
 
     module _ (after : Files D) (error : PairError) where
@@ -186,6 +204,7 @@ module _ {D : Type 0} (told : D → Option (List ℕ)) (may_leave : D → List �
       journal = subst (Own (journal_name choice room.named)) (sym c.journal) (own_number room.named);
       other = subst (Own (journal_name choice (other_of room.named))) (sym c.other) (own_number (other_of room.named));
       settled = λ text body settled x image. c.settled text body (λ y i. settled y (opened.choice.left y i)) x image;
+      chosen = c.reads.chosen;
       tells = c.tells ∙ ap is_some opened.choice.tells;
     }
 
@@ -200,6 +219,12 @@ module _ {D : Type 0} (told : D → Option (List ℕ)) (may_leave : D → List �
 
       pub lift_kept : ((allowed : List (List Record)) → AreSettled told may_leave digest files allowed → AllStandForOne may_leave digest after allowed) → KeepAllowed holds images left choice digest
       lift_kept keeps allowed s = lift_stand allowed (keeps allowed (lift_settled allowed s))
+
+      pub lift_settles : ((allowed : List (List Record)) → AreSettled told may_leave digest files allowed → JournalsTell told files → MayStand may_leave digest after (with_thinned allowed)) → KeepSettled holds images left choice digest
+      lift_settles keeps allowed s some =
+          let end = λ (n : ℕ). on_number (λ name disk. IsClosed told may_leave (later name) (left name) (is_open name) disk) (file_names choice) after n closed in
+          fewer_stand may_leave left digest (with_thinned allowed) after (file_names choice) (λ c. (closed.choice.left c).0) (λ n c. ((end n).left c).0)
+          (keeps allowed (lift_settled allowed s) (λ n. ap is_some (own_number n).tells ∙ some n))
 
       pub lift_thinned : (kept : Kept) → IsThinned told may_leave digest files after kept → AreThinned holds left choice digest kept
       lift_thinned kept t = record {
@@ -318,6 +343,9 @@ module _ (holds later : List ℕ → Option (Option (List ℕ))) (images left : 
 
   pub unopened_kept : KeepAllowed holds images left choice digest
   unopened_kept allowed s = still_stands (bytes_in holds) images left digest allowed (file_names choice) (λ n. (most n).crash) s
+
+  pub unopened_settles : KeepSettled holds images left choice digest
+  unopened_settles allowed s some = still_settles (bytes_in holds) images left digest allowed (file_names choice) (λ n. (most n).crash) s
 
   byte_stays : (before after : Option (Option (List ℕ))) → StaysOrIsMade before after → TellsByte before → after ≡ before
   byte_stays before after (inl same) byte = same

@@ -8,34 +8,23 @@ use Rattle.mw_pair.specs.Choosing.{IsOpenedRoom, IsUnplayed}
 use Rattle.mw_pair.specs.Folders.{IsOpenedAtMost}
 use Rattle.mw_pair.specs.Making.{BytesStay}
 use Rattle.mw_pair.specs.Names.{file_names, journal_name}
-use Rattle.mw_pair.specs.Thinning.{KeepAllowed, bytes_in}
+use Rattle.mw_pair.specs.Thinning.{KeepAllowed, KeepSettled, bytes_in}
 use Rattle.mw_pair.specs.declared.choosing.Chosen.{Chosen}
+use Rattle.mw_pair.proofs.Lifted.{fewer_stand}
 
 module _ (holds : List ℕ → Option (Option (List ℕ))) (first second : List ℕ → List ℕ → Type 0) (fewer : (n : List ℕ) → Stays (first n) (second n)) (choice digest : List ℕ) where
   settled_since : (allowed : List (List Record)) → AreSettled (bytes_in holds) first digest (file_names choice) allowed → AreSettled (bytes_in holds) second digest (file_names choice) allowed
   settled_since allowed s = record {
     bytes = s.bytes;
     tells = s.tells;
-    text = s.text;
-    body = s.body;
-    choice = λ c image. s.choice c (fewer choice c image);
-    texts = s.texts;
-    bodies = s.bodies;
-    journals = λ named is.
-        let h = s.journals named is in
-        record {
-          kept = h.kept;
-          batch = h.batch;
-          spelled = h.spelled;
-          front = h.front;
-          settled = λ c image. h.settled c (fewer (journal_name choice named) c image);
-          first = h.first;
-          both = h.both;
-        };
+    stand = fewer_stand first second digest allowed (file_names choice) (file_names choice) (fewer choice) (λ n. fewer (journal_name choice n)) s.stand;
   }
 
   pub keep_since : (left : List ℕ → List ℕ → Type 0) → KeepAllowed holds second left choice digest → KeepAllowed holds first left choice digest
   keep_since left keeps allowed s = keeps allowed (settled_since allowed s)
+
+  pub settle_since : (left : List ℕ → List ℕ → Type 0) → KeepSettled holds second left choice digest → KeepSettled holds first left choice digest
+  settle_since left keeps allowed s some = keeps allowed (settled_since allowed s) some
 
   pub bytes_since : (later : List ℕ → Option (Option (List ℕ))) (left : List ℕ → List ℕ → Type 0) → BytesStay holds later second left choice → BytesStay holds later first left choice
   bytes_since later left stays n one byte = let s = stays n one byte in (s.0, λ c image. fewer n c (s.1 c image))
@@ -65,5 +54,6 @@ module _ (holds : List ℕ → Option (Option (List ℕ))) (first second : List 
     journal = record { tells = o.journal.tells; left = λ c image. fewer (journal_name choice room.named) c (o.journal.left c image); fresh = o.journal.fresh };
     other = record { tells = o.other.tells; left = λ c image. fewer (journal_name choice (other_of room.named)) c (o.other.left c image); fresh = o.other.fresh };
     settled = λ text body settled c image. o.settled text body (λ x i. settled x (fewer choice x i)) c image;
+    chosen = o.chosen;
     tells = o.tells;
   }

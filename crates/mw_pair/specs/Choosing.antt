@@ -5,7 +5,7 @@ use Rattle.mw_edges.specs.Folders.{opened_bytes}
 use Rattle.mw_journal.specs.Image.{Stands}
 use Rattle.mw_journal.specs.Settled.{AllSettled}
 use Rattle.mw_checkpoint.specs.Choices.{AreChoices, named_in}
-use Rattle.mw_checkpoint.specs.Chosen.{ReadsChoice}
+use Rattle.mw_checkpoint.specs.Chosen.{IsChosen, ReadsChoice}
 use Rattle.mw_checkpoint.specs.Pair.{journal_at, other_of}
 use Rattle.mw_checkpoint.specs.Refused.{RefusesChosen}
 use Rattle.mw_checkpoint.specs.declared.error.PairError.{PairError}
@@ -44,6 +44,7 @@ pub record IsOpenedRoom {D : Type 0} (told : D → Option (List ℕ))
   pub other : IsOpened told may_leave faults (holds (journal_name choice (other_of room.named)))
       (images (journal_name choice (other_of room.named))) room.other
   pub settled : StaysSettled (images choice) (may_leave room.choice) digest
+  pub chosen : IsChosen may_leave digest room.named room.choice
   pub tells : is_some (told room.choice) ≡ is_some (opened_bytes (holds choice))
 
 -- the files of a room are as its disks were

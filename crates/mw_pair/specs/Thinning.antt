@@ -3,7 +3,7 @@ use Rattle.std.specs.Prelude.{◌≡◌, ◌⊎◌, ℕ, List, Option, Some, is_
 use Rattle.mw_edges.specs.Folders.{opened_bytes}
 use Rattle.mw_protocol.specs.Records.{Record}
 use Rattle.mw_journal.specs.Image.{Stands}
-use Rattle.mw_checkpoint.specs.Checkpointing.{AllStandForOne, AreSettled, IsThinned}
+use Rattle.mw_checkpoint.specs.Checkpointing.{AllStandForOne, AreSettled, IsThinned, JournalsTell, MayStand, with_thinned}
 use Rattle.mw_checkpoint.specs.Choices.{named_in}
 use Rattle.mw_checkpoint.specs.Pair.{journal_place, other_of}
 use Rattle.mw_checkpoint.specs.Preparing.{RefusesReading, RefusesWriting}
@@ -32,6 +32,21 @@ abbrev pub KeepAllowed : (List ℕ → Option (Option (List ℕ)))
 KeepAllowed before might_leave may_leave choice digest = (allowed : List (List Record))
     → AreSettled (bytes_in before) might_leave digest (file_names choice) allowed
     → AllStandForOne may_leave digest (file_names choice) allowed
+
+-- and where the journals are told too, what it may leave is settled, for these records or for what
+-- counts of them
+abbrev pub KeepSettled : (List ℕ → Option (Option (List ℕ)))
+    → (might_leave may_leave : List ℕ → List ℕ → Type 0) → List ℕ → List ℕ → Type 0
+KeepSettled before might_leave may_leave choice digest = (allowed : List (List Record))
+    → AreSettled (bytes_in before) might_leave digest (file_names choice) allowed
+    → JournalsTell (bytes_in before) (file_names choice)
+    → MayStand may_leave digest (file_names choice) (with_thinned allowed)
+
+pub record KeepsPair (before : List ℕ → Option (Option (List ℕ)))
+    (might_leave may_leave : List ℕ → List ℕ → Type 0) (choice digest : List ℕ)
+    : Type 0 where
+  pub stands : KeepAllowed before might_leave may_leave choice digest
+  pub settled : KeepSettled before might_leave may_leave choice digest
 
 -- why the journal that CHOICE names isn't thinned into the other: it gives no records, or the other
 -- one isn't written

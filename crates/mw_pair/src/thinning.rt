@@ -2,7 +2,7 @@
 ghost use Rattle.std.specs.Prelude.{◌≤◌, IfErr, IfOk};
 ghost use Rattle.mw_edges.specs.Causes.{Rose};
 ghost use Rattle.mw_pair.specs.Folders.{IsFault, OthersStay};
-ghost use Rattle.mw_pair.specs.Thinning.{AreThinned, KeepAllowed, RefusesThin};
+ghost use Rattle.mw_pair.specs.Thinning.{AreThinned, KeepAllowed, KeepSettled, RefusesThin};
 
 use crate::folder_files::{close_pair, open_pair};
 use crate::names::PairNames;
@@ -16,7 +16,7 @@ use std::alloc::Global;
 ///
 /// After Ok each three images of the files stand for what counts of the records that were read. After
 /// an error they stand for records for which they might have stood before the call, or for what
-/// counts of such, where what a crash might have left was settled.
+/// counts of such, where what a crash might have left was settled; and what it may leave then is.
 ///
 /// The errors are those of a checkpoint; `DiskFault` comes only where the folder's count of faults
 /// rose.
@@ -30,6 +30,8 @@ pub fn thin_pair<F: Folder>(
         (AreThinned (F.holds folder.old) (F.images folder.new) names.now digest.now) }
     ensures kept { KeepAllowed (F.holds folder.old) (F.images folder.old) (F.images folder.new)
         names.now digest.now }
+    ensures settled { KeepSettled (F.holds folder.old) (F.images folder.old)
+        (F.images folder.new) names.now digest.now }
     ensures refused { IfErr result (RefusesThin (F.holds folder.old) names.now digest.now) }
     ensures others { OthersStay (F.holds folder.old) (F.holds folder.new) (F.images folder.old)
         (F.images folder.new) (F.is_open folder.old) (F.is_open folder.new) names.now }

@@ -8,7 +8,7 @@ use Rattle.mw_edges.specs.Folders.{SameImages, StaysOrIsMade, opened_bytes}
 use Rattle.mw_model.specs.Seed.{Seed}
 use Rattle.mw_multidata.specs.Digest.{digest_of}
 use Rattle.mw_multidata.specs.SeedOf.{SeedOf}
-use Rattle.mw_protocol.specs.Lives.{Step, life_after_all, new_life}
+use Rattle.mw_protocol.specs.Lives.{after_all, new_life}
 use Rattle.mw_causes.specs.DriveCauses.{drive_line, drive_status, drive_stop}
 use Rattle.mw_causes.specs.Ends.{Ended, Told, stop_status}
 use Rattle.mw_causes.specs.SeedFiles.{IsFile}
@@ -18,7 +18,6 @@ use Rattle.mw_causes.specs.declared.drive_cause.DriveCause.TheVariants as cause
 use Rattle.mw_causes.specs.declared.stop.Stop.{Stop}
 use Rattle.mw_causes.specs.declared.stop.Stop.TheVariants as stop
 use Rattle.mw_link.specs.declared.link.Heard.{Heard}
-use Rattle.mw_keep.specs.Left.{IsLeft}
 use Rattle.mw_keep.specs.Standing.{lived}
 use Rattle.mw_keep.specs.declared.reply.StopCause.{StopCause}
 use Rattle.mw_keep.proofs.OneSeed.{one_seed}
@@ -30,12 +29,13 @@ use Rattle.mw_drive.specs.declared.error.DriveError.TheVariants.{Fault, Memory, 
 use Rattle.mw_drive.specs.declared.error.JournalRefusal.{JournalRefusal}
 use Rattle.mw_offline.specs.Driving.{JournalRead, SeedWas}
 use Rattle.mw_offline.specs.FilesAround.{FilesAround, files_around}
-use Rattle.mw_offline.proofs.Driving.{AreUnmoved, fewer_left, found_for, refuses_for, some_for, stays_for, told_bytes}
+use Rattle.mw_offline.proofs.Driving.{fewer_left, found_for, refuses_for, stays_for, told_bytes}
+use Rattle.mw_offline.proofs.Keeping.{Laws}
 use Rattle.mw_words.specs.declared.command_line.ServeWords.{ServeWords}
 use Rattle.mw_serve.specs.Hosted.{Finds, HostsShort, HostsToEnd, IsHosted, IsUnserved}
-use Rattle.mw_serve.specs.Sent.{KeepsSent}
-use Rattle.mw_serve.specs.Serving.{FileHostsShort, FileHostsToEnd, Finishes, SeedStopped, ServeDone, ServeStopped, sessions_line}
-use Rattle.mw_serve.proofs.Hosts.{none_sent}
+use Rattle.mw_serve.specs.Sent.{SendsFound}
+use Rattle.mw_serve.specs.Serving.{FileHostsShort, FileHostsToEnd, Finishes, SeedStopped, SentKeeps, ServeDone, ServeStopped, sessions_line}
+use Rattle.mw_serve.proofs.Sending.{sent_keeps}
 
 -- ---- one disk, of which less is said
 
@@ -86,12 +86,15 @@ module _ {T D : Type 0} (heard_by : T → List Heard) (sent_by : T → List (Lis
     short_over error read seen reads (inr h) =
         inr record { stopped = h.stopped; failed = h.failed; memory = h.memory; accepted = h.accepted; hosted = hosted_over h.memory h.stopped h.hosted; is_end = h.is_end }
 
-    pub sent_over : (steps : List Step)
-        → (is_some told ≡ true → IsLeft images digest (life_after_all seed steps) → KeepsSent sent_by left digest seed steps served)
-        → is_some shown ≡ true → IsLeft might digest (life_after_all seed steps) → KeepsSent sent_by later digest seed steps served
-    sent_over steps keeps some is =
-        let k = keeps (some_for told shown same digest seed some) (fewer_left might images fewer digest (life_after_all seed steps) is) in
-        record { more = k.more; settled = fewer_left left later less digest (life_after_all seed (steps ++ k.more)) k.settled; sent = k.sent }
+    pub sent_over : SendsFound sent_by (IsFound told images digest seed) (StaysSettled images left digest) left digest seed served
+        → SendsFound sent_by (IsFound shown might digest seed) (StaysSettled might later digest) later digest seed served
+    sent_over (inl (stays, none)) = inl (stays_for told shown same digest seed images might fewer left later less stays, none)
+    sent_over (inr (journal, place, found, k)) = inr (
+      journal,
+      place,
+      found_for told shown same digest seed images might fewer journal place found,
+      record { steps = k.steps; left = fewer_left left later less digest (after_all (new_life seed journal place) k.steps) k.left; sent = k.sent },
+    )
 
 -- ---- a file whose disk wasn't opened
 
@@ -115,12 +118,6 @@ module _ {T D : Type 0} (heard_by : T → List Heard) (sent_by : T → List (Lis
       cause = outside why (Refuses (opened_bytes (files.before name)) (digest_of bytes) seed) is;
     }
 
-    pub unopened_sent : (steps : List Step) → IsTrue (is_some (opened_bytes (files.before name))) → IsLeft (files.might_leave name) (digest_of bytes) (life_after_all seed steps)
-        → KeepsSent sent_by (files.may_leave name) (digest_of bytes) seed steps served
-    unopened_sent steps some is =
-        none_sent sent_by (files.may_leave name) (digest_of bytes) seed steps served none
-        (fewer_left (files.might_leave name) (files.may_leave name) (λ c. (crash c).0) (digest_of bytes) (life_after_all seed steps) is)
-
 -- ---- a seed file that was read before
 
 module _ {T D : Type 0} (heard_by : T → List Heard) (sent_by : T → List (List ℕ)) (line_faults : T → ℕ) (opened_at : T → ℕ) (is_shut : T → Bool) (may_leave : D → List ℕ → Type 0)
@@ -143,28 +140,26 @@ module _ {T D : Type 0} (heard_by : T → List Heard) (sent_by : T → List (Lis
         (JournalRead (files_around holds images opened may_fail faults second last) (Some name)) (JournalRead (files_around holds images opened may_fail faults first last) (Some name))
         (λ read. (subst (λ b. StaysOrIsMade b (holds last name)) (same name) read.0, λ c x. (crash name c).0 (read.1 c x))) h
 
-    pub sent_since : (steps : List Step)
-        → (IsTrue (is_some (opened_bytes (holds second name))) → IsLeft (images second name) (digest_of bytes) (life_after_all seed steps) → KeepsSent sent_by (images last name) (digest_of bytes) seed steps served)
-        → IsTrue (is_some (opened_bytes (holds first name))) → IsLeft (images first name) (digest_of bytes) (life_after_all seed steps) → KeepsSent sent_by (images last name) (digest_of bytes) seed steps served
-    sent_since steps keeps some is =
+    pub sent_since : SendsFound sent_by (IsFound (opened_bytes (holds second name)) (images second name) (digest_of bytes) seed) (StaysSettled (images second name) (images last name) (digest_of bytes)) (images last name) (digest_of bytes) seed served
+        → SendsFound sent_by (IsFound (opened_bytes (holds first name)) (images first name) (digest_of bytes) seed) (StaysSettled (images first name) (images last name) (digest_of bytes)) (images last name) (digest_of bytes) seed served
+    sent_since k =
         sent_over heard_by sent_by line_faults opened_at is_shut may_leave (opened_bytes (holds second name)) (opened_bytes (holds first name)) (ap opened_bytes (same name))
-        (images second name) (images first name) (λ c. (crash name c).0) (images last name) (images last name) (λ c x. x) (digest_of bytes) seed served steps keeps some is
+        (images second name) (images first name) (λ c. (crash name c).0) (images last name) (images last name) (λ c x. x) (digest_of bytes) seed served k
 
--- what was sent is kept, by the bytes of a seed file and its seed
-abbrev pub SeedKeeps : {T : Type 0} → (T → List (List ℕ)) → FilesAround → ServeWords → List (List (Served T)) → List ℕ → Seed → Type 0
-SeedKeeps sent_by files named served bytes seed = (steps : List Step) → IsTrue (is_some (opened_bytes (files.before named.journal))) → IsLeft (files.might_leave named.journal) (digest_of bytes) (life_after_all seed steps)
-    → KeepsSent sent_by (files.may_leave named.journal) (digest_of bytes) seed steps served
+-- what was sent is kept by the journal, by the bytes of a seed file and its seed
+abbrev pub SeedSends : {T : Type 0} → (T → List (List ℕ)) → FilesAround → List ℕ → List (List (Served T)) → List ℕ → Seed → Type 0
+SeedSends sent_by files name served bytes seed =
+    SendsFound sent_by (IsFound (opened_bytes (files.before name)) (files.might_leave name) (digest_of bytes) seed) (StaysSettled (files.might_leave name) (files.may_leave name) (digest_of bytes)) (files.may_leave name) (digest_of bytes) seed served
 
 -- what was kept of the seed that was read is kept of the file that is told
-pub read_serves : {T : Type 0} (sent_by : T → List (List ℕ)) (files : FilesAround) (named : ServeWords) (read : List ℕ) (seed : Seed) (served : List (List (Served T)))
-    → IsFile (files.before named.multidata) read → SeedOf read (Ok seed) → SeedKeeps sent_by files named served read seed
-    → (bytes : List ℕ) (other : Seed) (steps : List Step) → files.before named.multidata ≡ Some (Some bytes) → SeedOf bytes (Ok other) → IsTrue (is_some (opened_bytes (files.before named.journal)))
-    → IsLeft (files.might_leave named.journal) (digest_of bytes) (life_after_all other steps)
-    → KeepsSent sent_by (files.may_leave named.journal) (digest_of bytes) other steps served
-read_serves sent_by files named read seed served is_file is keeps bytes other steps told other_is =
+pub read_serves : {T : Type 0} (sent_by : T → List (List ℕ)) (laws : Laws) (files : FilesAround) (named : ServeWords) (read : List ℕ) (seed : Seed) (served : List (List (Served T)))
+    → IsFile (files.before named.multidata) read → SeedOf read (Ok seed) → SeedSends sent_by files named.journal served read seed
+    → (bytes : List ℕ) (other : Seed) → files.before named.multidata ≡ Some (Some bytes) → SeedOf bytes (Ok other) → SentKeeps sent_by files named.journal (digest_of bytes) other served
+read_serves sent_by laws files named read seed served is_file is keeps bytes other told other_is =
     let same : read ≡ bytes = told_bytes (files.before named.multidata) bytes read told is_file in
     let seeds : seed ≡ other = one_seed bytes seed other (subst (λ b. SeedOf b (Ok seed)) same is) other_is in
-    subst (λ b. SeedKeeps sent_by files named served b other) same (subst (λ s. SeedKeeps sent_by files named served read s) seeds keeps) steps
+    sent_keeps sent_by files named.journal (digest_of bytes) other served laws
+    (subst (λ b. SeedSends sent_by files named.journal served b other) same (subst (λ s. SeedSends sent_by files named.journal served read s) seeds keeps))
 
 -- ---- a journal that was found
 
@@ -240,15 +235,6 @@ module _ {T D : Type 0} (heard_by : T → List Heard) (sent_by : T → List (Lis
         (FileHostsShort heard_by sent_by line_faults opened_at is_shut may_leave files named.journal bytes seed served) Stopped f done short
         (λ error s is kept short. inr record { bytes = bytes; seed = seed; seed_was = was; why = inl (error, is, kept, short) })
         (λ hosts s is front. inr record { bytes = bytes; seed = seed; seed_was = was; why = inr (hosts, is, front) })
-
--- nothing was sent, and nothing of the files was touched
-pub none_kept : {T : Type 0} (sent_by : T → List (List ℕ)) (files : FilesAround) (unmoved : AreUnmoved files) (named : ServeWords) (served : List (List (Served T))) → served ≡ []
-    → (bytes : List ℕ) (seed : Seed) (steps : List Step) → files.before named.multidata ≡ Some (Some bytes) → SeedOf bytes (Ok seed) → IsTrue (is_some (opened_bytes (files.before named.journal)))
-    → IsLeft (files.might_leave named.journal) (digest_of bytes) (life_after_all seed steps)
-    → KeepsSent sent_by (files.may_leave named.journal) (digest_of bytes) seed steps served
-none_kept sent_by files unmoved named served none bytes seed steps told is some left =
-    none_sent sent_by (files.may_leave named.journal) (digest_of bytes) seed steps served none
-    (fewer_left (files.might_leave named.journal) (files.may_leave named.journal) (λ c. ((unmoved.each named.journal).crash c).0) (digest_of bytes) (life_after_all seed steps) left)
 
 -- what is known of an answer
 pub if_ok_over : {X E : Type 0} {P Q : X → Type 0} (r : Result X E) → IfOk r P → ((x : X) → P x → Q x) → IfOk r Q

@@ -1,20 +1,18 @@
 -- How the room of a disk is served.
-use Rattle.std.proofs.Common.{◌≡◌, ◌∙◌, ◌⊎◌, ◌<◌, ◌≤◌, ◌||◌, arith, ℕ, List, [], ◌∷◌, ◌++◌, Option, Some, None, Result, Ok, Err, Bool, true, false, map, refl, sym, ap, subst, append_assoc, inl, inr, true≢false}
-use Rattle.std.proofs.lemmas.List.{append-nil}
+use Rattle.std.proofs.Common.{◌≡◌, ◌∙◌, ◌⊎◌, ◌<◌, ◌≤◌, ◌||◌, arith, ℕ, List, [], ◌∷◌, ◌++◌, Option, Some, None, Result, Ok, Err, Bool, true, false, map, refl, sym, ap, subst, inl, inr, true≢false}
 use Rattle.std.specs.List.{list_any}
 use Rattle.std.specs.Option.{is_some, option_or}
 use Rattle.std.specs.Prelude.{IfErr, IfOk, OnErr}
 use Rattle.std.specs.Result.{is_err}
 use mathlib.Core.List.{IsPrefix}
 use Rattle.mw_model.specs.Seed.{Seed}
-use Rattle.mw_protocol.specs.Lives.{Life, Luck, Step, after_all, committed_of, crashes, life_after, life_after_all, new_life, pending_of, reply_to}
+use Rattle.mw_protocol.specs.Lives.{Life, Luck, committed_of, life_after, new_life, pending_of, reply_to}
 use Rattle.mw_protocol.specs.Spelled.{records_bytes}
 use Rattle.mw_journal.specs.Image.{Stands}
 use Rattle.mw_journal.specs.Journal.{disk_of}
 use Rattle.mw_journal.specs.Settled.{IsSettled}
 use Rattle.mw_laws.specs.Kept.{LivesKeep}
-use Rattle.mw_laws.specs.Shows.{ShownIsChecked}
-use Rattle.mw_laws.specs.Tails.{TailsOfTheLastView, TakenWasOwed}
+use Rattle.mw_laws.specs.Tails.{TakenWasOwed}
 use Rattle.mw_link.specs.declared.link.Heard.{Heard}
 use Rattle.mw_lock.specs.History.{calls_by, entry, events}
 use Rattle.mw_lock.specs.Passes.{numbers}
@@ -32,7 +30,7 @@ use Rattle.mw_keep.specs.declared.reply.Reply.{Reply}
 use Rattle.mw_keep.specs.declared.reply.Reply.TheVariants as R
 use Rattle.mw_keep.specs.declared.reply.StopCause.{StopCause}
 use Rattle.mw_keep.specs.declared.reply.StopCause.TheVariants.{DiskFault, JournalFull, TooManyCalls}
-use Rattle.mw_keep.proofs.Leaving.{anew_so, committed_records, first_records, left_of}
+use Rattle.mw_keep.proofs.Leaving.{left_of}
 use Rattle.mw_session.specs.Desks.{AreAll}
 use Rattle.mw_session.specs.Rooms.{OneHistory, count_all}
 use Rattle.mw_session.specs.Stops.{lacks_by, stop_among, stop_by, stop_in}
@@ -45,12 +43,12 @@ use Rattle.mw_drive.specs.declared.error.DriveError.TheVariants.{Fault, Memory, 
 use Rattle.mw_link.specs.Tells.{Sends}
 use Rattle.mw_serve.specs.Hosted.{HostsShort, HostsToEnd, IsHosted, IsUnserved, ListensAfter, end_of}
 use Rattle.mw_serve.specs.Runs.{IsRun, NeverBegan, WentOn}
-use Rattle.mw_serve.specs.Sent.{AllKeep, KeepsSent}
+use Rattle.mw_serve.specs.Sent.{SendsFound, SendsFrom}
 use Rattle.mw_serve.proofs.Calls.{Among, among_by}
 use Rattle.mw_serve.proofs.Ends.{all_committed, safe_end}
 use Rattle.mw_session.proofs.Spared.{history_first}
 use Rattle.mw_serve.proofs.Keeping.{accounts_kept, all_kept, due_of, lived_is, seen}
-use Rattle.mw_serve.proofs.Lives.{after_append, faulted, steps_of, tells_fault, told_fault}
+use Rattle.mw_serve.proofs.Lives.{faulted, steps_of, tells_fault, told_fault}
 
 -- ---- ends
 
@@ -196,10 +194,6 @@ not_faulted a P (inr h) never = h
 
 -- ---- a room of a disk that was served
 
-some_told : (told : Option (List ℕ)) → is_some told ≡ true → (f : List ℕ) × (told ≡ Some f)
-some_told None h = cc
-some_told (Some f) h = (f, refl)
-
 module _ {T D : Type 0} (heard_by : T → List Heard) (sent_by : T → List (List ℕ)) (faults : T → ℕ) (opened : T → ℕ) (is_shut : T → Bool)
     (may_leave : D → List ℕ → Type 0) (told : D → Option (List ℕ)) (disk_faults : D → ℕ) (digest : List ℕ) (seed : Seed) (disk : D) (room : KeptRoom D)
     (r : Resumes told may_leave digest seed disk room)
@@ -304,40 +298,16 @@ module _ {T D : Type 0} (heard_by : T → List Heard) (sent_by : T → List (Lis
         let end : disk_faults last ≡ disk_faults (kept_disk w.last) = ap disk_faults w.disk_is in
         omega (arith, later, first, end, count)
 
-    -- what was sent is kept
-    module _ (lives : LivesKeep) (was_owed : TakenWasOwed) (view_tails : TailsOfTheLastView) (shown : ShownIsChecked) (steps : List Step) (some : is_some (told disk) ≡ true)
-        (was : IsLeft (may_leave disk) digest (life_after_all seed steps))
-      where
-        pub end_kept : KeepsSent sent_by (may_leave last) digest seed steps served
-        end_kept =
-            let life = life_after_all seed steps in
-            let f = some_told (told disk) some in
-            let either = r.one f.0 (committed_of life) was.batch f.1 (committed_records life was.records) (first_records life was.batch was.first was.records) was.settled in
-            let anew = anew_so life seed was.batch r.journal r.place (lives.seed seed steps) was.first either in
-            let crash = crashes anew.0 r.place in
-            let front = steps ++ crash ∷ [] in
-            let more = steps_of (map seen w.log) lives_on.lucks in
-            let is : new_life seed r.journal r.place ≡ life_after_all seed front = anew.1 ∙ sym (after_append (new_life seed [] 40) steps (crash ∷ [])) in
-            let took = accounts_kept seed lives was_owed view_tails shown front (new_life seed r.journal r.place) is w.log lives_on.lucks lives_on.replied heard_by sent_by faults opened is_shut served w.history.pass.ended w.history.accounts w.history.pass.seen w.history.all w.history.whole.1.1.1 in
-            let first = history_first lives heard_by sent_by faults opened is_shut may_leave digest seed r.journal r.place (origin_of room) r.began w.log lives_on.lucks served w.memory w.stopped lives_on.replied w.history in
-            let sent = all_kept seed front (new_life seed r.journal r.place) is w.log lives_on.lucks sent_by served took first in
-            let same : front ++ more ≡ steps ++ crash ∷ more = append_assoc steps (crash ∷ []) more in
-            let end : lived (new_life seed r.journal r.place) w.log lives_on.lucks ≡ life_after_all seed (front ++ more) =
-            lived_is (new_life seed r.journal r.place) w.log lives_on.lucks ∙ (ap (λ l. after_all l more) is ∙ sym (after_append (new_life seed [] 40) front more)) in
-            record {
-              more = crash ∷ more;
-              settled = subst (λ ss. IsLeft (may_leave last) digest (life_after_all seed ss)) same (subst (IsLeft (may_leave last) digest) end end_left);
-              sent = subst (λ ss. AllKeep sent_by seed ss served) same sent;
-            }
-
--- where nothing was sent
-pub none_sent : {T : Type 0} (sent_by : T → List (List ℕ)) (images : List ℕ → Type 0) (digest : List ℕ) (seed : Seed) (steps : List Step) (served : List (List (Served T))) → served ≡ []
-    → IsLeft images digest (life_after_all seed steps) → KeepsSent sent_by images digest seed steps served
-none_sent sent_by images digest seed steps served none now = record {
-  more = [];
-  settled = subst (λ l. IsLeft images digest (life_after_all seed l)) (sym (append-nil steps)) now;
-  sent = subst (AllKeep sent_by seed (steps ++ [])) (sym none) tt;
-}
+    -- what was sent was taken in the life that began with the records that were found
+    pub end_sent : LivesKeep → TakenWasOwed → SendsFrom sent_by (may_leave last) digest (new_life seed r.journal r.place) served
+    end_sent lives was_owed =
+        let took = accounts_kept lives was_owed (new_life seed r.journal r.place) w.log lives_on.lucks lives_on.replied heard_by sent_by faults opened is_shut served w.history.pass.ended w.history.accounts w.history.pass.seen w.history.all w.history.whole.1.1.1 in
+        let first = history_first lives heard_by sent_by faults opened is_shut may_leave digest seed r.journal r.place (origin_of room) r.began w.log lives_on.lucks served w.memory w.stopped lives_on.replied w.history in
+        record {
+          steps = steps_of (map seen w.log) lives_on.lucks;
+          left = subst (IsLeft (may_leave last) digest) (lived_is (new_life seed r.journal r.place) w.log lives_on.lucks) end_left;
+          sent = all_kept (new_life seed r.journal r.place) w.log lives_on.lucks sent_by served took first;
+        }
 
 -- ---- answers
 
@@ -385,15 +355,6 @@ foreign_two e (inr is) of = subst IsForeign is of
 cause_two : (e : DriveError) (refuses : JournalRefusal → Type 0) → (e ≡ Fault) ⊎ (e ≡ Memory) → (e ≡ Fault) ⊎ (e ≡ Memory) ⊎ ((refusal : JournalRefusal) × (e ≡ Journal refusal) × refuses refusal)
 cause_two e refuses (inl is) = inl is
 cause_two e refuses (inr is) = inr (inl is)
-
--- what was left stays so where what was settled does
-pub left_stays : (before after : List ℕ → Type 0) (digest : List ℕ) (life : Life) → StaysSettled before after digest → IsLeft before digest life → IsLeft after digest life
-left_stays before after digest life stays was = record {
-  records = was.records;
-  batch = was.batch;
-  first = was.first;
-  settled = stays (records_bytes (committed_of life)) (records_bytes was.batch) was.settled;
-}
 
 -- a recovered room that was served, or couldn't be
 module _ {T D : Type 0} (heard_by : T → List Heard) (sent_by : T → List (List ℕ)) (faults : T → ℕ) (opened : T → ℕ) (is_shut : T → Bool)
@@ -459,12 +420,16 @@ module _ {T D : Type 0} (heard_by : T → List Heard) (sent_by : T → List (Lis
           | inr w ↦ inr (to_short heard_by sent_by faults opened is_shut may_leave told disk_faults digest seed disk room r accept last served gate_faults left ended outcome w e is)
         ])
 
-    pub run_kept : LivesKeep → TakenWasOwed → TailsOfTheLastView → ShownIsChecked → (steps : List Step) → is_some (told disk) ≡ true → IsLeft (may_leave disk) digest (life_after_all seed steps)
-        → KeepsSent sent_by (may_leave last) digest seed steps served
-    run_kept lives was_owed view_tails shown steps some was = elim run [
-      | inl never ↦ none_sent sent_by (may_leave last) digest seed steps served never.1.0
-          (subst (λ d. IsLeft (may_leave d) digest (life_after_all seed steps)) (sym never.0) (left_stays (may_leave disk) (may_leave (kept_disk room)) digest (life_after_all seed steps) stays was))
-      | inr w ↦ end_kept heard_by sent_by faults opened is_shut may_leave told disk_faults digest seed disk room r accept last served gate_faults left ended outcome w lives was_owed view_tails shown steps some was
+    pub run_found : LivesKeep → TakenWasOwed
+        → SendsFound sent_by (IsFound (told disk) (may_leave disk) digest seed) (StaysSettled (may_leave disk) (may_leave last) digest) (may_leave last) digest seed served
+    run_found lives was_owed = elim run [
+      | inl never ↦ inl (subst (λ d. StaysSettled (may_leave disk) (may_leave d) digest) (sym never.0) stays, never.1.0)
+      | inr w ↦ inr (
+        r.journal,
+        r.place,
+        record { sound = r.sound; stands = r.stands; one = r.one },
+        end_sent heard_by sent_by faults opened is_shut may_leave told disk_faults digest seed disk room r accept last served gate_faults left ended outcome w lives was_owed,
+      )
     ]
 
 pub one_origin : {A : Type 0} (x y : A) → Some x ≡ Some y → x ≡ y

@@ -3,7 +3,9 @@ mod Ends
 mod Calls
 mod Keeping
 mod Hosts
+mod Sending
 mod Files
 pub mod Starting
 pub mod WholeLives
 pub mod Pairs
+pub mod PairLives

@@ -1,17 +1,15 @@
 -- The life of a room, told as calls with their replies and the luck of each.
 use Rattle.std.proofs.Common.{◌≡◌, ◌∙◌, ◌⊎◌, ◌^◌, ◌||◌, ◌&&◌, arith, ℕ, List, [], ◌∷◌, ◌++◌, Bool, true, false, not, cond, Option, Some, None, map, refl, sym, ap, subst, inl, inr, append_assoc, true≢false}
-use Rattle.std.proofs.lemmas.List.Elements.{All-contains, Contains-append_right}
+use Rattle.std.proofs.lemmas.List.Elements.{Contains-append_right}
 use Rattle.std.specs.List.{AllByRecursion, Contains, list_any}
 use Rattle.std.specs.Prelude.{nat_le, nat_lt}
-use Rattle.mw_model.specs.Seed.{Seed}
-use Rattle.mw_protocol.specs.Lives.{Life, Call, happens, commits, takes, Luck, fine, lacking, faulty, Outcome, passes, lacks, stops, StopCause, disk_fault, journal_full, too_many_calls, Reply, opens, done, messages, gone, overrun, stopped, memory, append, append_of, length_with, planned, outcome, answer, reply_of, reply_to, reply_unless, refusal, refused_by, refused_in, refused_to, ends, named_by, life_after, life_of, life_unless, Step, acts, after, after_all, life_after_all, new_life, untaken_in}
+use Rattle.mw_protocol.specs.Lives.{Life, Call, happens, commits, takes, Luck, fine, lacking, faulty, Outcome, passes, lacks, stops, StopCause, disk_fault, journal_full, too_many_calls, Reply, opens, done, messages, gone, overrun, stopped, memory, append, append_of, length_with, planned, outcome, answer, reply_of, reply_to, reply_unless, refusal, refused_by, refused_in, refused_to, ends, named_by, life_after, life_of, life_unless, Step, acts, after, after_all, untaken_in}
 use Rattle.mw_protocol.specs.Records.{Record}
-use Rattle.mw_protocol.specs.Rooms.{Room, Session, Message, opened, sent, failed, lost, session_in, text_of}
-use Rattle.mw_laws.specs.Kept.{LivesKeep, Passes, is_done, journal_after}
-use Rattle.mw_laws.specs.Shows.{ShownIsChecked, ShowsChecked}
-use Rattle.mw_laws.specs.Tails.{AreTails, TailsOfTheLastView, TakenWasOwed, taking}
+use Rattle.mw_protocol.specs.Rooms.{Room, Session, Message, opened, sent, failed, lost, member_in, session_in, text_of}
+use Rattle.mw_laws.specs.Kept.{LivesKeep, Passes, is_done}
+use Rattle.mw_laws.specs.Tails.{TakenWasOwed, taking}
 use Rattle.mw_keep.specs.Standing.{is_faulty}
-use Rattle.mw_serve.specs.Taken.{IsOfTaken}
+use Rattle.mw_serve.specs.Sent.{IsSentFrom}
 
 -- each call was answered by the reply that was due to it, with this luck
 abbrev pub Due : Life → List (Call × Reply) → List Luck → Type 0
@@ -39,39 +37,30 @@ each_text : (Q : List ℕ → Type 0) (ms : List Message) → ((m : Message) →
 each_text Q [] f = tt
 each_text Q (m ∷ ms) f = (f m (0, omega arith, refl), each_text Q ms (λ n has. f n (contains_later n m ms has)))
 
-module _ (seed : Seed) (lives : LivesKeep) (was_owed : TakenWasOwed) (view_tails : TailsOfTheLastView) (shown : ShownIsChecked) where
-  took_now : (front : List Step) (rest : List (Call × Reply)) (l : Luck) (ls : List Luck) (session : ℕ) (texts : List (List ℕ)) → messages texts ≡ reply_to (life_after_all seed front) (takes session) l
-      → AllByRecursion (IsOfTaken seed (front ++ taking session l ∷ steps_of rest ls) session) texts
+module _ (lives : LivesKeep) (was_owed : TakenWasOwed) (first : Life) where
+  took_now : (front : List Step) (rest : List (Call × Reply)) (l : Luck) (ls : List Luck) (session : ℕ) (texts : List (List ℕ)) → messages texts ≡ reply_to (after_all first front) (takes session) l
+      → AllByRecursion (IsSentFrom first (front ++ taking session l ∷ steps_of rest ls) session) texts
   took_now front rest l ls session texts due =
-      let life = life_after_all seed front in
-      let back = steps_of rest ls in
+      let life = after_all first front in
       let passed : Passes life (takes session) l = (lives.calls life (takes session) l).done.0 (ap is_done (sym due)) in
-      let all_tails = view_tails.taken seed front session l passed in
-      let steps = front ++ taking session l ∷ back in
-      subst (AllByRecursion (IsOfTaken seed steps session)) (sym (was_owed.texts life session l texts (sym due)))
-      (each_text (IsOfTaken seed steps session) (untaken_in life session) (λ m has. (
+      let steps = front ++ taking session l ∷ steps_of rest ls in
+      subst (AllByRecursion (IsSentFrom first steps session)) (sym (was_owed.texts life session l texts (sym due)))
+      (each_text (IsSentFrom first steps session) (untaken_in life session) (λ m has. (
+        l,
+        member_in life.room.sessions session,
         m,
         refl,
-        record {
-          front = front;
-          luck = l;
-          back = back;
-          goes_on = refl;
-          taken = has;
-          tails = All-contains (AreTails seed front session l) (untaken_in life session) m all_tails has;
-          shows = λ later k plays. subst (λ ss. ShowsChecked seed (journal_after seed ss) k m) (sym (append_assoc front (taking session l ∷ back) later))
-              (All-contains (ShowsChecked seed (journal_after seed (front ++ taking session l ∷ (back ++ later))) k) (untaken_in life session) m (shown.taken seed front session l k passed plays (back ++ later)) has);
-        },
+        record { front = front; back = steps_of rest ls; goes_on = refl; passes = passed; plays = refl; taken = has },
       )))
 
-  pub took : (past rest : List (Call × Reply)) (session : ℕ) (texts : List (List ℕ)) (front : List Step) (life : Life) (ls : List Luck) → life ≡ life_after_all seed front
-      → Due life (past ++ (takes session, messages texts) ∷ rest) ls → AllByRecursion (IsOfTaken seed (front ++ steps_of (past ++ (takes session, messages texts) ∷ rest) ls) session) texts
+  pub took : (past rest : List (Call × Reply)) (session : ℕ) (texts : List (List ℕ)) (front : List Step) (life : Life) (ls : List Luck) → life ≡ after_all first front
+      → Due life (past ++ (takes session, messages texts) ∷ rest) ls → AllByRecursion (IsSentFrom first (front ++ steps_of (past ++ (takes session, messages texts) ∷ rest) ls) session) texts
   took [] rest session texts front life [] is due = absurd due
   took [] rest session texts front life (l ∷ ls) is due = took_now front rest l ls session texts (subst (λ f. messages texts ≡ reply_to f (takes session) l) is due.0)
   took (c ∷ cs) rest session texts front life [] is due = absurd due
   took (c ∷ cs) rest session texts front life (l ∷ ls) is due =
-      let next : life_after life c.0 l ≡ life_after_all seed (front ++ acts c.0 l ∷ []) = ap (λ f. life_after f c.0 l) is ∙ sym (after_append (new_life seed [] 40) front (acts c.0 l ∷ [])) in
-      subst (λ ss. AllByRecursion (IsOfTaken seed ss session) texts) (append_assoc front (acts c.0 l ∷ []) (steps_of (cs ++ (takes session, messages texts) ∷ rest) ls))
+      let next : life_after life c.0 l ≡ after_all first (front ++ acts c.0 l ∷ []) = ap (λ f. life_after f c.0 l) is ∙ sym (after_append first front (acts c.0 l ∷ [])) in
+      subst (λ ss. AllByRecursion (IsSentFrom first ss session) texts) (append_assoc front (acts c.0 l ∷ []) (steps_of (cs ++ (takes session, messages texts) ∷ rest) ls))
       (took cs rest session texts (front ++ acts c.0 l ∷ []) (life_after life c.0 l) ls next due.1)
 
 -- ---- faults of the disk

@@ -9,8 +9,6 @@ use Rattle.mw_edges.specs.Folders.{SameImages, opened_bytes}
 use Rattle.mw_model.specs.Seed.{Seed}
 use Rattle.mw_multidata.specs.Digest.{digest_of}
 use Rattle.mw_multidata.specs.SeedOf.{SeedOf}
-use Rattle.mw_protocol.specs.Lives.{Step, life_after_all}
-use Rattle.mw_keep.specs.Left.{IsLeft}
 use Rattle.mw_link.specs.declared.link.Heard.{Heard}
 use Rattle.mw_session.specs.Rooms.{count_all}
 use Rattle.mw_session.specs.declared.served.Served.{Served}
@@ -38,11 +36,12 @@ use Rattle.mw_offline.specs.FilesAround.{FilesAround, files_around}
 use Rattle.mw_offline.specs.PairDriving.{ChoiceStays, RoomFound, RoomStopped}
 use Rattle.mw_offline.specs.PairFiles.{PairLeaves, PairOthersStay}
 use Rattle.mw_offline.proofs.Driving.{opened_same}
+use Rattle.mw_offline.proofs.Keeping.{Laws}
 use Rattle.mw_offline.proofs.PairDriving.{room_found, room_leaves, room_stays}
 use Rattle.mw_words.specs.declared.command_line.ServeWords.{ServeWords}
 use Rattle.mw_serve.specs.Hosted.{Finds, HostsShort, HostsToEnd, IsUnserved}
-use Rattle.mw_serve.specs.PairServing.{PairFinishes, PairHostKeeps, PairJournalFound, PairServeDone, PairServeEnds, PairServeShort, PairServeStopped, hosting, passed_on}
-use Rattle.mw_serve.specs.Sent.{KeepsSent}
+use Rattle.mw_serve.specs.PairServing.{PairFinishes, PairJournalFound, PairServeDone, PairServeEnds, PairServeKeeps, PairServeShort, PairServeStopped, hosting, passed_on}
+use Rattle.mw_serve.specs.Sent.{SendsFound}
 use Rattle.mw_serve.specs.Serving.{FileHostsShort, FileHostsToEnd, Finishes, ServeDone, ServeStopped, sessions_line}
 use Rattle.mw_serve.proofs.Files.{finds_over, finishes_all, finishes_err, if_err_over, if_ok_over, read_serves, sent_over, serve_done, short_over, to_end_over}
 
@@ -122,16 +121,16 @@ module _ {T D : Type 0} (heard_by : T → List Heard) (sent_by : T → List (Lis
           λ x image. o.journal.left x (read.1 x ((k.journal.left x).0 image)),
         )) s
 
-    pub pair_kept : ((steps : List Step) → is_some (told room.journal) ≡ true → IsLeft (may_leave room.journal) (digest_of bytes) (life_after_all seed steps) → KeepsSent sent_by (may_leave j) (digest_of bytes) seed steps served)
-        → (served ≡ []) ⊎ PairHostKeeps heard_by sent_by line_faults opened_at is_shut may_leave Around named served
-    pair_kept keeps = inr record {
+    pub pair_kept : Laws → SendsFound sent_by (IsFound (told room.journal) (may_leave room.journal) (digest_of bytes) seed) (ends.StaysSettled (may_leave room.journal) (may_leave j) (digest_of bytes)) (may_leave j) (digest_of bytes) seed served
+        → PairServeKeeps heard_by sent_by line_faults opened_at is_shut may_leave Around named served
+    pair_kept laws sends = inr record {
       bytes = bytes;
       seed = seed;
       number = room.named;
       found = found;
-      kept = λ b s steps was of some left. read_serves sent_by Around Words bytes seed served is_file is
-          (λ steps. sent_over heard_by sent_by line_faults opened_at is_shut may_leave (told room.journal) (opened_bytes (holds first Name)) o.journal.tells (may_leave room.journal) (images first Name) o.journal.left
-          (may_leave j) (images last Name) (λ x. (k.journal.left x).0) (digest_of bytes) seed served steps (keeps steps)) b s steps was of some left;
+      kept = read_serves sent_by laws Around Words bytes seed served is_file is
+          (sent_over heard_by sent_by line_faults opened_at is_shut may_leave (told room.journal) (opened_bytes (holds first Name)) o.journal.tells (may_leave room.journal) (images first Name) o.journal.left
+          (may_leave j) (images last Name) (λ x. (k.journal.left x).0) (digest_of bytes) seed served sends);
     }
 
     pub pair_found : Finds (IsFound (told room.journal) (may_leave room.journal) (digest_of bytes) seed) → PairJournalFound Around named
@@ -196,5 +195,5 @@ module _ {T D : Type 0} (heard_by : T → List Heard) (sent_by : T → List (Lis
             opened = λ n. refl;
           };
           stays = λ bytes seed was is text body settled. settled;
-          kept = inl none;
+          kept = inl (none, λ bytes seed was is. record { settled = λ text body settled. settled; journals = λ number c image. image });
         }

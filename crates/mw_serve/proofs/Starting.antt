@@ -11,7 +11,7 @@ use Rattle.mw_offline.proofs.Driving.{same_folder, unmoved_leaves}
 use Rattle.mw_session.specs.declared.served.Served.{Served}
 use Rattle.mw_words.specs.declared.command_line.ServeWords.{ServeWords}
 use Rattle.mw_serve.specs.Serving.{ServeEnds}
-use Rattle.mw_serve.proofs.Hosts.{none_sent}
+use Rattle.mw_serve.proofs.Sending.{none_keeps}
 
 -- memory ran out before a folder, a gate or an out sink was touched
 module _ {T D : Type 0} (heard_by : T → List Heard) (sent_by : T → List (List ℕ)) (line_faults : T → ℕ) (opened_at : T → ℕ) (is_shut : T → Bool) (may_leave : D → List ℕ → Type 0)
@@ -34,5 +34,5 @@ module _ {T D : Type 0} (heard_by : T → List Heard) (sent_by : T → List (Lis
         record { named = stop.Memory; is = inl refl; is_status = is_status; line = line },
       );
       leaves = unmoved_leaves (files_around holds images opened may_fail faults folder folder) (same_folder holds images opened may_fail faults folder) (Some named.journal);
-      kept = λ bytes seed steps is sound some was. none_sent sent_by (images folder named.journal) (digest_of bytes) seed steps served none was;
+      kept = λ bytes seed was is. none_keeps sent_by (files_around holds images opened may_fail faults folder folder) named.journal (digest_of bytes) seed served none (λ c image. image);
     }

@@ -17,11 +17,8 @@ use Rattle.mw_protocol.specs.Rooms.{Message}
 use Rattle.mw_session.specs.declared.served.Served.{Served}
 use Rattle.mw_serve.specs.Sent.{AllKeep, AreOfTaken, LineKeeps, LinesKeep}
 use Rattle.mw_serve.specs.Taken.{IsOfTaken, WasTaken}
+use Rattle.mw_serve.proofs.Sending.{all_weaker}
 use Rattle.mw_serve.specs.WholeLives.{AnyRun, KeepsAny, KeepsTaken, KeepsText, KeepsTexts, ShowsOn, drives, end_of_run, first_of, serves}
-
-all_weaker : {X : Type 0} (P Q : X → Type 0) → ((x : X) → P x → Q x) → (xs : List X) → AllByRecursion P xs → AllByRecursion Q xs
-all_weaker P Q f [] h = tt
-all_weaker P Q f (x ∷ xs) h = (f x h.0, all_weaker P Q f xs h.1)
 
 -- ---- in later steps
 

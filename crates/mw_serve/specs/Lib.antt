@@ -1,7 +1,9 @@
 pub mod Taken
 pub mod Sent
+pub mod Across
 pub mod Hosted
 pub mod Runs
 pub mod Serving
 pub mod WholeLives
 pub mod PairServing
+pub mod PairLives

@@ -13,7 +13,7 @@ use Rattle.mw_causes.specs.declared.pair_drive_cause.PairDriveCause.TheVariants.
 use Rattle.mw_causes.specs.declared.stop.Stop.{Stop}
 use Rattle.mw_pair.specs.Names.{journal_name}
 use Rattle.mw_offline.specs.FilesAround.{FilesAround}
-use Rattle.mw_offline.specs.PairDriving.{ChoiceStays, RoomFound, RoomStopped}
+use Rattle.mw_offline.specs.PairDriving.{ChoiceStays, RoomFound, RoomStays, RoomStopped}
 use Rattle.mw_offline.specs.PairFiles.{PairLeaves}
 use Rattle.mw_words.specs.declared.command_line.ServeWords.{ServeWords}
 use Rattle.mw_serve.specs.Serving.{FileFinds, Finishes, ServeDone, ServeKeeps, ServeStopped}
@@ -86,6 +86,12 @@ module _ {T D : Type 0} (heard_by : T → List Heard) (sent_by : T → List (Lis
     pub kept : ServeKeeps heard_by sent_by faults opened is_shut may_leave files
         (hosting named number) served
 
+  -- so it is where anything was served; else the room is as it was
+  abbrev pub PairServeKeeps : FilesAround → ServeWords → List (List (Served T)) → Type 0
+  PairServeKeeps files named served =
+      ((served ≡ []) × RoomStays files named.multidata named.journal)
+      ⊎ PairHostKeeps files named served
+
   -- how `serve --pair` ended with a status
   pub record PairServeEnds (status : ℕ) (files : FilesAround) (named : ServeWords)
       (served : List (List (Served T))) (out told : Told) : Type 0 where
@@ -96,8 +102,8 @@ module _ {T D : Type 0} (heard_by : T → List Heard) (sent_by : T → List (Lis
         × Ended pair_drive_status pair_drive_line stop status told)
     pub leaves : PairLeaves files named.journal
     pub stays : ChoiceStays files named.multidata named.journal
-    -- whatever the status is, where anything was sent
-    pub kept : (served ≡ []) ⊎ PairHostKeeps files named served
+    -- whatever the status is
+    pub kept : PairServeKeeps files named served
 
 -- ---- at the end
 

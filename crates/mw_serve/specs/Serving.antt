@@ -8,10 +8,11 @@ use Rattle.mw_link.specs.declared.link.Heard.{Heard}
 use Rattle.mw_multidata.specs.Digest.{digest_of}
 use Rattle.mw_multidata.specs.SeedOf.{SeedOf}
 use Rattle.mw_protocol.specs.Lives.{Step, life_after_all}
+use Rattle.mw_thinning.specs.Checkpoints as across
 use Rattle.mw_keep.specs.Left.{IsLeft}
 use Rattle.mw_session.specs.Rooms.{count_all}
 use Rattle.mw_session.specs.declared.served.Served.{Served}
-use Rattle.mw_drive.specs.Ends.{IsFound}
+use Rattle.mw_drive.specs.Ends.{IsFound, StaysSettled}
 use Rattle.mw_drive.specs.declared.error.DriveError.{DriveError}
 use Rattle.mw_causes.specs.DriveCauses.{drive_line, drive_status, drive_stop}
 use Rattle.mw_causes.specs.Ends.{Ended, Told, stop_with}
@@ -25,7 +26,8 @@ use Rattle.mw_offline.specs.Driving.{JournalLeaves, JournalRead, JournalRefused,
 use Rattle.mw_offline.specs.FilesAround.{FilesAround, IsUntouched}
 use Rattle.mw_words.specs.declared.command_line.ServeWords.{ServeWords}
 use Rattle.mw_serve.specs.Hosted.{Finds, HostsShort, HostsToEnd, IsUnserved}
-use Rattle.mw_serve.specs.Sent.{KeepsSent}
+use Rattle.mw_serve.specs.Across.{SendsAcross}
+use Rattle.mw_serve.specs.Sent.{KeepsSent, SendsFound}
 
 -- what is put at the end
 abbrev pub sessions_line : ℕ → List ℕ
@@ -62,6 +64,25 @@ pub record JournalFound (files : FilesAround) (named : ServeWords) : Type 0 wher
   pub seed : Seed
   pub seed_was : SeedWas files named.multidata bytes seed
   pub finds : FileFinds files named.journal bytes seed
+
+module _ {T : Type 0} (sent_by : T → List (List ℕ)) where
+  -- what was sent is kept by a journal: the run went on from the life that begins with the records
+  -- that it found, or nothing was served; and where the journal is told and what a crash might leave
+  -- of it was settled for the life to which a run of lives comes, with checkpoints between them or
+  -- without, it is settled for a life that goes on from that one, to which what was sent keeps
+  pub record SentKeeps (files : FilesAround) (name digest : List ℕ) (seed : Seed)
+      (served : List (List (Served T)))
+      : Type 0 where
+    pub runs : SendsFound sent_by
+        (IsFound (opened_bytes (files.before name)) (files.might_leave name) digest seed)
+        (StaysSettled (files.might_leave name) (files.may_leave name) digest)
+        (files.may_leave name) digest seed served
+    pub shown : (steps : List Step) → IsTrue (is_some (opened_bytes (files.before name)))
+        → IsLeft (files.might_leave name) digest (life_after_all seed steps)
+        → KeepsSent sent_by (files.may_leave name) digest seed steps served
+    pub across : (steps : List across.Step) → IsTrue (is_some (opened_bytes (files.before name)))
+        → IsLeft (files.might_leave name) digest (across.life_after_all seed steps)
+        → SendsAcross sent_by (files.may_leave name) digest seed steps served
 
 -- what the lines of a gate tell, and what a crash may leave of a folder's disk
 module _ {T D : Type 0} (heard_by : T → List Heard) (sent_by : T → List (List ℕ)) (faults : T → ℕ)
@@ -107,14 +128,11 @@ module _ {T D : Type 0} (heard_by : T → List Heard) (sent_by : T → List (Lis
         × ((stop ≡ Fault) ⊎ (stop ≡ Memory))
         × PutsFront old new (sessions_line (count_all served)))
 
-  -- what was sent is kept, where the seed file and the journal are told and what a crash might leave
-  -- of the journal was settled for the life to which a run of lives comes
+  -- so it is where the seed file is told
   abbrev pub ServeKeeps : FilesAround → ServeWords → List (List (Served T)) → Type 0
-  ServeKeeps files named served = (bytes : List ℕ) (seed : Seed) (steps : List Step)
+  ServeKeeps files named served = (bytes : List ℕ) (seed : Seed)
       → files.before named.multidata ≡ Some (Some bytes) → SeedOf bytes (Ok seed)
-      → IsTrue (is_some (opened_bytes (files.before named.journal)))
-      → IsLeft (files.might_leave named.journal) (digest_of bytes) (life_after_all seed steps)
-      → KeepsSent sent_by (files.may_leave named.journal) (digest_of bytes) seed steps served
+      → SentKeeps sent_by files named.journal (digest_of bytes) seed served
 
   -- how `serve` ended with a status, with what was served and what the out sink held
   pub record ServeEnds (status : ℕ) (files : FilesAround) (named : ServeWords)

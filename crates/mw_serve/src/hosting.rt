@@ -15,14 +15,12 @@ ghost use Rattle.mw_session.specs.Rooms.{count_all};
 ghost use Rattle.mw_drive.specs.Ends.{IsAsRead, IsFound, IsOfJournal, Refuses, StaysSettled};
 ghost use Rattle.mw_serve.specs.Hosted.{Finds, HostsShort, HostsToEnd, IsUnserved, ListensAfter, end_of};
 ghost use Rattle.mw_serve.specs.Runs.{IsRun};
-ghost use Rattle.mw_serve.specs.Sent.{KeepsSent};
+ghost use Rattle.mw_serve.specs.Sent.{SendsFound};
 
 use mw_base::{List, Text};
 use mw_disk::Disk;
 use mw_drive::{DriveError, drive_error, stop_error};
-use mw_keep::laws::{
-    lives_keep, names_fit, shown_is_checked, tails_of_the_last_view, taken_was_owed,
-};
+use mw_keep::laws::{lives_keep, names_fit, taken_was_owed};
 use mw_keep::{KeptRoom, StopCause, resume};
 use mw_link::Gate;
 use mw_multidata::{Multidata, digest};
@@ -125,8 +123,9 @@ fn host<D: Disk + Send + Drop, G: Gate + Send, R: Threads + Wait + Sync>(
 /// The journal is judged before the gate listens. A room that has stopped is told first, then a gate
 /// that failed, and then want of memory.
 ///
-/// Whatever is answered, what a crash may then leave of the disk is settled for a life that goes on
-/// from the one for which it was settled before, and what was sent is kept in that life.
+/// Whatever is answered, nothing was served, and what a crash may leave of the disk is as settled as
+/// it was; or the run went on from the life that begins with the records that it found, what a crash
+/// may then leave is settled for the life that it led to, and what was sent was taken on the way.
 pub(crate) fn host_on<D: Disk + Send + Drop, G: Gate + Send, R: Threads + Wait + Sync>(
     rt: &R,
     alloc: Global,
@@ -153,10 +152,10 @@ pub(crate) fn host_on<D: Disk + Send + Drop, G: Gate + Send, R: Threads + Wait +
         ⊎ HostsShort G.Line.heard G.Line.sent G.Line.faults G.Line.opened G.Line.is_shut
         D.may_leave (IsFound (D.told disk) (D.may_leave disk) (digest_of file.now) multidata)
         (D.may_leave result.disk) (digest_of file.now) multidata result.served error) }
-    ensures kept { (steps : List Step) → IsTrue (is_some (D.told disk))
-        → IsLeft (D.may_leave disk) (digest_of file.now) (life_after_all multidata steps)
-        → KeepsSent G.Line.sent (D.may_leave result.disk) (digest_of file.now) multidata steps
-        result.served }
+    ensures found { SendsFound G.Line.sent
+        (IsFound (D.told disk) (D.may_leave disk) (digest_of file.now) multidata)
+        (StaysSettled (D.may_leave disk) (D.may_leave result.disk) (digest_of file.now))
+        (D.may_leave result.disk) (digest_of file.now) multidata result.served }
     ensures accepted { IfErr result.outcome (λ error. (steps : List Step)
         → IsTrue (is_some (D.told disk))
         → IsLeft (D.may_leave disk) (digest_of file.now) (life_after_all multidata steps)
@@ -174,11 +173,9 @@ pub(crate) fn host_on<D: Disk + Send + Drop, G: Gate + Send, R: Threads + Wait +
     ensures tells { is_some (D.told result.disk) ≡ is_some (D.told disk) }
     ensures count { D.faults disk ≤ D.faults result.disk }
 {
-    // The laws of lives, by which what was settled stays so, and what was taken is kept.
+    // The laws of lives, by which what was settled stays so, and what was sent was taken.
     lives_keep();
     taken_was_owed();
-    tails_of_the_last_view();
-    shown_is_checked();
     names_fit(&multidata);
     match resume(alloc, disk, multidata, &digest(file)) {
         Ok(room) => host(rt, alloc, room, bind, terms, gate),

@@ -6,5 +6,5 @@ mod laws;
 mod serve_command;
 mod serve_pair;
 
-pub use laws::all_runs_keep;
+pub use laws::{all_runs_keep, pair_rooms_keep};
 pub use serve_command::cmd_serve;

@@ -1,23 +1,21 @@
 //! The command `serve`.
 ghost use Rattle.std.specs.Prelude.{◌≡◌, ◌⊎◌, ◌<◌, ◌≤◌, ◌+◌, ℕ, List, [], Some, Ok, Err, IfOk, IfErr, OnOk, false, true};
 ghost use Rattle.std.specs.Io.KnownBytes.{Appends, Keeps};
-ghost use Rattle.std.specs.Prelude.{IsTrue, is_ok, is_some, string_bytes};
+ghost use Rattle.std.specs.Prelude.{IsTrue, is_ok, string_bytes};
 ghost use Rattle.mw_edges.specs.Causes.{PutsFront, Rose};
 ghost use Rattle.mw_edges.specs.Folders.{opened_bytes};
 ghost use Rattle.mw_multidata.specs.Digest.{digest_of};
 ghost use Rattle.mw_multidata.specs.SeedOf.{SeedOf};
-ghost use Rattle.mw_protocol.specs.Lives.{Step, life_after_all};
-ghost use Rattle.mw_keep.specs.Left.{IsLeft};
 ghost use Rattle.mw_session.specs.Desks.{AreAll, IsWithin};
 ghost use Rattle.mw_session.specs.Numbers.{all_numbers, NoneTwice};
 ghost use Rattle.mw_session.specs.Rooms.{count_all};
-ghost use Rattle.mw_drive.specs.Ends.{IsOfJournal};
+ghost use Rattle.mw_drive.specs.Ends.{IsFound, StaysSettled};
 ghost use Rattle.mw_causes.specs.Ends.{told_by};
 ghost use Rattle.mw_offline.specs.Driving.{JournalLeaves};
 ghost use Rattle.mw_offline.specs.FilesAround.{files_around};
 ghost use Rattle.mw_serve.specs.Hosted.{ListensAfter};
 ghost use Rattle.mw_serve.specs.PairServing.{PairJournalFound, PairServeEnds};
-ghost use Rattle.mw_serve.specs.Sent.{KeepsSent};
+ghost use Rattle.mw_serve.specs.Sent.{SendsFound};
 ghost use Rattle.mw_serve.specs.Serving.{FileFinds, FileHostsShort, FileHostsToEnd, Finishes};
 ghost use Rattle.mw_serve.specs.Serving.{JournalFound, ServeEnds, ServeKeeps};
 ghost use Rattle.mw_serve.specs.Serving.{SeedStopped, ServeDone, ServeStopped, sessions_line};
@@ -28,6 +26,9 @@ use mw_base::{List, Memory, Text};
 use mw_causes::{DriveCause, SeedBytes, Stop, end, put_text, read_seed_bytes};
 use mw_drive::DriveError;
 use mw_edges::{Folder, FolderError, Sink};
+use mw_keep::laws::{
+    shown_is_checked, shown_is_checked_across, tails_across, tails_of_the_last_view,
+};
 use mw_link::Gate;
 use mw_session::Served;
 use mw_words::ServeWords;
@@ -69,12 +70,13 @@ where
         F.Drive.may_leave
         (files_around F.holds F.images F.is_open F.may_fail F.faults folder.old folder.new)
         words.now.journal seed.bytes seed.multidata result.served) }
-    ensures kept { (steps : List Step)
-        → IsTrue (is_some (opened_bytes (F.holds folder.old words.now.journal)))
-        → IsLeft (F.images folder.old words.now.journal) (digest_of seed.bytes)
-        (life_after_all seed.multidata steps)
-        → KeepsSent G.Line.sent (F.images folder.new words.now.journal) (digest_of seed.bytes)
-        seed.multidata steps result.served }
+    ensures found { SendsFound G.Line.sent
+        (IsFound (opened_bytes (F.holds folder.old words.now.journal))
+        (F.images folder.old words.now.journal) (digest_of seed.bytes) seed.multidata)
+        (StaysSettled (F.images folder.old words.now.journal)
+        (F.images folder.new words.now.journal) (digest_of seed.bytes))
+        (F.images folder.new words.now.journal) (digest_of seed.bytes) seed.multidata
+        result.served }
     ensures leaves { JournalLeaves
         (files_around F.holds F.images F.is_open F.may_fail F.faults folder.old folder.new)
         (Some words.now.journal) }
@@ -201,6 +203,11 @@ where
         → Rose (F.faults folder.old) (F.faults folder.new)
         ⊎ ((0 < G.faults result.1) ⊎ Rose (O.faults out.old) (O.faults out.new)) }
 {
+    // The laws of runs of lives, by which what was taken is kept.
+    shown_is_checked();
+    tails_of_the_last_view();
+    shown_is_checked_across();
+    tails_across();
     match read_seed_bytes(alloc, folder, &words.multidata) {
         Ok(seed) => {
             let Coming {
@@ -306,7 +313,8 @@ where
 /// status other than 0 the error sink gets that status's line, or a front of it where it refuses.
 ///
 /// Whatever the status is, what a crash may leave of the journal's file stays settled, and keeps all
-/// that was sent.
+/// that was sent: whatever runs, crashes and checkpoints the journal is of, since the run went on from
+/// the life that begins with the records that it found, and sent only what was taken on the way.
 pub fn cmd_serve<F: Folder, G: Gate + Send, O: Sink, E: Sink, R: Threads + Wait + Sync>(
     rt: &R,
     alloc: Global,

@@ -8,7 +8,7 @@ ghost use Rattle.mw_offline.specs.FilesAround.{files_around};
 ghost use Rattle.mw_offline.specs.PairDriving.{ChoiceStays};
 ghost use Rattle.mw_offline.specs.PairFiles.{PairLeaves};
 ghost use Rattle.mw_serve.specs.Hosted.{ListensAfter};
-ghost use Rattle.mw_serve.specs.PairServing.{PairHostKeeps, PairJournalFound, PairServeDone};
+ghost use Rattle.mw_serve.specs.PairServing.{PairJournalFound, PairServeDone, PairServeKeeps};
 ghost use Rattle.mw_serve.specs.PairServing.{PairFinishes, PairServeStopped};
 
 use crate::hosting::{Ending, Terms, host_on};
@@ -17,6 +17,9 @@ use mw_base::List;
 use mw_causes::{PairDriveCause, SeedBytes, Stop};
 use mw_drive::DriveError;
 use mw_edges::{Folder, Sink};
+use mw_keep::laws::{
+    shown_is_checked, shown_is_checked_across, tails_across, tails_of_the_last_view,
+};
 use mw_link::Gate;
 use mw_offline::{PairRoom, open_pair_room};
 use mw_pair::{Chosen, close_chosen};
@@ -69,7 +72,7 @@ where
         G.Line.opened G.Line.is_shut F.Drive.may_leave
         (files_around F.holds F.images F.is_open F.may_fail F.faults folder.old folder.new)
         words.now result.2 (O.held out.old) (O.held out.new)) }
-    ensures kept { (result.2 ≡ []) ⊎ PairHostKeeps G.Line.heard G.Line.sent G.Line.faults
+    ensures kept { PairServeKeeps G.Line.heard G.Line.sent G.Line.faults
         G.Line.opened G.Line.is_shut F.Drive.may_leave
         (files_around F.holds F.images F.is_open F.may_fail F.faults folder.old folder.new)
         words.now result.2 }
@@ -91,6 +94,11 @@ where
         → Rose (F.faults folder.old) (F.faults folder.new)
         ⊎ ((0 < G.faults result.1) ⊎ Rose (O.faults out.old) (O.faults out.new)) }
 {
+    // The laws of runs of lives, by which what was taken is kept.
+    shown_is_checked();
+    tails_of_the_last_view();
+    shown_is_checked_across();
+    tails_across();
     let PairRoom { seed, names, room } = match open_pair_room(
         alloc,
         folder,

@@ -4,6 +4,7 @@ use Rattle.mw_checkpoint.specs.Choices.{named_in}
 use Rattle.mw_checkpoint.specs.Pair.{PairStands, journal_at, pick}
 use Rattle.mw_checkpoint.specs.Preparing.{RefusesPrepare}
 use Rattle.mw_checkpoint.specs.Switching.{RefusesSwitch}
+use Rattle.mw_checkpoint.proofs.Settling.{stand_chosen, stand_prepared, stand_settled}
 use Rattle.mw_checkpoint.proofs.WholeCheckpoints.{counted, kept_chosen, kept_prepared, kept_settled, refuses_since}
 use Rattle.mw_checkpoint.proofs.checkpointing.checkpoint.Goals as goal
 
@@ -45,6 +46,40 @@ returns-in-Err-switch-clause-kept g c allowed s =
     w.pairs r.chosen.text p.prepares.records is f first second
     (g.met.D.Disk.counts_now c.in-Err-switch.files.choice (g.D.Disk.moment c.in-Ok-prepare.prepared.files.choice) f (w.any_moment r.chosen.text p.prepares.records is).later image) left right)
     s
+
+pub returns-in-Err-clause-settled : goal.returns-in-Err-clause-settled
+returns-in-Err-clause-settled g c allowed s some =
+    let e = c.in-Err.ensures in
+    stand_settled g.D.Disk.told g.D.Disk.may_leave g.D.Disk.moment g.D.Disk.left_since g.met.D.Disk.counts_now c.args.digest.now allowed c.args.files c.in-Err.files e.journals.0 e.journals.1 e.any_moment s
+
+pub returns-in-Err-prepare-clause-settled : goal.returns-in-Err-prepare-clause-settled
+returns-in-Err-prepare-clause-settled g c allowed s some =
+    let e = c.in-Ok.ensures in
+    let p = c.in-Err-prepare.ensures in
+    stand_chosen g.D.Disk.told g.D.Disk.may_leave g.D.Disk.moment g.D.Disk.left_since g.met.D.Disk.counts_now c.args.digest.now allowed c.args.files c.in-Ok.read.0 c.in-Err-prepare.files c.in-Ok.read.1
+    e.journals.0 e.journals.1 e.reads p.choice p.any_moment s
+
+pub returns-in-Ok-switch-clause-settled : goal.returns-in-Ok-switch-clause-settled
+returns-in-Ok-switch-clause-settled g c allowed s some =
+    let e = c.in-Ok.ensures in
+    let p = c.in-Ok-prepare.ensures in
+    let r = e.reads in
+    let is = p.prepares.prepared r.chosen.text (r.chosen.place, r.chosen.shut) r.chosen.choices r.chosen.last in
+    let w = c.in-Ok-switch.ensures in
+    stand_prepared g.D.Disk.told g.D.Disk.may_leave g.D.Disk.moment g.D.Disk.left_since g.met.D.Disk.counts_now c.args.digest.now allowed c.args.files c.in-Ok.read.0 c.in-Ok.read.1
+    e.journals.0 e.journals.1 r c.in-Ok-prepare.prepared p.prepares.records is p.prepares.seed p.prepares.one c.in-Ok-switch.files w.journals.0 w.journals.1
+    (w.any_moment r.chosen.text p.prepares.records is) s some
+
+pub returns-in-Err-switch-clause-settled : goal.returns-in-Err-switch-clause-settled
+returns-in-Err-switch-clause-settled g c allowed s some =
+    let e = c.in-Ok.ensures in
+    let p = c.in-Ok-prepare.ensures in
+    let r = e.reads in
+    let is = p.prepares.prepared r.chosen.text (r.chosen.place, r.chosen.shut) r.chosen.choices r.chosen.last in
+    let w = c.in-Err-switch.ensures in
+    stand_prepared g.D.Disk.told g.D.Disk.may_leave g.D.Disk.moment g.D.Disk.left_since g.met.D.Disk.counts_now c.args.digest.now allowed c.args.files c.in-Ok.read.0 c.in-Ok.read.1
+    e.journals.0 e.journals.1 r c.in-Ok-prepare.prepared p.prepares.records is p.prepares.seed p.prepares.one c.in-Err-switch.files w.journals.0 w.journals.1
+    (w.any_moment r.chosen.text p.prepares.records is) s some
 
 pub returns-in-Ok-switch-clause-done : goal.returns-in-Ok-switch-clause-done
 returns-in-Ok-switch-clause-done g c =

@@ -3,12 +3,12 @@ use Rattle.std.proofs.lemmas.List.{nil_from_length}
 use Rattle.std.specs.Vec.Iter.{into_iter_items}
 use Rattle.mw_multidata.specs.Digest.{digest_of}
 use Rattle.mw_script.specs.Commands.{command_view}
-use Rattle.mw_drive.specs.Left.{HasDriven}
-use Rattle.mw_drive.specs.Runs.{IsOfRun, IsShownKept}
+use Rattle.mw_drive.specs.Left.{HasDriven, KeepsFrom}
+use Rattle.mw_drive.specs.Runs.{IsOfRun}
 use Rattle.mw_drive.specs.declared.error.DriveError.TheVariants.{Fault}
 use Rattle.mw_drive.proofs.Finishing.{has_driven, driven_kept}
 use Rattle.mw_drive.proofs.Looping.{IsAt, one_kept, at_more, at_cut}
-use Rattle.mw_drive.proofs.Running.{Laws, run_begins}
+use Rattle.mw_drive.proofs.Running.{run_begins}
 use Rattle.mw_drive.proofs.Stepping.{ran_one, ran_rest}
 use Rattle.mw_drive.proofs.run.run_all.Goals as goal
 
@@ -35,11 +35,11 @@ loop-command-preserved g c =
     let all = map command_view c.args.commands in
     let rest = map command_view (into_iter_items c.next.new.self) in
     let steps : into_iter_items l.command-iterator ≡ c.in-Some.command ∷ into_iter_items c.next.new.self = c.in-Some.ensures.steps.0 in
-    let laws : Laws = record { shown = c.shown_is_checked.ensures; tails = c.tails_of_the_last_view.ensures; named_all = c.journals_are_named.ensures; lives = c.lives_keep.ensures } in (
+    let named_all = c.journals_are_named.ensures in (
       (λ seed first kept.
           let at = subst (λ cs. IsAt g.D.Disk.may_leave g.D.Disk.told c.args.file.now seed first old mid (map command_view cs) all l.kept) steps (l.invariant.0 seed first kept) in
-          at_more g.D.Disk.may_leave g.D.Disk.told c.args.file.now seed first old laws mid (command_view c.in-Some.command) rest all l.kept at (g.O.Sink.held c.run_one.new.out) c.in-Ok.next c.in-Ok.ensures.tells
-          (c.in-Ok.ensures.ok seed at.now (one_kept g.D.Disk.may_leave g.D.Disk.told c.args.file.now seed first old laws mid (command_view c.in-Some.command) rest all l.kept at))),
+          at_more g.D.Disk.may_leave g.D.Disk.told c.args.file.now seed first old named_all mid (command_view c.in-Some.command) rest all l.kept at (g.O.Sink.held c.run_one.new.out) c.in-Ok.next c.in-Ok.ensures.tells
+          (c.in-Ok.ensures.ok seed at.now (one_kept g.D.Disk.may_leave g.D.Disk.told c.args.file.now seed first old named_all mid (command_view c.in-Some.command) rest all l.kept at))),
       (λ error ran. l.invariant.1 error (subst (λ cs. IsOfRun (map command_view cs) error) (sym steps) (ran_rest (command_view c.in-Some.command) rest error ran))),
       (λ h. c.in-Ok.ensures.lives (l.invariant.2 h)),
       c.in-Ok.ensures.tells ∙ l.invariant.3,
@@ -55,10 +55,10 @@ returns-in-Err-clause-err g c seed first kept =
     let all = map command_view c.args.commands in
     let rest = map command_view (into_iter_items c.next.new.self) in
     let steps : into_iter_items l.command-iterator ≡ c.in-Some.command ∷ into_iter_items c.next.new.self = c.in-Some.ensures.steps.0 in
-    let laws : Laws = record { shown = c.shown_is_checked.ensures; tails = c.tails_of_the_last_view.ensures; named_all = c.journals_are_named.ensures; lives = c.lives_keep.ensures } in
+    let named_all = c.journals_are_named.ensures in
     let at = subst (λ cs. IsAt g.D.Disk.may_leave g.D.Disk.told c.args.file.now seed first old mid (map command_view cs) all l.kept) steps (l.invariant.0 seed first kept) in
-    at_cut g.D.Disk.may_leave g.D.Disk.told c.args.file.now seed first old laws mid (command_view c.in-Some.command) rest all l.kept at (g.O.Sink.held c.run_one.new.out) c.in-Err.disk c.in-Err.error
-    (c.in-Err.ensures.err seed at.now (one_kept g.D.Disk.may_leave g.D.Disk.told c.args.file.now seed first old laws mid (command_view c.in-Some.command) rest all l.kept at))
+    at_cut g.D.Disk.may_leave g.D.Disk.told c.args.file.now seed first old named_all mid (command_view c.in-Some.command) rest all l.kept at (g.O.Sink.held c.run_one.new.out) c.in-Err.disk c.in-Err.error
+    (c.in-Err.ensures.err seed at.now (one_kept g.D.Disk.may_leave g.D.Disk.told c.args.file.now seed first old named_all mid (command_view c.in-Some.command) rest all l.kept at))
 
 pub returns-in-Err-clause-ran : goal.returns-in-Err-clause-ran
 returns-in-Err-clause-ran g c =
@@ -86,5 +86,5 @@ returns-clause-done g c seed first kept =
     let at = subst (λ cs. IsAt g.D.Disk.may_leave g.D.Disk.told c.args.file.now seed first old new (map command_view cs) all l.kept) none (l.invariant.0 seed first kept) in
     let digest = digest_of c.args.file.now in (
       subst (λ d. HasDriven (g.D.Disk.may_leave d) digest first all old new) (sym c.into_disk.ensures) (has_driven g.D.Disk.may_leave digest seed first at.now old new all l.kept at.run_so at.kept.keeps at.kept.going),
-      subst (λ d. IsShownKept (g.D.Disk.may_leave d) digest seed first old new) (sym c.into_disk.ensures) (driven_kept g.D.Disk.may_leave digest seed first at.now old new all l.kept at.run_so at.kept.keeps),
+      subst (λ d. KeepsFrom (g.D.Disk.may_leave d) digest first old new) (sym c.into_disk.ensures) (driven_kept g.D.Disk.may_leave digest seed first at.now old new all l.kept at.run_so at.kept.keeps),
     )

@@ -3,7 +3,7 @@ use Rattle.mw_multidata.specs.Digest.{digest_of}
 use Rattle.mw_offline.specs.Driving.{run_of}
 use Rattle.mw_offline.specs.FilesAround.{files_around}
 use Rattle.mw_causes.specs.declared.drive_cause.DriveCause.TheVariants.{SeedFile}
-use Rattle.mw_offline.proofs.Driving.{AreUnmoved, keeps_since, leaves_since, read_keeps, rose_since, run_exit, run_fault, runs_since, seed_exit, short_since, unmoved_all, unmoved_leaves}
+use Rattle.mw_offline.proofs.Driving.{AreUnmoved, journal_since, leaves_since, read_keeps, rose_since, run_exit, run_fault, runs_since, seed_exit, short_since, unmoved_all, unmoved_leaves}
 use Rattle.mw_causes.proofs.Endings.{fault_exit}
 use Rattle.mw_offline.proofs.drive_command.drive.Goals as goal
 
@@ -72,7 +72,8 @@ returns-in_err-drive_room-clause-kept g c =
     let bytes = c.in_ok-seed.seed.bytes in
     let seed = c.in_ok-seed.seed.multidata in
     let read = c.in_ok-seed.ensures in
-    read_keeps files named bytes seed old new read.ok.0 read.ok.1 (keeps_since F.holds F.images F.is_open F.may_fail F.faults first second last read.same read.crash named.journal (digest_of bytes) seed old new c.in_err-drive_room.ensures.kept)
+    read_keeps (record { shown = c.shown_is_checked.ensures; tails = c.tails_of_the_last_view.ensures; shown_across = c.shown_is_checked_across.ensures; tails_across = c.tails_across.ensures })
+    files named bytes seed old new read.ok.0 read.ok.1 (journal_since F.holds F.images F.is_open F.may_fail F.faults first second last read.same read.crash named.journal (digest_of bytes) seed old new c.in_err-drive_room.ensures.runs)
 
 pub returns-in_err-drive_room-clause-leaves : goal.returns-in_err-drive_room-clause-leaves
 returns-in_err-drive_room-clause-leaves g c =
@@ -124,7 +125,8 @@ returns-clause-kept g c =
     let bytes = c.in_ok-seed.seed.bytes in
     let seed = c.in_ok-seed.seed.multidata in
     let read = c.in_ok-seed.ensures in
-    read_keeps files named bytes seed old new read.ok.0 read.ok.1 (keeps_since F.holds F.images F.is_open F.may_fail F.faults first second last read.same read.crash named.journal (digest_of bytes) seed old new c.in_ok-drive_room.ensures.kept)
+    read_keeps (record { shown = c.shown_is_checked.ensures; tails = c.tails_of_the_last_view.ensures; shown_across = c.shown_is_checked_across.ensures; tails_across = c.tails_across.ensures })
+    files named bytes seed old new read.ok.0 read.ok.1 (journal_since F.holds F.images F.is_open F.may_fail F.faults first second last read.same read.crash named.journal (digest_of bytes) seed old new c.in_ok-drive_room.ensures.runs)
 
 pub returns-clause-leaves : goal.returns-clause-leaves
 returns-clause-leaves g c =

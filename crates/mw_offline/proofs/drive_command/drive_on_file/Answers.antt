@@ -6,9 +6,9 @@ use Rattle.mw_edges.specs.Folders.{opened_bytes}
 use Rattle.mw_journal.proofs.Told.{on_ok_one}
 use Rattle.mw_multidata.specs.Digest.{digest_of}
 use Rattle.mw_drive.specs.Ends.{IsAsRead}
-use Rattle.mw_offline.specs.Driving.{JournalKeeps, JournalRead, run_of, RunsToEnd, RunsShort}
+use Rattle.mw_offline.specs.Driving.{JournalRead, JournalRuns, run_of, RunsToEnd, RunsShort}
 use Rattle.mw_offline.specs.FilesAround.{files_around}
-use Rattle.mw_offline.proofs.Driving.{accepted_over, drives_over, if_err_two, kept_over, leaves_by, opened_same, same_both, stops_over, tells_closed, tells_made, unopened_keeps, unopened_short}
+use Rattle.mw_offline.proofs.Driving.{accepted_over, drives_over, found_over, if_err_two, leaves_by, opened_same, same_both, some_for, stops_over, tells_closed, tells_made, unopened_runs, unopened_short}
 use Rattle.mw_offline.proofs.drive_command.drive_on_file.Goals as goal
 
 pub returns-in-Err-Failed-clause-short : goal.returns-in-Err-Failed-clause-short
@@ -17,10 +17,10 @@ returns-in-Err-Failed-clause-short g c =
     unopened_short F.holds F.images F.is_open F.may_fail F.faults c.args.folder.now c.open_disk.new.self c.args.name.now (c.open_disk.ensures.crash c.args.name.now) g.S.Source.left
     c.args.seed.bytes c.args.seed.multidata c.args.input.now (g.O.Sink.held c.args.out.now) _ (inl refl)
 
-pub returns-in-Err-Failed-clause-kept : goal.returns-in-Err-Failed-clause-kept
-returns-in-Err-Failed-clause-kept g c =
+pub returns-in-Err-Failed-clause-runs : goal.returns-in-Err-Failed-clause-runs
+returns-in-Err-Failed-clause-runs g c =
     let F = g.F.Folder in
-    unopened_keeps F.holds F.images F.is_open F.may_fail F.faults c.args.folder.now c.open_disk.new.self c.args.name.now (c.open_disk.ensures.crash c.args.name.now)
+    unopened_runs F.holds F.images F.is_open F.may_fail F.faults c.args.folder.now c.open_disk.new.self c.args.name.now (c.open_disk.ensures.crash c.args.name.now)
     (digest_of c.args.seed.bytes) c.args.seed.multidata (g.O.Sink.held c.args.out.now)
 
 pub returns-in-Err-Failed-clause-leaves : goal.returns-in-Err-Failed-clause-leaves
@@ -35,10 +35,10 @@ returns-in-Err-Memory-clause-short g c =
     unopened_short F.holds F.images F.is_open F.may_fail F.faults c.args.folder.now c.open_disk.new.self c.args.name.now (c.open_disk.ensures.crash c.args.name.now) g.S.Source.left
     c.args.seed.bytes c.args.seed.multidata c.args.input.now (g.O.Sink.held c.args.out.now) _ (inr refl)
 
-pub returns-in-Err-Memory-clause-kept : goal.returns-in-Err-Memory-clause-kept
-returns-in-Err-Memory-clause-kept g c =
+pub returns-in-Err-Memory-clause-runs : goal.returns-in-Err-Memory-clause-runs
+returns-in-Err-Memory-clause-runs g c =
     let F = g.F.Folder in
-    unopened_keeps F.holds F.images F.is_open F.may_fail F.faults c.args.folder.now c.open_disk.new.self c.args.name.now (c.open_disk.ensures.crash c.args.name.now)
+    unopened_runs F.holds F.images F.is_open F.may_fail F.faults c.args.folder.now c.open_disk.new.self c.args.name.now (c.open_disk.ensures.crash c.args.name.now)
     (digest_of c.args.seed.bytes) c.args.seed.multidata (g.O.Sink.held c.args.out.now)
 
 pub returns-in-Err-Memory-clause-leaves : goal.returns-in-Err-Memory-clause-leaves
@@ -99,8 +99,8 @@ returns-clause-short g c =
           (g.F.Drive.Disk.may_leave after) (F.images last name) left (digest_of file) seed old new e accepted;
     }))
 
-pub returns-clause-kept : goal.returns-clause-kept
-returns-clause-kept g c =
+pub returns-clause-runs : goal.returns-clause-runs
+returns-clause-runs g c =
     let F = g.F.Folder in
     let first = c.args.folder.now in
     let last = c.close_disk.new.self in
@@ -112,9 +112,10 @@ returns-clause-kept g c =
     let old = g.O.Sink.held c.args.out.now in
     let new = g.O.Sink.held c.drive_on-disk.new.out in
     let left = λ (x : List ℕ). (c.close_disk.ensures.left x).0 in
-    subst (λ b. JournalKeeps (files_around F.holds F.images F.is_open F.may_fail F.faults first last) (Some name) (digest_of b) seed old new) c.as_slice.ensures
-    (λ steps. kept_over (g.F.Drive.Disk.told disk) (opened_bytes (F.holds first name)) c.in-Ok.ensures.told (g.F.Drive.Disk.may_leave disk) (F.images first name) c.in-Ok.ensures.left
-    (g.F.Drive.Disk.may_leave after) (F.images last name) left (digest_of file) seed old new steps (c.drive_on-disk.ensures.kept steps))
+    subst (λ b. JournalRuns (files_around F.holds F.images F.is_open F.may_fail F.faults first last) (Some name) (digest_of b) seed old new) c.as_slice.ensures
+    (λ some. found_over (g.F.Drive.Disk.told disk) (opened_bytes (F.holds first name)) c.in-Ok.ensures.told (g.F.Drive.Disk.may_leave disk) (F.images first name) c.in-Ok.ensures.left
+    (g.F.Drive.Disk.may_leave after) (F.images last name) left (digest_of file) seed old new
+    (c.drive_on-disk.ensures.found (some_for (g.F.Drive.Disk.told disk) (opened_bytes (F.holds first name)) c.in-Ok.ensures.told (digest_of file) seed some)))
 
 pub returns-clause-leaves : goal.returns-clause-leaves
 returns-clause-leaves g c =

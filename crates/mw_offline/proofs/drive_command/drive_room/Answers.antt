@@ -9,8 +9,8 @@ pub returns-in-None-clause-short : goal.returns-in-None-clause-short
 returns-in-None-clause-short g c =
     rw c.in-None.is (if_err_two c.drive_in_memory.result c.drive_in_memory.ensures.stopped c.drive_in_memory.ensures.accepted (λ e s a. record { stops = s; accepted = λ steps some left. a }))
 
-pub returns-in-None-clause-kept : goal.returns-in-None-clause-kept
-returns-in-None-clause-kept g c = rw c.in-None.is c.drive_in_memory.ensures.kept
+pub returns-in-None-clause-runs : goal.returns-in-None-clause-runs
+returns-in-None-clause-runs g c = rw c.in-None.is c.drive_in_memory.ensures.runs
 
 pub returns-in-None-clause-leaves : goal.returns-in-None-clause-leaves
 returns-in-None-clause-leaves g c =
@@ -23,8 +23,8 @@ returns-in-Some-clause-done g c = rw c.in-Some.is c.drive_on_file.ensures.done
 pub returns-in-Some-clause-short : goal.returns-in-Some-clause-short
 returns-in-Some-clause-short g c = rw c.in-Some.is c.drive_on_file.ensures.short
 
-pub returns-in-Some-clause-kept : goal.returns-in-Some-clause-kept
-returns-in-Some-clause-kept g c = rw c.in-Some.is c.drive_on_file.ensures.kept
+pub returns-in-Some-clause-runs : goal.returns-in-Some-clause-runs
+returns-in-Some-clause-runs g c = rw c.in-Some.is c.drive_on_file.ensures.runs
 
 pub returns-in-Some-clause-leaves : goal.returns-in-Some-clause-leaves
 returns-in-Some-clause-leaves g c = rw c.in-Some.is c.drive_on_file.ensures.leaves

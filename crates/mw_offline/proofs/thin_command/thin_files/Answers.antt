@@ -1,5 +1,5 @@
 use Rattle.std.proofs.Common.{subst, sym}
-use Rattle.mw_pair.specs.Thinning.{AreThinned, KeepAllowed, RefusesThin}
+use Rattle.mw_pair.specs.Thinning.{AreThinned, KeepAllowed, KeepSettled, RefusesThin}
 use Rattle.mw_offline.specs.FilesAround.{files_around}
 use Rattle.mw_offline.specs.ThinRuns.{ThinFails}
 use Rattle.mw_offline.proofs.PairFiles.{thin_keeps, thin_refused, thinned_in, unread_keeps}
@@ -38,6 +38,7 @@ returns-in-Ok-clause-keeps g c =
     let digest = c.in_ok-digest.digest in
     thin_keeps F.holds F.images F.is_open F.may_fail F.faults c.args.folder.now second last read.same read.crash read.opened c.args.words.now digest read.ok
     (subst (λ n. KeepAllowed (F.holds second) (F.images second) (F.images last) n digest) c.in_ok-names.ensures c.in-Ok.ensures.kept)
+    (subst (λ n. KeepSettled (F.holds second) (F.images second) (F.images last) n digest) c.in_ok-names.ensures c.in-Ok.ensures.settled)
 
 pub returns-clause-keeps : goal.returns-clause-keeps
 returns-clause-keeps g c =
@@ -48,6 +49,7 @@ returns-clause-keeps g c =
     let digest = c.in_ok-digest.digest in
     thin_keeps F.holds F.images F.is_open F.may_fail F.faults c.args.folder.now second last read.same read.crash read.opened c.args.words.now digest read.ok
     (subst (λ n. KeepAllowed (F.holds second) (F.images second) (F.images last) n digest) c.in_ok-names.ensures c.in-Err.ensures.kept)
+    (subst (λ n. KeepSettled (F.holds second) (F.images second) (F.images last) n digest) c.in_ok-names.ensures c.in-Err.ensures.settled)
 
 pub returns-clause-fails : goal.returns-clause-fails
 returns-clause-fails g c =

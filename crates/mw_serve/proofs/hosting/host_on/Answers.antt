@@ -9,7 +9,7 @@ use Rattle.mw_keep.specs.Recovers.{Resumes, RefusesResume}
 use Rattle.mw_drive.specs.Ends.{IsAsRead, IsFound, IsOfJournal, Refuses, StaysSettled}
 use Rattle.mw_drive.proofs.Driving.{cause_of, foreign_error, unopened_accepted}
 use Rattle.mw_serve.specs.Hosted.{Finds}
-use Rattle.mw_serve.proofs.Hosts.{left_stays, listens_more, none_sent, run_accepted, run_count, run_done, run_fault, run_full, run_kept, run_short, run_tells}
+use Rattle.mw_serve.proofs.Hosts.{listens_more, run_accepted, run_count, run_done, run_fault, run_found, run_full, run_short, run_tells}
 use Rattle.mw_serve.proofs.hosting.host_on.Goals as goal
 
 pub returns-in-Ok-clause-done : goal.returns-in-Ok-clause-done
@@ -31,8 +31,8 @@ returns-in-Ok-clause-short g c =
     run_short L.heard L.sent L.faults L.opened L.is_shut D.may_leave D.told D.faults digest seed c.args.disk c.in-Ok.room r c.args.terms.accept c.host.result.disk c.host.result.served (g.G.Gate.faults c.host.result.gate) (g.G.Gate.left c.host.result.gate) (g.G.Gate.ended c.host.result.gate) c.host.result.outcome c.host.ensures.run stays
     (Refuses (D.told c.args.disk) digest seed) (IsAsRead (D.told c.args.disk) (D.told c.host.result.disk) (D.may_leave c.args.disk) (D.may_leave c.host.result.disk))
 
-pub returns-in-Ok-clause-kept : goal.returns-in-Ok-clause-kept
-returns-in-Ok-clause-kept g c steps some was =
+pub returns-in-Ok-clause-found : goal.returns-in-Ok-clause-found
+returns-in-Ok-clause-found g c =
     let D = g.D.Disk in let L = g.G.Line.Link in let digest = digest_of c.args.file.now in let seed = c.args.multidata in
     let r = subst (λ d. Resumes D.told D.may_leave d seed c.args.disk c.in-Ok.room) c.digest.ensures c.in-Ok.ensures.resumes in
     let stays : StaysSettled (D.may_leave c.args.disk) (D.may_leave (kept_disk c.in-Ok.room)) digest = λ text body settled f image.
@@ -40,8 +40,8 @@ returns-in-Ok-clause-kept g c steps some was =
     (c.in-Ok.ensures.any_moment text body (subst (λ (d : List ℕ). AllSettled (D.may_leave c.args.disk) d text body) (sym c.digest.ensures) settled)) in
     let met = g.met.D.Disk g.world.𝓛 g.world.𝓜 g.world.𝓡 (λ s x. x, λ x. x, λ x. x, λ x. x) in
     leaves.each f (met.counts_now (kept_disk c.in-Ok.room) (D.moment c.args.disk) f leaves.later image) in
-    run_kept L.heard L.sent L.faults L.opened L.is_shut D.may_leave D.told D.faults digest seed c.args.disk c.in-Ok.room r c.args.terms.accept c.host.result.disk c.host.result.served (g.G.Gate.faults c.host.result.gate) (g.G.Gate.left c.host.result.gate) (g.G.Gate.ended c.host.result.gate) c.host.result.outcome c.host.ensures.run stays
-    c.lives_keep.ensures c.taken_was_owed.ensures c.tails_of_the_last_view.ensures c.shown_is_checked.ensures steps some was
+    run_found L.heard L.sent L.faults L.opened L.is_shut D.may_leave D.told D.faults digest seed c.args.disk c.in-Ok.room r c.args.terms.accept c.host.result.disk c.host.result.served (g.G.Gate.faults c.host.result.gate) (g.G.Gate.left c.host.result.gate) (g.G.Gate.ended c.host.result.gate) c.host.result.outcome c.host.ensures.run stays
+    c.lives_keep.ensures c.taken_was_owed.ensures
 
 pub returns-in-Ok-clause-accepted : goal.returns-in-Ok-clause-accepted
 returns-in-Ok-clause-accepted g c =
@@ -96,15 +96,15 @@ returns-in-Err-clause-short g c = inl record {
       (subst (λ (d : List ℕ). RefusesResume (g.D.Disk.told c.args.disk) d c.args.multidata (g.D.Disk.faults c.args.disk) (g.D.Disk.faults c.in-Err.disk) c.in-Err.error) c.digest.ensures c.in-Err.ensures.refused);
 }
 
-pub returns-in-Err-clause-kept : goal.returns-in-Err-clause-kept
-returns-in-Err-clause-kept g c steps some was =
-    let stays : StaysSettled (g.D.Disk.may_leave c.args.disk) (g.D.Disk.may_leave c.in-Err.disk) (digest_of c.args.file.now) = λ text body settled f image.
-    let leaves = subst (λ (d : List ℕ). LeavesOnly g.D.Disk.moment g.D.Disk.left_since c.args.disk c.in-Err.disk (λ x. IsSettled x d text body)) c.digest.ensures
-    (c.in-Err.ensures.any_moment text body (subst (λ (d : List ℕ). AllSettled (g.D.Disk.may_leave c.args.disk) d text body) (sym c.digest.ensures) settled)) in
-    let met = g.met.D.Disk g.world.𝓛 g.world.𝓜 g.world.𝓡 (λ s x. x, λ x. x, λ x. x, λ x. x) in
-    leaves.each f (met.counts_now c.in-Err.disk (g.D.Disk.moment c.args.disk) f leaves.later image) in
-    none_sent g.G.Line.Link.sent (g.D.Disk.may_leave c.in-Err.disk) (digest_of c.args.file.now) c.args.multidata steps c.new.result c.new.ensures
-    (left_stays (g.D.Disk.may_leave c.args.disk) (g.D.Disk.may_leave c.in-Err.disk) (digest_of c.args.file.now) (life_after_all c.args.multidata steps) stays was)
+pub returns-in-Err-clause-found : goal.returns-in-Err-clause-found
+returns-in-Err-clause-found g c = inl (
+  (λ text body settled f image.
+      let leaves = subst (λ (d : List ℕ). LeavesOnly g.D.Disk.moment g.D.Disk.left_since c.args.disk c.in-Err.disk (λ x. IsSettled x d text body)) c.digest.ensures
+      (c.in-Err.ensures.any_moment text body (subst (λ (d : List ℕ). AllSettled (g.D.Disk.may_leave c.args.disk) d text body) (sym c.digest.ensures) settled)) in
+      let met = g.met.D.Disk g.world.𝓛 g.world.𝓜 g.world.𝓡 (λ s x. x, λ x. x, λ x. x, λ x. x) in
+      leaves.each f (met.counts_now c.in-Err.disk (g.D.Disk.moment c.args.disk) f leaves.later image)),
+  c.new.ensures,
+)
 
 pub returns-in-Err-clause-accepted : goal.returns-in-Err-clause-accepted
 returns-in-Err-clause-accepted g c steps some left of =

@@ -2,9 +2,10 @@ use Rattle.std.proofs.Common.{Some, ap, inl, refl}
 use Rattle.mw_edges.specs.Folders.{opened_bytes}
 use Rattle.mw_multidata.specs.Digest.{digest_of}
 use Rattle.mw_offline.specs.FilesAround.{files_around}
-use Rattle.mw_offline.proofs.Driving.{AreUnmoved, leaves_since}
+use Rattle.mw_offline.proofs.Driving.{leaves_since}
 use Rattle.mw_serve.proofs.Hosts.{listens_more}
-use Rattle.mw_serve.proofs.Files.{finds_over, finishes_all, if_err_over, if_ok_over, none_kept, read_serves, sent_since, serve_done, serve_stopped, short_since, to_end_since}
+use Rattle.mw_serve.proofs.Files.{finds_over, finishes_all, if_err_over, if_ok_over, read_serves, sent_since, serve_done, serve_stopped, short_since, to_end_since}
+use Rattle.mw_serve.proofs.Sending.{none_keeps}
 use Rattle.mw_serve.proofs.serve_command.serve.Goals as goal
 
 pub returns-in-Ok-clause-done : goal.returns-in-Ok-clause-done
@@ -56,7 +57,9 @@ returns-in-Ok-clause-kept g c =
     let seed = c.in-Ok.seed.multidata in
     let read = c.in-Ok.ensures in
     let ran = c.serve_on_file-outcome in
-    λ b s steps told is. read_serves L.sent files named bytes seed ran.result.served read.ok.0 read.ok.1 (λ steps. sent_since L.heard L.sent L.faults L.opened L.is_shut g.F.Drive.Disk.may_leave F.holds F.images F.is_open F.may_fail F.faults first second last read.same read.crash named.journal bytes seed ran.result.served steps (ran.ensures.kept steps)) b s steps told is
+    read_serves L.sent (record { shown = c.shown_is_checked.ensures; tails = c.tails_of_the_last_view.ensures; shown_across = c.shown_is_checked_across.ensures; tails_across = c.tails_across.ensures })
+    files named bytes seed ran.result.served read.ok.0 read.ok.1
+    (sent_since L.heard L.sent L.faults L.opened L.is_shut g.F.Drive.Disk.may_leave F.holds F.images F.is_open F.may_fail F.faults first second last read.same read.crash named.journal bytes seed ran.result.served ran.ensures.found)
 
 pub returns-in-Ok-clause-leaves : goal.returns-in-Ok-clause-leaves
 returns-in-Ok-clause-leaves g c =
@@ -75,14 +78,10 @@ returns-in-Ok-clause-leaves g c =
     leaves_since F.holds F.images F.is_open F.may_fail F.faults first second last read.same read.crash (Some named.journal) read.opened ran.ensures.leaves
 
 pub returns-in-Err-clause-kept : goal.returns-in-Err-clause-kept
-returns-in-Err-clause-kept g c =
+returns-in-Err-clause-kept g c bytes seed told is =
     let F = g.F.Folder in
-    let first = c.args.folder.now in
-    let second = c.read_seed_bytes.new.folder in
-    let files = files_around F.holds F.images F.is_open F.may_fail F.faults first second in
-    let read = c.in-Err.ensures in
-    let unmoved : AreUnmoved files = record { each = λ n. record { told = read.same n; crash = read.crash n }; opened = read.opened } in
-    none_kept g.G.Line.Link.sent files unmoved c.args.words.now c.new.result c.new.ensures
+    none_keeps g.G.Line.Link.sent (files_around F.holds F.images F.is_open F.may_fail F.faults c.args.folder.now c.read_seed_bytes.new.folder) c.args.words.now.journal (digest_of bytes) seed c.new.result c.new.ensures
+    (λ x. (c.in-Err.ensures.crash c.args.words.now.journal x).0)
 
 pub returns-in-Ok-clause-listened : goal.returns-in-Ok-clause-listened
 returns-in-Ok-clause-listened g c =

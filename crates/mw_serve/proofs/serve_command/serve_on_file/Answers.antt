@@ -10,7 +10,7 @@ use Rattle.mw_offline.specs.FilesAround.{files_around}
 use Rattle.mw_offline.proofs.Driving.{leaves_by, opened_same, same_both, tells_closed, tells_made}
 use Rattle.mw_serve.specs.Hosted.{ListensAfter}
 use Rattle.mw_serve.proofs.Hosts.{listens_more}
-use Rattle.mw_serve.proofs.Files.{finds_over, refused_not, if_err_over, if_ok_over, sent_over, short_over, SeedKeeps, to_end_over, unopened_hosts, unopened_sent}
+use Rattle.mw_serve.proofs.Files.{finds_over, refused_not, if_err_over, if_ok_over, sent_over, short_over, SeedSends, to_end_over, unopened_hosts}
 use Rattle.mw_serve.specs.Serving.{FileFinds, FileHostsShort, FileHostsToEnd}
 use Rattle.mw_session.specs.Rooms.{count_all}
 use Rattle.mw_serve.proofs.serve_command.serve_on_file.Goals as goal
@@ -22,11 +22,8 @@ returns-in-Err-Failed-clause-short g c =
     (sym c.unserved.ensures)
     (unopened_hosts L.heard L.sent L.faults L.opened L.is_shut g.F.Drive.Disk.may_leave (files_around F.holds F.images F.is_open F.may_fail F.faults c.args.folder.now c.open_disk.new.self) c.args.words.now.journal c.args.seed.bytes c.args.seed.multidata [] refl (c.open_disk.ensures.crash c.args.words.now.journal) _ (inl refl))
 
-pub returns-in-Err-Failed-clause-kept : goal.returns-in-Err-Failed-clause-kept
-returns-in-Err-Failed-clause-kept g c =
-    let F = g.F.Folder in let L = g.G.Line.Link in
-    unopened_sent L.heard L.sent L.faults L.opened L.is_shut g.F.Drive.Disk.may_leave (files_around F.holds F.images F.is_open F.may_fail F.faults c.args.folder.now c.open_disk.new.self) c.args.words.now.journal c.args.seed.bytes c.args.seed.multidata
-    c.unserved.result.served (ap (λ r. r.served) c.unserved.ensures) (c.open_disk.ensures.crash c.args.words.now.journal)
+pub returns-in-Err-Failed-clause-found : goal.returns-in-Err-Failed-clause-found
+returns-in-Err-Failed-clause-found g c = inl ((λ text body settled x image. settled x ((c.open_disk.ensures.crash c.args.words.now.journal x).0 image)), ap (λ r. r.served) c.unserved.ensures)
 
 pub returns-in-Err-Failed-clause-leaves : goal.returns-in-Err-Failed-clause-leaves
 returns-in-Err-Failed-clause-leaves g c =
@@ -41,11 +38,8 @@ returns-in-Err-Memory-clause-short g c =
     (sym c.unserved-in-Err-Memory.ensures)
     (unopened_hosts L.heard L.sent L.faults L.opened L.is_shut g.F.Drive.Disk.may_leave (files_around F.holds F.images F.is_open F.may_fail F.faults c.args.folder.now c.open_disk.new.self) c.args.words.now.journal c.args.seed.bytes c.args.seed.multidata [] refl (c.open_disk.ensures.crash c.args.words.now.journal) _ (inr refl))
 
-pub returns-in-Err-Memory-clause-kept : goal.returns-in-Err-Memory-clause-kept
-returns-in-Err-Memory-clause-kept g c =
-    let F = g.F.Folder in let L = g.G.Line.Link in
-    unopened_sent L.heard L.sent L.faults L.opened L.is_shut g.F.Drive.Disk.may_leave (files_around F.holds F.images F.is_open F.may_fail F.faults c.args.folder.now c.open_disk.new.self) c.args.words.now.journal c.args.seed.bytes c.args.seed.multidata
-    c.unserved-in-Err-Memory.result.served (ap (λ r. r.served) c.unserved-in-Err-Memory.ensures) (c.open_disk.ensures.crash c.args.words.now.journal)
+pub returns-in-Err-Memory-clause-found : goal.returns-in-Err-Memory-clause-found
+returns-in-Err-Memory-clause-found g c = inl ((λ text body settled x image. settled x ((c.open_disk.ensures.crash c.args.words.now.journal x).0 image)), ap (λ r. r.served) c.unserved-in-Err-Memory.ensures)
 
 pub returns-in-Err-Memory-clause-leaves : goal.returns-in-Err-Memory-clause-leaves
 returns-in-Err-Memory-clause-leaves g c =
@@ -94,8 +88,8 @@ returns-clause-short g c =
       λ x image. c.in-Ok.ensures.left x (read.1 x (left x image)),
     )) s))
 
-pub returns-clause-kept : goal.returns-clause-kept
-returns-clause-kept g c =
+pub returns-clause-found : goal.returns-clause-found
+returns-clause-found g c =
     let F = g.F.Folder in let L = g.G.Line.Link in
     let first = c.args.folder.now in
     let last = c.close_disk.new.self in
@@ -105,9 +99,9 @@ returns-clause-kept g c =
     let file = c.as_slice.result.now in
     let seed = c.args.seed.multidata in
     let left = λ (x : List ℕ). (c.close_disk.ensures.left x).0 in
-    subst (λ b. SeedKeeps L.sent (files_around F.holds F.images F.is_open F.may_fail F.faults first last) c.args.words.now e.served b seed) c.as_slice.ensures
-    (λ steps. sent_over L.heard L.sent L.faults L.opened L.is_shut g.F.Drive.Disk.may_leave (g.F.Drive.Disk.told disk) (opened_bytes (F.holds first name)) c.in-Ok.ensures.told (g.F.Drive.Disk.may_leave disk) (F.images first name) c.in-Ok.ensures.left
-    (g.F.Drive.Disk.may_leave e.disk) (F.images last name) left (digest_of file) seed e.served steps (c.host_on-disk.ensures.kept steps))
+    subst (λ b. SeedSends L.sent (files_around F.holds F.images F.is_open F.may_fail F.faults first last) name e.served b seed) c.as_slice.ensures
+    (sent_over L.heard L.sent L.faults L.opened L.is_shut g.F.Drive.Disk.may_leave (g.F.Drive.Disk.told disk) (opened_bytes (F.holds first name)) c.in-Ok.ensures.told (g.F.Drive.Disk.may_leave disk) (F.images first name) c.in-Ok.ensures.left
+    (g.F.Drive.Disk.may_leave e.disk) (F.images last name) left (digest_of file) seed e.served c.host_on-disk.ensures.found)
 
 pub returns-clause-leaves : goal.returns-clause-leaves
 returns-clause-leaves g c =

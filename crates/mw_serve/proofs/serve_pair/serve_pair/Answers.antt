@@ -4,16 +4,15 @@ use Rattle.std.specs.Option.{is_some}
 use Rattle.std.specs.Prelude.{IfErr, IfOk}
 use Rattle.mw_multidata.specs.Digest.{digest_of}
 use Rattle.mw_multidata.specs.SeedOf.{SeedOf}
-use Rattle.mw_protocol.specs.Lives.{Step, life_after_all}
-use Rattle.mw_keep.specs.Left.{IsLeft}
 use Rattle.mw_session.specs.Rooms.{count_all}
 use Rattle.mw_drive.specs.Ends.{IsAsRead, IsFound, Refuses, StaysSettled}
 use Rattle.mw_pair.specs.Choosing.{IsClosedRoom}
 use Rattle.mw_pair.specs.Folders.{OthersStay}
 use Rattle.mw_pair.specs.declared.choosing.Chosen.{Chosen}
 use Rattle.mw_pair.proofs.Steps.{others_then}
+use Rattle.mw_offline.proofs.PairDriving.{stopped_stays}
 use Rattle.mw_serve.specs.Hosted.{Finds, HostsShort, HostsToEnd, IsUnserved, ListensAfter}
-use Rattle.mw_serve.specs.Sent.{KeepsSent}
+use Rattle.mw_serve.specs.Sent.{SendsFound}
 use Rattle.mw_serve.proofs.Hosts.{listens_more}
 use Rattle.mw_serve.proofs.Pairs.{pair_done, pair_finishes_all, pair_found, pair_kept, pair_leaves, pair_stays, pair_stopped}
 use Rattle.mw_serve.proofs.serve_pair.serve_pair.Goals as goal
@@ -22,7 +21,12 @@ pub returns-in-Err-clause-stopped : goal.returns-in-Err-clause-stopped
 returns-in-Err-clause-stopped g c = inl record { stopped = c.in-Err.ensures.stopped; none = c.new.ensures; quiet = Keeps-refl (g.O.Sink.held c.args.out.now) }
 
 pub returns-in-Err-clause-kept : goal.returns-in-Err-clause-kept
-returns-in-Err-clause-kept g c = inl c.new.ensures
+returns-in-Err-clause-kept g c =
+    let F = g.F.Folder in
+    inl (
+      c.new.ensures,
+      stopped_stays F.holds F.images F.is_open F.may_fail F.faults c.args.folder.now c.open_pair_room.new.folder c.args.words.now.multidata c.args.words.now.journal c.in-Err.stop c.in-Err.ensures.stopped,
+    )
 
 pub returns-in-Err-clause-listened : goal.returns-in-Err-clause-listened
 returns-in-Err-clause-listened g c = inl (refl, λ no. cc)
@@ -83,7 +87,8 @@ returns-clause-kept g c =
     let closed = subst (λ n. IsClosedRoom D.told D.may_leave (F.holds last) (F.images last) (F.is_open last) n back) opened.names c.close_chosen.ensures.closed in
     let file = c.as_slice.ensures in
     pair_kept L.heard L.sent L.faults L.opened L.is_shut D.told D.may_leave D.faults F.holds F.images F.is_open F.may_fail F.faults first last named seed.bytes seed.multidata opened.seed.0 opened.seed.1 room opened.opened opened.shut e.disk closed e.served
-    (subst (λ b. (steps : List Step) → is_some (D.told room.journal) ≡ true → IsLeft (D.may_leave room.journal) (digest_of b) (life_after_all seed.multidata steps) → KeepsSent L.sent (D.may_leave e.disk) (digest_of b) seed.multidata steps e.served) file ran.kept)
+    (record { shown = c.shown_is_checked.ensures; tails = c.tails_of_the_last_view.ensures; shown_across = c.shown_is_checked_across.ensures; tails_across = c.tails_across.ensures })
+    (subst (λ b. SendsFound L.sent (IsFound (D.told room.journal) (D.may_leave room.journal) (digest_of b) seed.multidata) (StaysSettled (D.may_leave room.journal) (D.may_leave e.disk) (digest_of b)) (D.may_leave e.disk) (digest_of b) seed.multidata e.served) file ran.found)
 
 pub returns-clause-leaves : goal.returns-clause-leaves
 returns-clause-leaves g c =
