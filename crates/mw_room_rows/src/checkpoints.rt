@@ -34,7 +34,12 @@ const SWORD: &str =
     r#"{"cmd":"ReceivedItems","index":0,"items":[{"class":"NetworkItem","flags":1,"item":7,"location":101,"player":1}]}"#;
 
 /// Three disks, the first of which is CHOICE.
-fn files_of(alloc: Global, choice: &[u8], zero: &[u8], one: &[u8]) -> Result<Files<MemDisk>, Fail> {
+pub(crate) fn files_of(
+    alloc: Global,
+    choice: &[u8],
+    zero: &[u8],
+    one: &[u8],
+) -> Result<Files<MemDisk>, Fail> {
     Ok(Files {
         choice: disk_of(alloc, choice, None)?,
         zero: disk_of(alloc, zero, None)?,

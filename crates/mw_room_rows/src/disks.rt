@@ -41,11 +41,16 @@ pub(crate) fn disk_of(alloc: Global, bytes: &[u8], failing: Option<u64>) -> Resu
     Ok(MemDisk::new(alloc, start, plan)?)
 }
 
+/// The bytes of a new journal under a digest.
+pub(crate) fn journal_under(alloc: Global, digest: &[u8; 32]) -> Result<Vec<u8>, Fail> {
+    let disk = disk_of(alloc, b"", None)?;
+    let journal = create(alloc, disk, digest).ok();
+    Ok(Vec::from_slice(alloc, journal.ok_or("no journal")?.into_disk().bytes())?)
+}
+
 /// The bytes of a new journal of the seed file.
 pub(crate) fn new_journal(alloc: Global) -> Result<Vec<u8>, Fail> {
-    let disk = disk_of(alloc, b"", None)?;
-    let journal = create(alloc, disk, &digest(ROOM_A.as_bytes())).ok();
-    Ok(Vec::from_slice(alloc, journal.ok_or("no journal")?.into_disk().bytes())?)
+    journal_under(alloc, &digest(ROOM_A.as_bytes()))
 }
 
 /// The room that a disk of these bytes keeps.

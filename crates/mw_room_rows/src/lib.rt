@@ -35,6 +35,8 @@ mod records;
 #[cfg(test)]
 mod refusals;
 #[cfg(test)]
+mod refused_checkpoints;
+#[cfg(test)]
 mod replays;
 #[cfg(test)]
 mod replies;
