@@ -36,14 +36,3 @@ fn main(rt: HostRuntime) -> ExitCode {
     );
     ExitCode::from(status)
 }
-
-#[cfg(test)]
-mod fault_tests;
-#[cfg(test)]
-mod harness;
-#[cfg(test)]
-mod save_tests;
-#[cfg(test)]
-mod turn_tests;
-#[cfg(test)]
-mod word_tests;

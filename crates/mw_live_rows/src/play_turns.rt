@@ -1,6 +1,6 @@
-//! The tests of what is heard, turn by turn.
+//! What a client hears, turn by turn.
 
-use crate::harness::{ANN, CONNECT, NONE, Run, empty_folder, ends, tells};
+use crate::play_runs::{ANN, CONNECT, NONE, Run, empty_folder, ends, tells};
 use std::test::Fail;
 
 /// An index from nowhere asks for Sync, and its items are dropped. A second run goes on from the

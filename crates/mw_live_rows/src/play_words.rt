@@ -1,6 +1,6 @@
-//! The tests of the words and the input.
+//! A client's words and its input.
 
-use crate::harness::{ANN, Run, ends};
+use crate::play_runs::{ANN, Run, ends};
 use std::test::Fail;
 
 /// Words that ask for nothing.

@@ -1,4 +1,4 @@
-//! What the tests share: whole runs over lines in memory.
+//! Whole runs of a client over lines in memory, as the rows of its play try them.
 ghost use Rattle.std.specs.Prelude.{◌≡◌, IfOk, [], false};
 
 use mw_base::{Bytes, List, Text};

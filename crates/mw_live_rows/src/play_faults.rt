@@ -1,6 +1,6 @@
-//! The tests of devices that fail.
+//! Runs of a client whose devices fail.
 
-use crate::harness::{ANN, Failing, NONE, Run, empty_folder, faults_at, tells, told_with};
+use crate::play_runs::{ANN, Failing, NONE, Run, empty_folder, faults_at, tells, told_with};
 use mw_base::{List, Text};
 use mw_disk::DiskError;
 use mw_edges::MemoryFolder;

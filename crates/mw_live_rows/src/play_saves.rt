@@ -1,6 +1,6 @@
-//! The tests of save files.
+//! Save files that a client refuses.
 
-use crate::harness::{ANN, NONE, Run, empty_folder, faults_at, tells, told_with};
+use crate::play_runs::{ANN, NONE, Run, empty_folder, faults_at, tells, told_with};
 use mw_base::{Bytes, List, Text};
 use mw_edges::{FileRead, Folder, MemoryFolder};
 use std::alloc::Global;
