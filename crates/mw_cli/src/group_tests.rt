@@ -1,5 +1,6 @@
-//! A group of two players, each of whom gets the group's item.
+//! A group of two players, each of whom gets the group's item, and one of as many as there may be.
 use crate::harness::{Run, folder_of, runs_tell};
+use crate::large_tests::numbered;
 use crate::session_harness::marks;
 use crate::team_tests::ROOM as ROOM_OF_TEAMS;
 use mw_cases::ROOM_OF_DUO;
@@ -268,6 +269,43 @@ take 4
         r#"1 [{"checked_locations":[102],"cmd":"RoomUpdate","hint_points":1},{"cmd":"ReceivedItems","index":1,"items":[{"class":"NetworkItem","flags":0,"item":8,"location":102,"player":1}]}]
 2 [{"cmd":"ReceivedItems","index":0,"items":[{"class":"NetworkItem","flags":0,"item":8,"location":102,"player":1}]}]
 4 [{"cmd":"ReceivedItems","index":0,"items":[{"class":"NetworkItem","flags":0,"item":8,"location":102,"player":1}]}]
+"#;
+    marks(&rt, rt.alloc(), room.as_str(), lines, expected)
+}
+
+/// The seed file of a room of 1,023 players, `p1` and on, who share what the first one finds. `$0`
+/// stands for the members behind the first, `$1` for their slots.
+const ROOM_OF_ALL: &str =
+    r#"{"format":"mw-multidata-2","games":{"G":{"item_name_to_id":{"Star":1},"location_name_to_id":{"First":1}}},"groups":[{"game":"G","members":[1$0],"name":"All"}],"locations":[[1,1,1,1024,1]],"seed_name":"A","server":{"collect":"goal","hint_cost":10,"location_check_points":1,"password":"","release":"goal","remaining":"goal"},"slots":[{"game":"G","names":["p1"],"start":[]}$1],"spheres":[],"teams":1}"#;
+
+/// A slot of that room.
+const SLOT_OF_ALL: &str = r##",{"game":"G","names":["p#"],"start":[]}"##;
+
+#[test]
+fn all_players_share(rt: HostRuntime) -> Result<(), Fail> {
+    let members = numbered(rt.alloc(), &(",#", 2), 1024)?;
+    let slots = numbered(rt.alloc(), &(SLOT_OF_ALL, 2), 1024)?;
+    let room = ROOM_OF_ALL.replace(rt.alloc(), "$0", members.as_str())?;
+    let room = room.replace(rt.alloc(), "$1", slots.as_str())?;
+    let lines = r#"open
+connect 1 p1 7
+open
+connect 2 p512 7
+open
+connect 3 p1023 7
+take 1
+take 2
+take 3
+mark
+checks 1 [1]
+take 1
+take 2
+take 3
+"#;
+    let expected =
+        r#"1 [{"checked_locations":[1],"cmd":"RoomUpdate","hint_points":1},{"cmd":"ReceivedItems","index":0,"items":[{"class":"NetworkItem","flags":1,"item":1,"location":1,"player":1}]}]
+2 [{"cmd":"ReceivedItems","index":0,"items":[{"class":"NetworkItem","flags":1,"item":1,"location":1,"player":1}]}]
+3 [{"cmd":"ReceivedItems","index":0,"items":[{"class":"NetworkItem","flags":1,"item":1,"location":1,"player":1}]}]
 "#;
     marks(&rt, rt.alloc(), room.as_str(), lines, expected)
 }

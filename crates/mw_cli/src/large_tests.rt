@@ -20,8 +20,9 @@ pub(crate) struct Form<'a> {
 /// A world: its file's name, its game, and the numbers that follow the last ones of its lists.
 pub(crate) type World<'a> = (&'a str, &'a str, u64, u64);
 
-/// The elements of a list.
-fn numbered(alloc: Global, list: &(&str, u64), end: u64) -> Result<String, Fail> {
+/// The elements of a list, whose text has `#` for a number, from its first number on up to the one
+/// before this.
+pub(crate) fn numbered(alloc: Global, list: &(&str, u64), end: u64) -> Result<String, Fail> {
     let mut text = String::new(alloc);
     for number in list.1..end {
         let digits = format!(in alloc; "{number}")?;

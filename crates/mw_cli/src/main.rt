@@ -69,6 +69,8 @@ mod permission_tests;
 #[cfg(test)]
 mod reach_tests;
 #[cfg(test)]
+mod serve_harness;
+#[cfg(test)]
 mod session_harness;
 #[cfg(test)]
 mod session_tests;

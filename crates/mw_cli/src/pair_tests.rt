@@ -1,12 +1,22 @@
 //! Pair rooms, and their checkpoints.
-use crate::harness::{Run, case_tells, folder_of, runs_tell, told};
+ghost use Rattle.std.specs.Prelude.{◌≡◌, IfOk};
+
+use crate::harness::{Run, add_file, case_tells, faults, folder_of, runs_tell, told};
 use crate::kept_room_tests::plan_of;
+use crate::new_room_tests::EMPTY;
+use crate::serve_harness::{put, served};
 use crate::tests::FOLDER_A;
-use mw_base::{List, Text};
+use mw_base::{Bytes, List, Text};
+use mw_cases::ROOM_A;
 use mw_disk::DiskError;
 use mw_edges::MemoryFolder;
+use mw_link::SteadyGate;
+use mw_peers::{Coming, WaitingLink};
+use mw_session::Served;
 use std::alloc::Global;
-use std::sync::Wait;
+use std::collections::VecDeque;
+use std::sync::atomic::AtomicU32;
+use std::sync::{Arc, Wait};
 use std::test::Fail;
 use std::thread::Threads;
 
@@ -137,6 +147,73 @@ fn thinned_again(rt: HostRuntime) -> Result<(), Fail> {
     runs_tell(&rt, alloc, &mut folder, "", &LAST_VALUES, "")
 }
 
+/// What Ann's client sends: she connects, and then gets the stored value and checks 102.
+const ANN: [&str; 2] = [
+    r#"[{"cmd":"Connect","game":"G","items_handling":7,"name":"Ann","tags":["NoText"],"version":{"build":0,"major":0,"minor":5}}]"#,
+    r#"[{"cmd":"Get","keys":["k"]},{"cmd":"LocationChecks","locations":[102]}]"#,
+];
+
+/// A gate that gives one link, over which that comes.
+fn gate_of_ann(alloc: Global) -> Result<SteadyGate<WaitingLink>, Fail>
+    ensures { IfOk result (λ gate. gate.given ≡ 0) }
+{
+    let mut first = VecDeque::new(alloc);
+    for text in ANN.iter() {
+        put(alloc, &mut first, text)?;
+    }
+    let coming = Coming {
+        first,
+        wanted: 0,
+        then: VecDeque::new(alloc),
+    };
+    let signs = Arc::new(alloc, AtomicU32::new(0))?;
+    let mut links = VecDeque::new(alloc);
+    links.push_back(WaitingLink::new(alloc, coming, signs, None))?;
+    Ok(SteadyGate::new(links))
+}
+
+/// What was sent last over the one link that was served.
+fn last_sent(served: &List<List<Served<WaitingLink>>>) -> Result<&str, Fail> {
+    let worker = served.get(0).ok_or("no worker")?;
+    let entry = worker.get(0).ok_or("no link")?;
+    let last = entry.line.sent().last().ok_or("nothing sent")?;
+    Ok(last.as_str())
+}
+
+/// What Ann's check is answered.
+const CHECKED: &str =
+    r#"[{"checked_locations":[102],"cmd":"RoomUpdate","hint_points":2},{"cmd":"ReceivedItems","index":1,"items":[{"class":"NetworkItem","flags":0,"item":8,"location":102,"player":1}]}]"#;
+
+/// What Ann has by the journal that counts, which a checkpoint leaves whole.
+const AFTER_SERVE: [Run<'static>; 3] = [
+    (
+        "drive A C --pair",
+        "open\nconnect 1 Ann 3\ntake 1\nmark\nsync 1\ntake 1\n",
+        r#"mark
+1 [{"cmd":"ReceivedItems","index":0,"items":[{"class":"NetworkItem","flags":0,"item":8,"location":102,"player":1}]}]
+"#,
+    ),
+    ("thin A C", "", "0 kept 3 of 3 records\n"),
+    (
+        "serve A C --pair --bind 127.0.0.1:38281",
+        "",
+        "0 sessions 0\n",
+    ),
+];
+
+/// The room goes on from the checkpoint, and what it sent is kept.
+#[test]
+fn a_pair_room_is_served(rt: HostRuntime) -> Result<(), Fail> {
+    let alloc = rt.alloc();
+    let mut folder = stored(&rt, alloc)?;
+    runs_tell(&rt, alloc, &mut folder, "", &THINNED, "")?;
+    let line = "serve A C --pair --bind 127.0.0.1:38281 --workers 1";
+    let gate = gate_of_ann(alloc)?;
+    let served = served(&rt, alloc, &mut folder, gate, line, "sessions 1\n")?;
+    assert!(rt; last_sent(&served)? == CHECKED);
+    runs_tell(&rt, alloc, &mut folder, "", &AFTER_SERVE, "")
+}
+
 /// What a pair room is refused for.
 const REFUSED: [Run<'static>; 3] = [
     ("$0", "", "7 journal refused: $1\n"),
@@ -155,4 +232,45 @@ fn refused_pairs(rt: HostRuntime) -> Result<(), Fail> {
         &REFUSED,
         "new-room A A --pair | NotEmpty | A | NotJournal",
     )
+}
+
+/// Adds a journal of Room A, which these bytes end behind its header.
+fn add_journal(
+    alloc: Global,
+    files: &mut List<(Text, Bytes)>,
+    name: &str,
+    rest: &[u8],
+) -> Result<(), Fail> {
+    let mut bytes = Vec::from_slice(alloc, &EMPTY)?;
+    bytes.truncate(40);
+    bytes.extend_from_slice(rest)?;
+    add_file(alloc, files, name, &bytes)
+}
+
+/// A folder of Room A and a pair room of it, whose files these bytes end behind their headers.
+fn pair_of(alloc: Global, choice: &[u8], zero: &[u8]) -> Result<MemoryFolder, Fail> {
+    let mut files = List::new(alloc);
+    add_file(alloc, &mut files, "A", ROOM_A.as_bytes())?;
+    add_journal(alloc, &mut files, "C", choice)?;
+    add_journal(alloc, &mut files, "C.0", zero)?;
+    add_journal(alloc, &mut files, "C.1", &[0])?;
+    Ok(MemoryFolder::new(files, faults(alloc, "", 0)?))
+}
+
+/// What `thin` and `drive --pair` say of a pair room.
+const BOTH: [Run<'static>; 2] = [("thin A C", "", "$0\n"), ("drive A C --pair", "", "$1\n")];
+
+#[test]
+fn refused_bytes_of_pairs(rt: HostRuntime) -> Result<(), Fail> {
+    let alloc = rt.alloc();
+    let bad_choice = "7 journal refused: BadChoice | 7 journal refused: BadChoice";
+    let mut folder = pair_of(alloc, &[1, 0, 0, 0, 1, 2, 0], &[0])?;
+    runs_tell(&rt, alloc, &mut folder, "", &BOTH, bad_choice)?;
+    let bad_record = "7 journal refused: BadRecord | 7 journal refused: BadRecord";
+    let mut folder = pair_of(alloc, &[0], &[1, 0, 0, 0, 1, 9, 0])?;
+    runs_tell(&rt, alloc, &mut folder, "", &BOTH, bad_record)?;
+    // A status of a slot that the seed hasn't is a whole record.
+    let no_slot = "0 kept 1 of 1 records | 7 journal refused: BadRecord";
+    let mut folder = pair_of(alloc, &[0], &[1, 0, 0, 0, 5, 4, 0, 0, 9, 5, 0])?;
+    runs_tell(&rt, alloc, &mut folder, "", &BOTH, no_slot)
 }

@@ -2,20 +2,18 @@
 ghost use Rattle.std.specs.Prelude.{◌≡◌, IfOk};
 ghost use Rattle.mw_peers.specs.Peers.{new_peer};
 
-use crate::harness::{Run, runs_tell, sink_of, source_of, told, words_of};
+use crate::harness::{Run, runs_tell, told};
 use crate::large_tests::{Form, World, folder_with};
-use crate::run::run;
+use crate::serve_harness::{put, served};
 use mw_base::{List, Text};
-use mw_edges::MemoryFolder;
-use mw_link::{Heard, SteadyGate};
+use mw_link::SteadyGate;
 use mw_peers::{Coming, WaitingLink};
 use mw_session::Served;
 use std::alloc::Global;
 use std::collections::VecDeque;
+use std::sync::Arc;
 use std::sync::atomic::AtomicU32;
-use std::sync::{Arc, Wait};
 use std::test::Fail;
-use std::thread::Threads;
 
 /// Players with one entry in each option.
 const PARTY: &str =
@@ -75,12 +73,6 @@ fn checks_all(alloc: Global, player: &(&str, &str, u64)) -> Result<String, Fail>
     }
     text.push_str("]}]")?;
     Ok(text)
-}
-
-/// Puts a text behind those that come over a link.
-fn put(alloc: Global, list: &mut VecDeque<Heard>, text: &str) -> Result<(), Fail> {
-    list.push_back(Heard::Words(Text::of(alloc, text)?))?;
-    Ok(())
 }
 
 /// A player's first link, over which all is checked. It gives a sign once that is answered.
@@ -206,31 +198,6 @@ fn agreeing(served: &List<List<Served<WaitingLink>>>, told: &str) -> u64 {
     agreeing
 }
 
-/// What two workers served of the room over the links of a gate.
-fn serve_party<R: Threads + Wait + Sync>(
-    rt: &R,
-    alloc: Global,
-    folder: &mut MemoryFolder,
-    gate: SteadyGate<WaitingLink>,
-) -> Result<List<List<Served<WaitingLink>>>, Fail>
-    requires given { gate.given ≡ 0 }
-{
-    let words = words_of(
-        alloc,
-        "serve o j --bind 127.0.0.1:38281 --workers 2 --accept 6",
-    )?;
-    let mut input = source_of(alloc, "", "")?;
-    let mut out = sink_of(alloc, "", 2)?;
-    let mut err = sink_of(alloc, "", 3)?;
-    let (status, _, served) = run(
-        rt, alloc, &words, folder, gate, &mut input, &mut out, &mut err,
-    );
-    if status != 0 || out.bytes() != b"sessions 6\n".as_slice() {
-        return Err(Fail::from("not served to the end"));
-    }
-    Ok(served)
-}
-
 /// Each Key lies at the priority location of its player's own world. Each player checks all
 /// locations over one link, and connects again over another, where a Sync is answered with all that
 /// the slot received by the journal.
@@ -239,7 +206,9 @@ fn party(rt: HostRuntime) -> Result<(), Fail> {
     let alloc = rt.alloc();
     let mut folder = folder_with(alloc, PARTY, &PARTY_WORLD, &PARTY_WORLDS)?;
     runs_tell(&rt, alloc, &mut folder, "", &PARTY_RUNS, "")?;
-    let served = serve_party(&rt, alloc, &mut folder, gate_of(alloc)?)?;
+    let line = "serve o j --bind 127.0.0.1:38281 --workers 2 --accept 6";
+    let gate = gate_of(alloc)?;
+    let served = served(&rt, alloc, &mut folder, gate, line, "sessions 6\n")?;
     let script = script_for(alloc)?;
     let told = told(&rt, alloc, &mut folder, "drive o j", script.as_str(), "")?;
     assert!(rt; agreeing(&served, told.as_str()) == 3);
