@@ -1,8 +1,7 @@
 -- What was served over links on a disk, for the file of which it is the disk.
-use Rattle.std.proofs.Common.{◌≡◌, ◌⊎◌, ◌∙◌, ◌++◌, ℕ, List, [], Option, Some, None, Result, Ok, Err, Bool, true, false, true≢false, refl, sym, ap, subst, inl, inr}
-use Rattle.std.specs.Option.{is_some}
+use Rattle.std.proofs.Common.{◌≡◌, ◌⊎◌, ◌∙◌, ℕ, List, [], Option, Some, Result, Ok, Err, Bool, true, false, true≢false, refl, sym, ap, subst, inl, inr}
 use Rattle.std.specs.Io.KnownBytes.{Appends, Keeps}
-use Rattle.std.specs.Prelude.{IfErr, IfOk, IsTrue, OnOk, is_ok}
+use Rattle.std.specs.Prelude.{IfErr, IfOk, OnOk, is_ok}
 use Rattle.mw_edges.specs.Causes.{PutsFront}
 use Rattle.mw_edges.specs.Folders.{SameImages, StaysOrIsMade, opened_bytes}
 use Rattle.mw_model.specs.Seed.{Seed}

@@ -1,9 +1,8 @@
 -- What serving a pair room comes to.
 use Rattle.std.proofs.Common.{◌≡◌, ◌⊎◌, ◌∙◌, ◌<◌, ℕ, List, [], Option, Some, Result, Ok, Err, Bool, true, arith, codes, is_some, refl, sym, ap, subst, inl, inr}
-use Rattle.std.specs.Io.KnownBytes.{Appends, Keeps}
 use Rattle.std.proofs.KnownBytes.{Keeps-refl}
 use Rattle.std.specs.Prelude.{IfErr, IfOk, OnOk, is_ok}
-use Rattle.mw_edges.specs.Causes.{PutsFront, Rose}
+use Rattle.mw_edges.specs.Causes.{Rose}
 use Rattle.mw_edges.specs.Files.{open_file}
 use Rattle.mw_edges.specs.Folders.{SameImages, opened_bytes}
 use Rattle.mw_model.specs.Seed.{Seed}
@@ -15,9 +14,7 @@ use Rattle.mw_session.specs.declared.served.Served.{Served}
 use Rattle.mw_drive.specs.Ends.{IsAsRead, IsFound, Refuses}
 use Rattle.mw_drive.specs.Ends as ends
 use Rattle.mw_drive.specs.declared.error.DriveError.{DriveError}
-use Rattle.mw_drive.specs.declared.error.DriveError.TheVariants as why
-use Rattle.mw_causes.specs.DriveCauses.{drive_stop}
-use Rattle.mw_causes.specs.Ends.{Ended, IsTold, Told, stop_status, stop_with}
+use Rattle.mw_causes.specs.Ends.{Ended, IsTold, Told, stop_status}
 use Rattle.mw_causes.specs.PairCauses.{pair_drive_line, pair_drive_status}
 use Rattle.mw_causes.specs.SeedFiles.{IsFile}
 use Rattle.mw_causes.specs.Tables.{Files}
@@ -31,18 +28,18 @@ use Rattle.mw_pair.specs.Choosing.{IsClosedRoom, IsOpenedRoom, PassesRoom}
 use Rattle.mw_pair.specs.Folders.{AreShut}
 use Rattle.mw_pair.specs.Names.{journal_name}
 use Rattle.mw_pair.specs.declared.choosing.Chosen.{Chosen}
-use Rattle.mw_offline.specs.Driving.{JournalRead, SeedWas}
+use Rattle.mw_offline.specs.Driving.{JournalRead}
 use Rattle.mw_offline.specs.FilesAround.{FilesAround, files_around}
-use Rattle.mw_offline.specs.PairDriving.{ChoiceStays, RoomFound, RoomStopped}
+use Rattle.mw_offline.specs.PairDriving.{ChoiceStays, RoomFound}
 use Rattle.mw_offline.specs.PairFiles.{PairLeaves, PairOthersStay}
 use Rattle.mw_offline.proofs.Driving.{opened_same}
 use Rattle.mw_offline.proofs.Keeping.{Laws}
 use Rattle.mw_offline.proofs.PairDriving.{room_found, room_leaves, room_stays}
 use Rattle.mw_words.specs.declared.command_line.ServeWords.{ServeWords}
 use Rattle.mw_serve.specs.Hosted.{Finds, HostsShort, HostsToEnd, IsUnserved}
-use Rattle.mw_serve.specs.PairServing.{PairFinishes, PairJournalFound, PairServeDone, PairServeEnds, PairServeKeeps, PairServeShort, PairServeStopped, hosting, passed_on}
+use Rattle.mw_serve.specs.PairServing.{PairFinishes, PairJournalFound, PairServeDone, PairServeEnds, PairServeKeeps, PairServeStopped, hosting, passed_on}
 use Rattle.mw_serve.specs.Sent.{SendsFound}
-use Rattle.mw_serve.specs.Serving.{FileHostsShort, FileHostsToEnd, Finishes, ServeDone, ServeStopped, sessions_line}
+use Rattle.mw_serve.specs.Serving.{FileHostsShort, FileHostsToEnd, ServeDone, ServeStopped}
 use Rattle.mw_serve.proofs.Files.{finds_over, finishes_all, finishes_err, if_err_over, if_ok_over, read_serves, sent_over, serve_done, short_over, to_end_over}
 
 -- ---- at the end

@@ -1,6 +1,5 @@
-use Rattle.std.proofs.Common.{◌≡◌, ◌⊎◌, ◌∙◌, ℕ, List, [], Ok, true, refl, inl, inr, sym, ap, subst, arith}
+use Rattle.std.proofs.Common.{◌≡◌, ◌⊎◌, Ok, refl, inl, inr, sym, subst, arith}
 use Rattle.std.proofs.KnownBytes.{Keeps-refl}
-use Rattle.std.specs.Option.{is_some}
 use Rattle.std.specs.Prelude.{IfErr, IfOk}
 use Rattle.mw_multidata.specs.Digest.{digest_of}
 use Rattle.mw_multidata.specs.SeedOf.{SeedOf}
@@ -11,7 +10,7 @@ use Rattle.mw_pair.specs.Folders.{OthersStay}
 use Rattle.mw_pair.specs.declared.choosing.Chosen.{Chosen}
 use Rattle.mw_pair.proofs.Steps.{others_then}
 use Rattle.mw_offline.proofs.PairDriving.{stopped_stays}
-use Rattle.mw_serve.specs.Hosted.{Finds, HostsShort, HostsToEnd, IsUnserved, ListensAfter}
+use Rattle.mw_serve.specs.Hosted.{Finds, HostsShort, HostsToEnd, IsUnserved}
 use Rattle.mw_serve.specs.Sent.{SendsFound}
 use Rattle.mw_serve.proofs.Hosts.{listens_more}
 use Rattle.mw_serve.proofs.Pairs.{pair_done, pair_finishes_all, pair_found, pair_kept, pair_leaves, pair_stays, pair_stopped}
