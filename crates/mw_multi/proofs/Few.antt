@@ -48,7 +48,7 @@ index-le xs (suc k) rise h =
     omega arith
 
 -- numbers that ascend are no more than those that they are below
-rising-le : (xs : List ℕ) (n : ℕ) → IsStrictlyIncreasing xs → All (λ x. x < n) xs → length xs ≤ n
+pub rising-le : (xs : List ℕ) (n : ℕ) → IsStrictlyIncreasing xs → All (λ x. x < n) xs → length xs ≤ n
 rising-le xs n rise below = elim (cases_lt 0 (length xs)) [
   | inl some ↦ omega (arith, index-le xs (length xs - 1) rise (omega arith), below (length xs - 1) 0 (omega arith))
   | inr none ↦ omega arith

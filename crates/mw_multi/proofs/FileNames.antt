@@ -27,11 +27,11 @@ world_of_file files worlds name i found = ap (world_at worlds) found
 
 -- ---- the files that players name
 
-or_left : (b c : Bool) → b ≡ true → (b || c) ≡ true
+pub or_left : (b c : Bool) → b ≡ true → (b || c) ≡ true
 or_left true c e = refl
 or_left false c e = cc
 
-or_right : (b c : Bool) → c ≡ true → (b || c) ≡ true
+pub or_right : (b c : Bool) → c ≡ true → (b || c) ≡ true
 or_right true c e = refl
 or_right false c e = e
 

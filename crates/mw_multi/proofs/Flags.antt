@@ -59,8 +59,8 @@ free_puts_more slots front puts put free is =
 -- ---- the puts of a placement
 
 module _ (joint : Joint) (puts listed : List Put) (i : ℕ) (p : Put) (placement : IsPlacement joint puts) (same : listed ≡ puts) (h : i < length listed) (is : p ≡ get_or listed i p) where
-  pub put_kept : PutKept joint.slots p
-  put_kept = subst (PutKept joint.slots) (sym (is ∙ ap (λ ps. get_or ps i p) same)) (placement.each i p (subst (λ ps. i < length ps) same h))
+  pub put_kept : PutKept joint p
+  put_kept = subst (PutKept joint) (sym (is ∙ ap (λ ps. get_or ps i p) same)) (placement.each i p (subst (λ ps. i < length ps) same h))
 
   -- there is a flag for its place
   pub put_within : p.place < length (event_free joint.slots)

@@ -5,11 +5,16 @@ pub mod Flags
 pub mod Fronts
 pub mod Indexes
 pub mod Indexing
+pub mod Joining
 pub mod LabelNames
 pub mod Lengths
 pub mod Marks
 pub mod Numbered
 pub mod Numbering
+pub mod OneGame
+pub mod Owners
+pub mod Rows
+pub mod Shares
 pub mod Sites
 pub mod Standing
 pub mod WhatStands

@@ -5,10 +5,11 @@ use Rattle.std.proofs.lemmas.Bool.Decides.{Decides-eqb}
 use Rattle.std.proofs.lemmas.List.Elements.{All-nil, All-cons}
 use Rattle.mw_multi.specs.World.{World, Location, Item, place_count}
 use Rattle.mw_multi.specs.WorldKept.{LocationKept, is_event, event_fits}
-use Rattle.mw_multi.specs.Joint.{Slot, IsJoint, Joint, SlotKept, AreNumbered, slot_places, slot_items}
+use Rattle.mw_multi.specs.Joint.{Slot, IsJoint, Joint, SlotKept, first_slot, AreNumbered, slot_places, slot_items}
 use Rattle.mw_multi.specs.Steps.{location_place}
 use Rattle.mw_multi.specs.Placement.{Site, site_of, site_in, site_from, site_at, slot_at, item_in, fits_event, fits_site, PutKept}
 use Rattle.mw_multi.proofs.Standing.{numbered_slot}
+use Rattle.mw_multi.proofs.Owners.{owners_of_slot}
 use Rattle.mw_multi.specs.Events.{event_at, events_among, slot_events, events_from}
 
 -- ---- elements by index
@@ -100,7 +101,7 @@ own number e = ap₂ ◌&&◌ ((Decides-eqb number number).1 refl) ((Decides-eqb
 
 -- an event at its own location is a put of the joint
 pub event_kept : (j : Joint) (number : ℕ) (s : Slot) (i : ℕ) (l : Location) (e p : ℕ) → IsJoint j → slot_at j.slots number ≡ Some s → slice_get s.world.locations i ≡ Some l
-    → l.event ≡ Some e → p ≡ location_place s i → PutKept j.slots record { place = p; receiver = number; item = e }
+    → l.event ≡ Some e → p ≡ location_place s i → PutKept j record { place = p; receiver = number; item = e }
 event_kept j zero s i l e p kept at there event is = cc
 event_kept j (suc k) s i l e p kept at there event is =
     let slot : SlotKept s = at_index SlotKept j.slots k s kept.each at in
@@ -109,7 +110,7 @@ event_kept j (suc k) s i l e p kept at there event is =
     let item_there : is_some (slice_get s.world.items e) ≡ true = event_there s.world.items l.id e (subst (λ (o : Option ℕ). event_fits s.world.items l.id o ≡ true) event location.event) in
     record {
       place = ap is_some site;
-      item = ap (λ (o : Option Slot). is_some (option_and_then (item_in e) o)) at ∙ item_there;
+      item = ap (λ os. is_some (option_and_then (item_in e) (first_slot j.slots os))) (owners_of_slot j (suc k) s at) ∙ ap (λ (o : Option Slot). is_some (option_and_then (item_in e) o)) at ∙ item_there;
       event = ap (fits_site record { place = p; receiver = suc k; item = e }) site
           ∙ ap (λ (o : Option ℕ). fits_event record { place = p; receiver = suc k; item = e } (site_of (suc k) l) o) event ∙ own (suc k) e;
     }
@@ -157,10 +158,10 @@ slots_next slots k s e =
 
 -- what an event location of a slot puts is kept
 pub events_kept : (j : Joint) (number : ℕ) (s : Slot) (i : ℕ) (l : Location) (o : Option ℕ) (p : ℕ) → IsJoint j → slot_at j.slots number ≡ Some s → slice_get s.world.locations i ≡ Some l
-    → l.event ≡ o → p ≡ location_place s i → All (PutKept j.slots) (event_at number p o)
+    → l.event ≡ o → p ≡ location_place s i → All (PutKept j) (event_at number p o)
 events_kept j number s i l None p kept at there event is = λ k d h. absurd (omega arith)
 events_kept j number s i l (Some e) p kept at there event is =
-    All-cons (PutKept j.slots) record { place = p; receiver = number; item = e } [] (event_kept j number s i l e p kept at there event is) (All-nil (PutKept j.slots))
+    All-cons (PutKept j) record { place = p; receiver = number; item = e } [] (event_kept j number s i l e p kept at there event is) (All-nil (PutKept j))
 
 -- ---- a slot of a joint, seen by its index
 

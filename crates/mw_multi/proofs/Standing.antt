@@ -1,14 +1,14 @@
 -- What stands at a place, as one item more is put.
 use Rattle.std.proofs.Common.{◌≡◌, ◌≢◌, ℕ, zero, suc, ◌+◌, ◌-◌, ◌<◌, ◌≤◌, ◌∙◌, sym, ap, List, [], ◌∷◌, ◌++◌, length, get_or, set, Bool, true, false, refl, arith, append-nil, length-set, take, add-one}
-use Rattle.std.specs.Prelude.{Option, Some, is_some, filter, flat_map, nat_lt, ◌==◌, if◌then◌else◌, slice_get}
+use Rattle.std.specs.Prelude.{Option, Some, is_some, filter, sum_by, flat_map, nat_lt, ◌==◌, if◌then◌else◌, slice_get}
 use Rattle.std.proofs.lemmas.Grind.{flat_map-append}
 use Rattle.std.proofs.lemmas.Bool.Decides.{Decides-eqb}
-use Rattle.std.proofs.lemmas.List.{get_or-set_same, get_or-set_other}
+use Rattle.std.proofs.lemmas.List.{get_or-set_same, get_or-set_other, length-append}
 use Rattle.std.proofs.Math.Seq.{take-suc}
 use Rattle.std.proofs.lemmas.List.Elements.{filter-append}
-use Rattle.std.proofs.lemmas.List.Sums.{sum_by-cons}
+use Rattle.std.proofs.lemmas.List.Sums.{sum_by-cons, sum_by-set}
 use Rattle.mw_multi.specs.World.{World, place_count}
-use Rattle.mw_multi.specs.Joint.{Slot, AreNumbered, place_total, item_total, slot_places}
+use Rattle.mw_multi.specs.Joint.{Slot, Joint, AreNumbered, place_total, item_total, slot_places}
 use Rattle.mw_multi.proofs.Numbering.{SlotFits, slot_fits}
 use Rattle.mw_multi.specs.Placement.{Put, Site, slot_at, site_in, site_from, stands_at, put_numbers, standing, numbers_at, IsPlaced}
 
@@ -37,15 +37,15 @@ site_within number (s ∷ slots) place e =
 
 -- ---- one put more
 
-only : (b : Bool) (slots : List Slot) (put : Put) → flat_map (put_numbers slots) (if b then put ∷ [] else []) ≡ (if b then put_numbers slots put else [])
-only true slots put = append-nil (put_numbers slots put)
-only false slots put = refl
+only : (b : Bool) (joint : Joint) (put : Put) → flat_map (put_numbers joint) (if b then put ∷ [] else []) ≡ (if b then put_numbers joint put else [])
+only true joint put = append-nil (put_numbers joint put)
+only false joint put = refl
 
-pub standing_push : (slots : List Slot) (puts : List Put) (put : Put) (place : ℕ) → standing slots (puts ++ put ∷ []) place ≡ standing slots puts place ++ (if put.place == place then put_numbers slots put else [])
-standing_push slots puts put place =
-    ap (flat_map (put_numbers slots)) (filter-append (stands_at place) puts (put ∷ []))
-    ∙ flat_map-append (put_numbers slots) (filter (stands_at place) puts) (filter (stands_at place) (put ∷ []))
-    ∙ ap (λ last. standing slots puts place ++ last) (only (put.place == place) slots put)
+pub standing_push : (joint : Joint) (puts : List Put) (put : Put) (place : ℕ) → standing joint (puts ++ put ∷ []) place ≡ standing joint puts place ++ (if put.place == place then put_numbers joint put else [])
+standing_push joint puts put place =
+    ap (flat_map (put_numbers joint)) (filter-append (stands_at place) puts (put ∷ []))
+    ∙ flat_map-append (put_numbers joint) (filter (stands_at place) puts) (filter (stands_at place) (put ∷ []))
+    ∙ ap (λ last. standing joint puts place ++ last) (only (put.place == place) joint put)
 
 -- what stands in a table where one entry grows
 entry_case : (table : List (List ℕ)) (place other : ℕ) (more : List ℕ) (b : Bool) → (place == other) ≡ b → place < length table
@@ -61,18 +61,18 @@ entry_grown : (table : List (List ℕ)) (place other : ℕ) (more : List ℕ) �
     → numbers_at (set table place (numbers_at table place ++ more)) other ≡ numbers_at table other ++ (if place == other then more else [])
 entry_grown table place other more h = entry_case table place other more (place == other) refl h
 
-pub placed_put : (slots : List Slot) (puts : List Put) (put : Put) (table new : List (List ℕ)) → put.place < length table
-    → new ≡ set table put.place (numbers_at table put.place ++ put_numbers slots put) → IsPlaced slots puts table → IsPlaced slots (puts ++ put ∷ []) new
-placed_put slots puts put table new h is placed = record {
+pub placed_put : (joint : Joint) (puts : List Put) (put : Put) (table new : List (List ℕ)) → put.place < length table
+    → new ≡ set table put.place (numbers_at table put.place ++ put_numbers joint put) → IsPlaced joint puts table → IsPlaced joint (puts ++ put ∷ []) new
+placed_put joint puts put table new h is placed = record {
   size = ap length is ∙ length-set table put.place _ ∙ placed.size;
   entries = λ place.
-      ap (λ t. numbers_at t place) is ∙ entry_grown table put.place place (put_numbers slots put) h
-      ∙ ap (λ front. front ++ (if put.place == place then put_numbers slots put else [])) (placed.entries place) ∙ sym (standing_push slots puts put place);
+      ap (λ t. numbers_at t place) is ∙ entry_grown table put.place place (put_numbers joint put) h
+      ∙ ap (λ front. front ++ (if put.place == place then put_numbers joint put else [])) (placed.entries place) ∙ sym (standing_push joint puts put place);
 }
 
 -- ---- the slot of a number
 
-got : {X : Type 0} (xs : List X) (k : ℕ) (x : X) → slice_get xs k ≡ Some x → (k < length xs) × (x ≡ get_or xs k x)
+pub got : {X : Type 0} (xs : List X) (k : ℕ) (x : X) → slice_get xs k ≡ Some x → (k < length xs) × (x ≡ get_or xs k x)
 got [] k x e = cc
 got (y ∷ xs) zero x e = (omega arith, cc)
 got (y ∷ xs) (suc k) x e = let later = got xs k x e in (omega (arith, later.0), later.1)
@@ -85,3 +85,9 @@ numbered_slot slots (suc k) s n e = let found = got slots k s e in slot_fits slo
 pub next_put : (listed puts : List Put) (i : ℕ) (p : Put) → listed ≡ puts → i < length listed → p ≡ get_or listed i p → take (i + 1) puts ≡ take i puts ++ p ∷ []
 next_put listed puts i p same h is =
     ap (λ ps. take (i + 1) ps) (sym same) ∙ (rw (add-one) (take-suc listed i p h)) ∙ ap (λ q. take i listed ++ q ∷ []) (sym is) ∙ ap (λ ps. take i ps ++ p ∷ []) same
+
+-- the numbers of a table in which one entry grows
+pub sum_grown : (table : List (List ℕ)) (place : ℕ) (more : List ℕ) → place < length table
+    → sum_by length (set table place (numbers_at table place ++ more)) ≡ sum_by length table + length more
+sum_grown table place more h =
+    omega (arith, sum_by-set length table place (numbers_at table place ++ more) [] h, length-append (numbers_at table place) more)

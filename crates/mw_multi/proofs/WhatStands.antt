@@ -4,7 +4,7 @@ use Rattle.std.specs.Prelude.{All}
 use Rattle.std.proofs.lemmas.Bool.{cases_Bool, cond-true, cond-false}
 use Rattle.std.proofs.lemmas.Bool.Decides.{Decides-eqb}
 use Rattle.std.proofs.lemmas.List.{drop_more, get_or-set_same, get_or-set_other}
-use Rattle.mw_multi.specs.Joint.{Slot, place_total}
+use Rattle.mw_multi.specs.Joint.{Joint, place_total}
 use Rattle.mw_multi.specs.Placement.{Put, PutKept, what_stands}
 use Rattle.mw_multi.proofs.Standing.{site_within}
 
@@ -28,10 +28,10 @@ differ a b n = elim (cases_Bool (a == b)) [
 -- ---- puts noted from the last to the first
 
 -- a put of the placement is at one of the joint's places
-pub put_fits : (slots : List Slot) (listed puts : List Put) (k : ℕ) (p : Put) → All (PutKept slots) puts → listed ≡ puts → k < length listed → p ≡ get_or listed k p → p.place < place_total slots
-put_fits slots listed puts k p kept same h is =
-    let put : PutKept slots p = subst (PutKept slots) (sym is) (subst (All (PutKept slots)) (sym same) kept k p h) in
-    site_within 1 slots p.place put.place
+pub put_fits : (joint : Joint) (listed puts : List Put) (k : ℕ) (p : Put) → All (PutKept joint) puts → listed ≡ puts → k < length listed → p ≡ get_or listed k p → p.place < place_total joint.slots
+put_fits joint listed puts k p kept same h is =
+    let put : PutKept joint p = subst (PutKept joint) (sym is) (subst (All (PutKept joint)) (sym same) kept k p h) in
+    site_within 1 joint.slots p.place put.place
 
 apart : (a b : ℕ) → (a == b) ≡ false → b ≢ a
 apart a b e same = let equal = (Decides-eqb a b).1 (sym same) in cc

@@ -1,16 +1,17 @@
 -- The joint of the worlds' tables and the players, or the first refusal.
-use Rattle.std.specs.Prelude.{◌≡◌, ◌≢◌, ℕ, ◌+◌, ◌++◌, List, [], ◌∷◌, Bool, nat_le, Option, Some, None, Result, Ok, Err, bytes_eq, length, map, sum_by, if◌then◌else◌}
-use Rattle.std.specs.List.{list_any}
+use Rattle.std.specs.Prelude.{◌≡◌, ◌≢◌, ℕ, ◌+◌, ◌++◌, List, [], ◌∷◌, Bool, false, nat_le, Option, Some, None, Result, Ok, Err, bytes_eq, length, map, sum_by, if◌then◌else◌}
+use Rattle.std.specs.List.{list_all, list_any}
 use Rattle.mw_multi.specs.World.{World, PoolEntry, place_count}
 use Rattle.mw_multi.specs.WorldKept.{item_name, entrance_name, location_name}
-use Rattle.mw_multi.specs.Players.{StartEntry, Player, Players}
+use Rattle.mw_multi.specs.Players.{StartEntry, Player, ItemLink, Players}
 use Rattle.mw_multi.specs.Files.{world_files, world_named}
 use Rattle.mw_multi.specs.Labels.{item_labels, location_labels, index_of, flags_of}
-use Rattle.mw_multi.specs.Joint.{Slot, Joint, place_total}
+use Rattle.mw_multi.specs.Joint.{Slot, Joint, slot_at, world_of, first_slot, place_total}
+use Rattle.mw_multi.specs.Links.{Sharing, slots_after, links_among}
 use Rattle.mw_multi.specs.declared.refusal.OptionName.{OptionName}
 use Rattle.mw_multi.specs.declared.refusal.OptionName.TheVariants.{LocalItems, NonLocalItems, ExcludeLocations, PriorityLocations, StartInventory}
 use Rattle.mw_multi.specs.declared.refusal.JointRefusal.{JointRefusal}
-use Rattle.mw_multi.specs.declared.refusal.JointRefusal.TheVariants.{GameTwice, UnknownName, TooManyPlaces, TooMuchText, Memory}
+use Rattle.mw_multi.specs.declared.refusal.JointRefusal.TheVariants.{GameTwice, UnknownName, LinkGame, LinkName, TooManyPlaces, TooMuchText, Memory}
 
 infixl 10 ◌>>=◌
 abbrev pub ◌>>=◌ : {A B : Type 0} → Result A JointRefusal → (A → Result B JointRefusal)
@@ -107,6 +108,8 @@ slot_of slot p w place item = do
     exclude_locations = exclude_locations;
     priority_locations = priority_locations;
     start = start;
+    pool = w.pool;
+    access = p.options.accessibility;
   }
 
 -- the slots of these players, the first of which has this number, and its first place and first item these
@@ -116,6 +119,58 @@ slots_from named slot place item (p ∷ ps) = do
   first ← slot_of slot p (named p.world) place item
   others ← slots_from named (slot + 1) (place + place_count (named p.world))
       (item + length (named p.world).items) ps
+  Ok (first ∷ others)
+
+-- ---- links
+
+-- the slot plays the game
+abbrev pub plays : List ℕ → Option Slot → Bool
+plays game None = false
+plays game (Some s) = bytes_eq s.world.game game
+
+abbrev pub member_plays : List Slot → List ℕ → ℕ → Bool
+member_plays slots game number = plays game (slot_at slots number)
+
+-- the slots of these numbers all play the game of the first
+abbrev pub play_one_game : List Slot → List ℕ → Bool
+play_one_game slots members =
+    list_all (member_plays slots (world_of (first_slot slots members)).game) members
+
+-- the members of each link all play one game; the first of these has this index
+abbrev pub links_play : List Slot → ℕ → List ItemLink → Check
+links_play slots link [] = Ok tt
+links_play slots link (l ∷ ls) =
+    if play_one_game slots l.members then links_play slots (link + 1) ls else Err (LinkGame link)
+
+-- the number of a shared item, which has to be known
+abbrev pub shared_known : ℕ → ℕ → Option ℕ → Result ℕ JointRefusal
+shared_known link place None = Err (LinkName link place)
+shared_known link place (Some index) = Ok index
+
+unfoldable pub shared_item : ℕ → List (Option (List ℕ)) → ℕ → List ℕ → Result ℕ JointRefusal
+shared_item link labels place name = shared_known link place (index_of labels name)
+
+-- the first of these names stands at this place
+abbrev pub shared_items : ℕ → List (Option (List ℕ)) → ℕ → List (List ℕ)
+    → Result (List ℕ) JointRefusal
+shared_items link labels place [] = Ok []
+shared_items link labels place (n ∷ ns) = do
+  first ← shared_item link labels place n
+  others ← shared_items link labels (place + 1) ns
+  Ok (first ∷ others)
+
+-- the link of this index, whose items are those of its members' game
+unfoldable pub sharing_of : List Slot → ℕ → ItemLink → Result Sharing JointRefusal
+sharing_of slots link l = do
+  items ← shared_items link (item_labels (world_of (first_slot slots l.members)).items) 0 l.items
+  Ok record { name = l.name; members = l.members; items = items }
+
+-- the first of these links has this index
+abbrev pub sharings_from : List Slot → ℕ → List ItemLink → Result (List Sharing) JointRefusal
+sharings_from slots link [] = Ok []
+sharings_from slots link (l ∷ ls) = do
+  first ← sharing_of slots link l
+  others ← sharings_from slots (link + 1) ls
   Ok (first ∷ others)
 
 -- ---- limits
@@ -143,11 +198,19 @@ few_text have = if nat_le have 16777216 then Ok tt else Err (TooMuchText have)
 
 -- ---- the whole
 
--- first no game twice, then the slots in order, then the limits on places and on text
+-- first no game twice, then the slots in order, then the links' games, then their items, then the limits on places and on
+-- text
 unfoldable pub joint_of : List World → Players → Result Joint JointRefusal
 joint_of worlds players = do
   games ← games_differ [] 0 worlds
   slots ← slots_from (world_named (world_files players) worlds) 1 0 0 players.players
+  games_shared ← links_play slots 0 players.links
+  sharings ← sharings_from slots 0 players.links
   places ← few_places (place_total slots)
   text ← few_text (sum_by world_text worlds)
-  Ok record { teams = players.teams; room = players.room; slots = slots }
+  Ok record {
+    teams = players.teams;
+    room = players.room;
+    slots = slots_after slots sharings;
+    links = links_among slots sharings;
+  }

@@ -5,6 +5,7 @@ pub mod Indexes
 pub mod Joint
 pub mod JointOf
 pub mod Labels
+pub mod Links
 pub mod Names
 pub mod Numbered
 pub mod OptionNames

@@ -1,8 +1,9 @@
 -- What a players file keeps.
-use Rattle.std.specs.Prelude.{◌≡◌, ℕ, ◌≤◌, List, All, chars, flat_map, length, map, sum_by}
+use Rattle.std.specs.Prelude.{◌≡◌, ℕ, ◌+◌, ◌++◌, ◌≤◌, List, All, chars, flat_map, length, map, sum_by}
+use Rattle.std.specs.List.Sorted.{IsStrictlyIncreasing}
 use Rattle.mw_model.specs.Ascending.{NamesAscend}
 use Rattle.mw_model.specs.Seed.{RoomOptions}
-use Rattle.mw_multi.specs.Players.{StartEntry, Options, Player, Players}
+use Rattle.mw_multi.specs.Players.{StartEntry, Options, Player, ItemLink, Players}
 use Rattle.mw_multi.specs.Names.{IsName, NamesDiffer}
 
 -- who may ask what is left: disabled, enabled or goal
@@ -44,7 +45,27 @@ pub record PlayerKept (teams : ℕ) (p : Player) : Type 0 where
 abbrev pub player_names : Player → List (List ℕ)
 player_names p = p.names
 
--- no two names are equal over all teams and slots
+-- the number of one of so many slots
+pub record IsSlotNumber (slots : ℕ) (number : ℕ) : Type 0 where
+  pub low : 1 ≤ number
+  pub high : number ≤ slots
+
+-- at least two of so many slots share items
+pub record ItemLinkKept (slots : ℕ) (l : ItemLink) : Type 0 where
+  pub name : IsName 16 l.name
+  pub several : 2 ≤ length l.members
+  pub ascend : IsStrictlyIncreasing l.members
+  pub members : All (IsSlotNumber slots) l.members
+  pub items : All (IsName 128) l.items
+
+abbrev pub link_name : ItemLink → List ℕ
+link_name l = l.name
+
+-- the names of all players, over all teams and slots, and of all links
+abbrev pub all_names : Players → List (List ℕ)
+all_names p = flat_map player_names p.players ++ map link_name p.links
+
+-- no two names are equal
 pub record IsPlayers (p : Players) : Type 0 where
   pub some_teams : 1 ≤ p.teams
   pub few_teams : p.teams ≤ 8
@@ -52,4 +73,6 @@ pub record IsPlayers (p : Players) : Type 0 where
   pub some_players : 1 ≤ length p.players
   pub few_players : length p.players ≤ 1024
   pub each : All (PlayerKept p.teams) p.players
-  pub differ : NamesDiffer (flat_map player_names p.players)
+  pub few_receivers : length p.players + length p.links ≤ 1024
+  pub links : All (ItemLinkKept (length p.players)) p.links
+  pub differ : NamesDiffer (all_names p)

@@ -1,10 +1,12 @@
 ghost use Rattle.std.specs.Prelude.{◌≡◌, ◌<◌, ◌≤◌, ◌+◌, ◌-◌, ◌*◌, ◌^◌, ℕ, IfOk, All, length, replicate, slice_index, slice_set, sum_by};
 ghost use Rattle.mw_rules.specs.Holds.{bag_of};
 ghost use Rattle.mw_multi.specs.WorldKept.{copies};
-ghost use Rattle.mw_multi.specs.Joint.{item_total, slot_items};
-ghost use Rattle.mw_multi.specs.Bags.{entries_count, slot_start, slot_pool, start_count, everything, IsBagOf};
+ghost use Rattle.mw_multi.specs.Joint.{LinkKept, slot_at, world_of, item_total, link_copies, slot_items};
+ghost use Rattle.mw_multi.specs.Bags.{entries_count, slot_start, slot_pool, start_count, pool_count, member_count, link_count, everything, IsBagOf};
 
 use crate::joint::Joint;
+use crate::link::Link;
+use crate::placed::slot_of;
 use crate::slot::Slot;
 use crate::world::PoolEntry;
 use mw_base::Memory;
@@ -62,8 +64,38 @@ fn add_pool(bag: &mut Bag, slot: &Slot)
     ensures counts { (n : ℕ) → bag_of bag.new n ≡ bag_of bag.old n + slot_pool n slot.now }
     ensures bound { (n : ℕ) → slot_pool n slot.now ≤ 10000 }
 {
-    let world = slot.world;
-    add_entries(bag, slot.first_item, world.pool.as_slice());
+    add_entries(bag, slot.first_item, slot.pool());
+}
+
+/// Adds entries for one of their owners, where there is such a slot.
+fn add_owned(bag: &mut Bag, joint: &Joint, owner: u16, entries: &[PoolEntry])
+    requires size { length bag.old ≡ item_total joint.now.slots }
+    requires fits { All (λ e. e.item < length (world_of (slot_at joint.now.slots owner)).items)
+        entries.now }
+    requires room { (n : ℕ) → bag_of bag.old n + sum_by copies entries.now < 2 ^ 31 }
+    ensures size { length bag.new ≡ length bag.old }
+    ensures counts { (n : ℕ) → bag_of bag.new n ≡ bag_of bag.old n
+        + member_count joint.now.slots n entries.now owner }
+{
+    if let Some(slot) = slot_of(joint.slots.as_slice(), owner) {
+        add_entries(bag, slot.first_item, entries);
+    }
+}
+
+/// Adds the copies of a link, once for each member.
+fn add_link(bag: &mut Bag, joint: &Joint, link: &Link)
+    requires size { length bag.old ≡ item_total joint.now.slots }
+    requires kept { LinkKept joint.now.slots link.now }
+    requires room { (n : ℕ) → bag_of bag.old n + link_copies link.now < 2 ^ 31 }
+    ensures size { length bag.new ≡ length bag.old }
+    ensures counts { (n : ℕ) → bag_of bag.new n ≡ bag_of bag.old n
+        + link_count joint.now.slots n link.now }
+    ensures bound { (n : ℕ) → link_count joint.now.slots n link.now ≤ link_copies link.now }
+{
+    let shared = link.link;
+    for member in shared.members.as_slice() {
+        add_owned(bag, joint, member.get(), link.copies.as_slice());
+    }
 }
 
 impl Bag {
@@ -79,12 +111,25 @@ impl Bag {
     }
 
     /// What the joint's slots begin with and all that their pools have; `Memory` where memory ran out.
-    pub fn everything(alloc: Global, joint: &Joint) -> Result<Bag, Memory>
-        ensures { IfOk result (IsBagOf joint.now.slots (everything joint.now.slots)) }
+    fn with_pools(alloc: Global, joint: &Joint) -> Result<Bag, Memory>
+        ensures { IfOk result (IsBagOf joint.now.slots (λ n. start_count joint.now.slots n
+            + pool_count joint.now.slots n)) }
     {
         let mut bag = Bag::starting(alloc, joint)?;
         for slot in joint.slots.as_slice() {
             add_pool(&mut bag, slot);
+        }
+        Ok(bag)
+    }
+
+    /// What the joint's slots begin with, all that their pools have, and what links have, once for each owner; `Memory` where
+    /// memory ran out.
+    pub fn everything(alloc: Global, joint: &Joint) -> Result<Bag, Memory>
+        ensures { IfOk result (IsBagOf joint.now.slots (everything joint.now)) }
+    {
+        let mut bag = Bag::with_pools(alloc, joint)?;
+        for link in joint.links.as_slice() {
+            add_link(&mut bag, joint, link);
         }
         Ok(bag)
     }

@@ -67,7 +67,7 @@ fn note(lists: &[List<u32>], words: &mut [u32], place: u32)
 }
 
 impl Entries {
-    ghost use Rattle.std.specs.Prelude.{◌≡◌, ◌<◌, ◌++◌, ◌∷◌, [], IfOk, OnOk, OnErr, length, replicate, slice_set, sum_by};
+    ghost use Rattle.std.specs.Prelude.{◌≡◌, ◌<◌, [], IfOk, length, replicate, slice_set, sum_by};
     ghost use Rattle.mw_multi.specs.Placement.{numbers_at};
 
     /// So many places where nothing stands; `Memory` where memory ran out.
@@ -102,18 +102,6 @@ impl Entries {
             return self.lists[at].as_slice();
         }
         &self.words[at..at + 1]
-    }
-
-    /// One number more at a place. After `Memory` all is as before.
-    pub(crate) fn push(&mut self, place: u32, number: u32) -> Result<(), Memory>
-        requires { place < length self.old }
-        ensures ok { OnOk result (self.new
-            ≡ slice_set self.old place (numbers_at self.old place ++ number ∷ [])) }
-        ensures err { OnErr result (self.new ≡ self.old) }
-    {
-        self.lists[place as usize].push(number)?;
-        note(self.lists.as_slice(), self.words.as_mut_slice(), place);
-        Ok(())
     }
 
     /// Puts these numbers at a place, and gives what stood there in exchange. It takes no memory.

@@ -1,3 +1,4 @@
+use crate::link::Link;
 use crate::players::Players;
 use crate::slot::Slot;
 use mw_base::List;
@@ -12,6 +13,8 @@ pub struct Joint<'a> {
     pub players: &'a Players,
     /// 1 to 1,024 slots; the first one has number 1. Together they have at most 200,000 places.
     pub slots: List<Slot<'a>>,
+    /// What slots share; slots and links are at most 1,024. The first link is the receiver after the last slot.
+    pub links: List<Link<'a>>,
 }
 
 impl<'a> Model for Joint<'a> {
@@ -28,11 +31,13 @@ impl<'a> Model for Joint<'a> {
       teams = j.players.now.teams;
       room = j.players.now.room;
       slots = j.slots;
+      links = j.links;
     } };
 
     ghost invariant = { λ j. IsJoint record {
       teams = j.players.now.teams;
       room = j.players.now.room;
       slots = j.slots;
+      links = j.links;
     } };
 }

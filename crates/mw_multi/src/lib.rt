@@ -1,6 +1,7 @@
 //! The tables of worlds and of players, and the worlds of all slots joined.
 #![tactic(auto)]
 
+mod access;
 mod bag;
 mod build;
 mod entrance;
@@ -10,8 +11,12 @@ mod files;
 mod games;
 mod index;
 mod item;
+mod item_link;
 mod joint;
 mod labels;
+mod left;
+mod link;
+mod linked;
 mod location;
 mod names;
 mod options;
@@ -19,7 +24,9 @@ mod placed;
 mod placement;
 mod player;
 mod players;
+mod receivers;
 mod refusal;
+mod sharing;
 mod slot;
 mod slots;
 mod stands;
@@ -28,16 +35,20 @@ mod totals;
 mod tree_rules;
 mod world;
 
+pub use access::Access;
 pub use bag::Bag;
 pub use entrance::Entrance;
 pub use index::{HasId, IdIndex, NameIndex, Named, index_ids, index_names};
 pub use item::{Class, Item};
+pub use item_link::ItemLink;
 pub use joint::Joint;
+pub use link::Link;
 pub use location::{LocKind, Location};
 pub use placed::{Placed, slot_of};
 pub use placement::{Placement, Put};
 pub use player::{Options, Player, StartEntry};
 pub use players::Players;
+pub use receivers::push_numbers;
 pub use refusal::{JointRefusal, OptionName};
 pub use slot::Slot;
 pub use stands::stands_of;

@@ -81,6 +81,14 @@ fn labels_of_locations<'a>(
     Ok(labels)
 }
 
+/// The labels of a world's items, with a way to find each.
+pub(crate) fn labels_of_world<'a>(alloc: Global, world: &'a World) -> Result<Labels<'a>, Memory>
+    ensures { IfOk result (λ labels. labels ≡ item_labels world.now.items) }
+{
+    let items = labels_of_items(alloc, world.items.as_slice())?;
+    Labels::of(alloc, items)
+}
+
 impl<'a> Names<'a> {
     /// The names of a world.
     pub(crate) fn of(alloc: Global, world: &'a World) -> Result<Names<'a>, Memory>

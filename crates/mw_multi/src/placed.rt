@@ -1,11 +1,12 @@
-ghost use Rattle.std.specs.Prelude.{◌≡◌, ◌<◌, ◌≤◌, ◌+◌, ◌^◌, ◌++◌, ◌∷◌, [], List, IfOk, OnOk, OnErr, length, option_copied, option_to_list, slice_index_or, slice_set, sum_by, replicate};
-ghost use Rattle.mw_multi.specs.Joint.{slot_items, place_total};
+ghost use Rattle.std.specs.Prelude.{◌≡◌, ◌<◌, ◌≤◌, ◌+◌, ◌^◌, ◌++◌, ◌∷◌, [], List, IfOk, OnOk, OnErr, length, option_copied, slice_set, sum_by};
+ghost use Rattle.mw_multi.specs.Joint.{place_total};
 ghost use Rattle.mw_multi.specs.Placement as plain;
-ghost use Rattle.mw_multi.specs.Placement.{slot_at, PutKept, IsPlacement, numbers_in, put_numbers, numbers_at, IsPlaced};
+ghost use Rattle.mw_multi.specs.Placement.{slot_at, PutKept, IsPlacement, put_numbers, numbers_at, IsPlaced};
 
 use crate::entries::Entries;
 use crate::joint::Joint;
 use crate::placement::{Placement, Put};
+use crate::receivers::push_numbers;
 use crate::slot::Slot;
 use mw_base::{List, Memory};
 use std::alloc::Global;
@@ -45,38 +46,20 @@ pub fn slot_of<'a, 'b>(slots: &'a [Slot<'b>], number: u16) -> Option<&'a Slot<'b
     }
 }
 
-/// The number over all slots of an item of a slot, where it is a progression item.
-fn number_in(slot: &Slot, item: u32) -> Option<u32>
-    requires { slot.now.first_item + slot_items slot.now < 2 ^ 32 }
-    ensures { option_to_list result ≡ numbers_in item slot.now }
+/// Adds numbers to a list.
+fn push_all(list: &mut List<u32>, numbers: &[u32]) -> Result<(), Memory>
+    ensures { OnOk result (list.new ≡ list.old ++ numbers.now) }
 {
-    let world = slot.world;
-    match world.items.get(item as usize) {
-        Some(found) => {
-            if found.is_progression() {
-                Some(slot.first_item + item)
-            } else {
-                None
-            }
-        }
-        None => None,
+    for number in numbers {
+        list.push(*number)?;
     }
-}
-
-/// The number over all slots of what a put stands for, where it is a progression item.
-fn number_of(joint: &Joint, put: Put) -> Option<u32>
-    ensures { option_to_list result ≡ put_numbers joint.now.slots put }
-{
-    match slot_of(joint.slots.as_slice(), put.receiver) {
-        Some(slot) => number_in(slot, put.item),
-        None => None,
-    }
+    Ok(())
 }
 
 impl Placed {
     /// A table of the joint's places where nothing stands; `Memory` where memory ran out.
     pub fn none(alloc: Global, joint: &Joint) -> Result<Placed, Memory>
-        ensures value { IfOk result (IsPlaced joint.now.slots []) }
+        ensures value { IfOk result (IsPlaced joint.now []) }
         ensures none { IfOk result (λ placed. sum_by length placed ≡ 0) }
     {
         let table = Entries::none(alloc, joint.place_count())?;
@@ -84,32 +67,33 @@ impl Placed {
     }
 
     /// Puts one item more into a table of the joint that has room for it. After `Memory` the table is as before.
-    pub fn put(&mut self, joint: &Joint, put: Put) -> Result<(), Memory>
+    pub fn put(&mut self, alloc: Global, joint: &Joint, put: Put) -> Result<(), Memory>
         requires size { length self.old ≡ place_total joint.now.slots }
-        requires kept { PutKept joint.now.slots put }
-        requires room { sum_by length self.old + 1 < 2 ^ 31 }
-        ensures ok { OnOk result ((puts : List plain.Put) → IsPlaced joint.now.slots puts self.old
-            → IsPlaced joint.now.slots (puts ++ put ∷ []) self.new) }
+        requires kept { PutKept joint.now put }
+        requires room { sum_by length self.old + length (put_numbers joint.now put) < 2 ^ 31 }
+        ensures ok { OnOk result ((puts : List plain.Put) → IsPlaced joint.now puts self.old
+            → IsPlaced joint.now (puts ++ put ∷ []) self.new) }
         ensures err { OnErr result (self.new ≡ self.old) }
-        ensures more { sum_by length self.new ≤ sum_by length self.old + 1 }
+        ensures more { sum_by length self.new
+            ≤ sum_by length self.old + length (put_numbers joint.now put) }
     {
-        let Some(number) = number_of(joint, put) else {
-            return Ok(());
-        };
-        self.table.push(put.place, number)?;
+        let mut numbers = List::new(alloc);
+        push_all(&mut numbers, self.table.at(put.place))?;
+        push_numbers(&mut numbers, joint, put.receiver, put.item)?;
+        self.table.swap(put.place, &mut numbers);
         Ok(())
     }
 
     /// The table of a placement of the joint; `Memory` where memory ran out.
     pub fn of(alloc: Global, joint: &Joint, placement: &Placement) -> Result<Placed, Memory>
         requires { IsPlacement joint.now placement.now }
-        ensures { IfOk result (IsPlaced joint.now.slots placement.now) }
+        ensures { IfOk result (IsPlaced joint.now placement.now) }
     {
         // Reading the joint makes known what its type keeps.
         let _ = &joint.slots;
         let mut placed = Placed::none(alloc, joint)?;
         for put in placement.as_slice() {
-            placed.put(joint, *put)?;
+            placed.put(alloc, joint, *put)?;
         }
         Ok(placed)
     }

@@ -1,3 +1,4 @@
+use crate::access::Access;
 use mw_base::{List, Text};
 use std::marker::Model;
 
@@ -31,6 +32,8 @@ pub struct Options {
     pub priority_locations: List<Text>,
     /// At most 256 items to begin with, in byte order of names.
     pub start_inventory: List<StartEntry>,
+    /// How much of the player's own world has to be reachable.
+    pub accessibility: Access,
 }
 
 impl Model for Options {
@@ -44,6 +47,7 @@ impl Model for Options {
       exclude_locations = o.exclude_locations;
       priority_locations = o.priority_locations;
       start_inventory = o.start_inventory;
+      accessibility = o.accessibility;
     } };
 }
 

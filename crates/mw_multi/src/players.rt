@@ -1,3 +1,4 @@
+use crate::item_link::ItemLink;
 use crate::player::Player;
 use mw_base::{List, RoomOptions};
 use std::marker::Model;
@@ -9,8 +10,10 @@ pub struct Players {
     pub teams: u8,
     /// The settings of the room.
     pub room: RoomOptions,
-    /// 1 to 1,024 players; the first one has slot 1. No two names are equal over all teams and slots.
+    /// 1 to 1,024 players; the first one has slot 1. No two names are equal over all teams, slots and links.
     pub players: List<Player>,
+    /// What players share; with the players at most 1,024. The first link is the receiver after the last slot.
+    pub links: List<ItemLink>,
 }
 
 impl Model for Players {
@@ -19,11 +22,17 @@ impl Model for Players {
 
     ghost Value = { plain.Players };
 
-    ghost view = { λ p. record { teams = p.teams; room = p.room; players = p.players } };
+    ghost view = { λ p. record {
+      teams = p.teams;
+      room = p.room;
+      players = p.players;
+      links = p.links;
+    } };
 
     ghost invariant = { λ p. IsPlayers record {
       teams = p.teams;
       room = p.room;
       players = p.players;
+      links = p.links;
     } };
 }

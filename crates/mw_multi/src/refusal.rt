@@ -61,6 +61,20 @@ pub enum JointRefusal {
         /// The name's index in the option's list, from 0.
         place: u64,
     },
+    /// The members of a link don't all play one game.
+    #[error("LinkGame {link}")]
+    LinkGame {
+        /// The link's index in the players file, from 0.
+        link: u64,
+    },
+    /// A link names no item with an id in its members' world.
+    #[error("LinkName {link} {place}")]
+    LinkName {
+        /// The link's index in the players file, from 0.
+        link: u64,
+        /// The name's index in the link's list, from 0.
+        place: u64,
+    },
     /// There are more than 200,000 places, counted for each slot.
     #[error("TooManyPlaces {have}")]
     TooManyPlaces {

@@ -1,3 +1,4 @@
+use crate::access::Access;
 use crate::player::Player;
 use crate::world::{PoolEntry, World};
 use mw_base::List;
@@ -24,9 +25,12 @@ pub struct Slot<'a> {
     pub priority_locations: List<bool>,
     /// The items to begin with, at most 256 together.
     pub start: List<PoolEntry>,
+    /// What links leave of the world's pool; None where that is the whole.
+    pub own_pool: Option<List<PoolEntry>>,
 }
 
 impl<'a> Model for Slot<'a> {
+    ghost use Rattle.std.specs.Prelude.{unwrap_or};
     ghost use Rattle.std.specs.Coded.{codes};
     ghost use Rattle.mw_multi.specs.RuleCode.{coded_rule};
     ghost use Rattle.mw_multi.specs.Joint as plain;
@@ -46,6 +50,8 @@ impl<'a> Model for Slot<'a> {
       exclude_locations = s.exclude_locations;
       priority_locations = s.priority_locations;
       start = s.start;
+      pool = unwrap_or s.own_pool s.world.now.pool;
+      access = s.player.now.options.accessibility;
     } };
 
     ghost invariant = { λ s. SlotKept record {
@@ -58,6 +64,8 @@ impl<'a> Model for Slot<'a> {
       exclude_locations = s.exclude_locations;
       priority_locations = s.priority_locations;
       start = s.start;
+      pool = unwrap_or s.own_pool s.world.now.pool;
+      access = s.player.now.options.accessibility;
     } };
 }
 
@@ -65,6 +73,27 @@ impl<'a> Slot<'a> {
     ghost use Rattle.std.specs.Prelude.{◌≡◌, ◌<◌, ◌+◌, ◌^◌, length};
     ghost use Rattle.mw_multi.specs.Joint.{slot_places};
     ghost use Rattle.mw_multi.specs.Steps.{region_place, location_place};
+
+    /// What links leave of the world's pool.
+    pub fn pool(&self) -> &[PoolEntry]
+        ensures { result.now ≡ self.now.pool }
+    {
+        match &self.own_pool {
+            Some(pool) => pool.as_slice(),
+            None => {
+                let world = self.world;
+                world.pool.as_slice()
+            }
+        }
+    }
+
+    /// How much of the world has to be reachable.
+    pub fn access(&self) -> Access
+        ensures { result ≡ self.now.access }
+    {
+        let player = self.player;
+        player.options.accessibility
+    }
 
     /// The number over all slots of a region, given its index.
     pub fn region_place(&self, region: u32) -> u32

@@ -2,6 +2,7 @@ ghost use Rattle.std.specs.Prelude.{◌≡◌, ◌≤◌, ◌<◌, true, IfOk, A
 ghost use Rattle.mw_multi.specs.PlayersKept.{OptionsKept};
 ghost use Rattle.mw_multi.specs.Files.{no_world, world_named, is_among};
 ghost use Rattle.mw_multi.specs.Joint.{AreNumbered, SlotKept};
+ghost use Rattle.mw_multi.specs.Links.{HasWholePool};
 ghost use Rattle.mw_multi.specs.JointOf.{Gives, slot_of, slots_from};
 
 use crate::files::find_file;
@@ -29,6 +30,7 @@ fn slot_in<'a>(
     ensures world { IfOk result (λ s. s.world ≡ names.now) }
     ensures place { IfOk result (λ s. s.first_place ≡ first_place) }
     ensures item { IfOk result (λ s. s.first_item ≡ first_item) }
+    ensures whole { IfOk result HasWholePool }
 {
     let world = names.world();
     let items = names.items();
@@ -73,6 +75,7 @@ fn slot_in<'a>(
         exclude_locations,
         priority_locations,
         start,
+        own_pool: None,
     })
 }
 
@@ -111,6 +114,7 @@ pub(crate) fn slots_in<'a>(
     ensures kept { IfOk result (All SlotKept) }
     ensures numbered { IfOk result (AreNumbered 0 0) }
     ensures length { IfOk result (λ slots. length slots ≡ length players.now) }
+    ensures whole { IfOk result (All HasWholePool) }
 {
     let mut slots = List::new(alloc);
     let mut place = 0;

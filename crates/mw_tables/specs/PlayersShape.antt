@@ -1,15 +1,16 @@
 -- The shape of a players file: its value by kinds and ranges alone, or the first breach of them.
-use Rattle.std.specs.Prelude.{ℕ, nat_le, sum_by, List, [], Result, Ok, codes, if◌then◌else◌}
-use Rattle.mw_model.specs.Json.{Json}
+use Rattle.std.specs.Prelude.{ℕ, ◌-◌, nat_le, sum_by, List, [], Bool, true, false, Result, Ok, bytes_eq, codes, length, if◌then◌else◌}
+use Rattle.mw_model.specs.Json.{Json, Items as JsonItems, Members}
 use Rattle.mw_model.specs.Seed.{RoomOptions}
-use Rattle.mw_json.specs.Grammar.{Breach, ◌>>=◌, refused, number_at, name_of, name_at, list_at, list_up_to, object_at, field_at}
+use Rattle.mw_json.specs.Grammar.{Breach, ◌>>=◌, refused, number_at, text_at, name_of, name_at, list_at, items_length, list_up_to, object_at, field_at}
 use Rattle.mw_json.specs.Parts.{not_empty, list_of_length}
-use Rattle.mw_json.specs.Readers.{each_from, field_or_at, each_member_at}
+use Rattle.mw_json.specs.Readers.{each_from, list_of_at, field_or_at, each_member_at}
 use Rattle.mw_json.specs.Settings.{password_at, permission_at, remaining_at}
-use Rattle.mw_json.specs.declared.refusal.Kind.TheVariants.{TooMany}
-use Rattle.mw_multi.specs.Players.{StartEntry, Options, Player, Players}
+use Rattle.mw_json.specs.declared.refusal.Kind.TheVariants.{WrongKind, TooMany, OtherFormat}
+use Rattle.mw_multi.specs.Players.{StartEntry, Options, Player, ItemLink, Players}
+use Rattle.mw_multi.specs.declared.access.Access.{Access}
+use Rattle.mw_multi.specs.declared.access.Access.TheVariants.{Full, Items, Minimal}
 use Rattle.mw_multi.specs.PlayersKept.{start_count}
-use Rattle.mw_tables.specs.WorldShape.{format_in}
 
 -- ---- the room
 
@@ -69,21 +70,41 @@ start_inventory_at j = do
   ss ← each_member_at start_entry_at ms
   few_to_start ss
 
+-- how much has to be reachable
+abbrev pub access_of : List ℕ → Result Access Breach
+access_of s =
+    if bytes_eq s (codes "full") then Ok Full
+    else (if bytes_eq s (codes "items") then Ok Items
+    else (if bytes_eq s (codes "minimal") then Ok Minimal else refused WrongKind))
+
+unfoldable pub access_at : Json → Result Access Breach
+access_at j = do
+  s ← text_at j
+  access_of s
+
+-- what stands under accessibility in the second form; in the first form it is what it is where it's
+-- absent
+abbrev pub access_in : Bool → Members → Result Access Breach
+access_in false ms = Ok Items
+access_in true ms = field_or_at (codes "accessibility") Items access_at ms
+
 -- each option may be absent
-unfoldable pub options_at : Json → Result Options Breach
-options_at j = do
+unfoldable pub options_at : Bool → Json → Result Options Breach
+options_at second j = do
   ms ← object_at j
   local ← field_or_at (codes "local_items") [] wishes_at ms
   non_local ← field_or_at (codes "non_local_items") [] wishes_at ms
   exclude ← field_or_at (codes "exclude_locations") [] wishes_at ms
   priority ← field_or_at (codes "priority_locations") [] wishes_at ms
   start ← field_or_at (codes "start_inventory") [] start_inventory_at ms
+  access ← access_in second ms
   Ok record {
     local_items = local;
     non_local_items = non_local;
     exclude_locations = exclude;
     priority_locations = priority;
     start_inventory = start;
+    accessibility = access;
   }
 
 abbrev pub no_options : Options
@@ -94,6 +115,7 @@ no_options =
       exclude_locations = [];
       priority_locations = [];
       start_inventory = [];
+      accessibility = Items;
     }
 
 -- ---- players
@@ -104,28 +126,70 @@ team_names_at teams j = do
   js ← list_of_length teams j
   each_from (name_at 16) 0 js
 
-unfoldable pub player_at : ℕ → Json → Result Player Breach
-player_at teams j = do
+unfoldable pub player_at : Bool → ℕ → Json → Result Player Breach
+player_at second teams j = do
   ms ← object_at j
   names ← field_at (codes "names") (team_names_at teams) ms
   world ← field_at (codes "world") (name_at 128) ms
-  options ← field_or_at (codes "options") no_options options_at ms
+  options ← field_or_at (codes "options") no_options (options_at second) ms
   Ok record { names = names; world = world; options = options }
 
 -- 1 to 1,024 players
-unfoldable pub player_list_at : ℕ → Json → Result (List Player) Breach
-player_list_at teams j = do
+unfoldable pub player_list_at : Bool → ℕ → Json → Result (List Player) Breach
+player_list_at second teams j = do
   js ← list_up_to 1024 j
   some ← not_empty js
-  each_from (player_at teams) 0 some
+  each_from (player_at second teams) 0 some
+
+-- ---- links
+
+-- the number of a slot, 1 to 1,024
+abbrev pub slot_number_at : Json → Result ℕ Breach
+slot_number_at j = number_at 1 1024 j
+
+-- at least two
+abbrev pub several_of : JsonItems → Result JsonItems Breach
+several_of js = if nat_le 2 (items_length js) then Ok js else refused WrongKind
+
+unfoldable pub link_members_at : Json → Result (List ℕ) Breach
+link_members_at j = do
+  js ← list_at j
+  several ← several_of js
+  each_from slot_number_at 0 several
+
+unfoldable pub link_at : Json → Result ItemLink Breach
+link_at j = do
+  ms ← object_at j
+  name ← field_at (codes "name") (name_at 16) ms
+  numbers ← field_at (codes "members") link_members_at ms
+  items ← field_at (codes "items") wishes_at ms
+  Ok record { name = name; members = numbers; items = items }
+
+-- what stands under links in the second form, beside so many players, together at most 1,024; the
+-- first form has no links
+abbrev pub links_in : Bool → ℕ → Members → Result (List ItemLink) Breach
+links_in false players ms = Ok []
+links_in true players ms = field_or_at (codes "links") [] (list_of_at (1024 - players) link_at) ms
 
 -- ---- the whole
+
+-- whether it is the second form
+abbrev pub form_of : List ℕ → Result Bool Breach
+form_of s =
+    if bytes_eq s (codes "mw-players-1") then Ok false
+    else (if bytes_eq s (codes "mw-players-2") then Ok true else refused OtherFormat)
+
+unfoldable pub form_at : Json → Result Bool Breach
+form_at j = do
+  s ← text_at j
+  form_of s
 
 unfoldable pub players_shape_at : Json → Result Players Breach
 players_shape_at j = do
   ms ← object_at j
-  format ← format_in (codes "mw-players-1") ms
+  second ← field_at (codes "format") form_at ms
   teams ← field_or_at (codes "teams") 1 (number_at 1 8) ms
   room ← field_or_at (codes "room") usual_room room_at ms
-  players ← field_at (codes "players") (player_list_at teams) ms
-  Ok record { teams = teams; room = room; players = players }
+  players ← field_at (codes "players") (player_list_at second teams) ms
+  links ← links_in second (length players) ms
+  Ok record { teams = teams; room = room; players = players; links = links }

@@ -4,6 +4,8 @@
 mod format;
 mod item_names;
 mod judge;
+mod link_names;
+mod links_shape;
 mod named;
 mod named_rows;
 mod names;

@@ -1,6 +1,6 @@
 ghost use Rattle.std.specs.Prelude.{◌≡◌, ◌++◌, ◌∷◌, [], IfOk, IsTrue, OnOk, not};
 ghost use Rattle.mw_json.specs.Grammar.{Gives};
-ghost use Rattle.mw_tables.specs.PlayersOf.{has_name, player_named, players_named};
+ghost use Rattle.mw_tables.specs.PlayersOf.{has_name, player_named, players_named, names_of_players};
 
 use indexmap::IndexSet;
 use mw_base::{Memory, Text};
@@ -11,7 +11,7 @@ use std::marker::Model;
 
 /// The names met so far, in their order.
 #[derive(Drop)]
-struct Seen<'a> {
+pub(crate) struct Seen<'a> {
     names: IndexSet<&'a str>,
 }
 
@@ -24,7 +24,7 @@ impl<'a> Model for Seen<'a> {
 }
 
 impl<'a> Seen<'a> {
-    fn new(alloc: Global) -> Seen<'a>
+    pub(crate) fn new(alloc: Global) -> Seen<'a>
         ensures { result ≡ [] }
     {
         Seen {
@@ -33,7 +33,7 @@ impl<'a> Seen<'a> {
     }
 
     /// Whether a name is new, which is then met.
-    fn note(&mut self, name: &'a str) -> Result<bool, Memory>
+    pub(crate) fn note(&mut self, name: &'a str) -> Result<bool, Memory>
         ensures added { IfOk result (λ added. added ≡ not (has_name self.old name.now)) }
         ensures grown { IfOk result (λ added. IsTrue added → self.new ≡ self.old ++ name.now ∷ []) }
     {
@@ -60,13 +60,17 @@ fn judge_team_names<'a>(
     Ok(())
 }
 
-/// No name stands twice over all teams and slots.
-pub(crate) fn judge_players(alloc: Global, players: &[Player]) -> Result<(), Refusal>
-    ensures { Gives result (players_named [] 0 players.now) }
+/// No name stands twice over all teams and slots. The names are then met.
+pub(crate) fn judge_players<'a>(
+    alloc: Global,
+    seen: &mut Seen<'a>,
+    players: &'a [Player],
+) -> Result<(), Refusal>
+    ensures answer { Gives result (players_named seen.old 0 players.now) }
+    ensures grown { OnOk result (seen.new ≡ seen.old ++ names_of_players players.now) }
 {
-    let mut seen = Seen::new(alloc);
     for (i, player) in players.iter().enumerate() {
-        judge_team_names(alloc, &mut seen, player.names.as_slice(), i as u64)?;
+        judge_team_names(alloc, seen, player.names.as_slice(), i as u64)?;
     }
     Ok(())
 }

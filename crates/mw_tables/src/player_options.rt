@@ -3,20 +3,20 @@ ghost use Rattle.mw_json.specs.View.{view, members_view};
 ghost use Rattle.mw_json.specs.Grammar.{Gives, number_at};
 ghost use Rattle.mw_json.specs.Readers.{field_or_at};
 ghost use Rattle.mw_multi.specs.PlayersKept.{start_count};
-ghost use Rattle.mw_tables.specs.PlayersShape.{wishes_at, start_entry_at, start_inventory_at, options_at, no_options as plain_options};
+ghost use Rattle.mw_tables.specs.PlayersShape.{wishes_at, start_entry_at, start_inventory_at, access_at, access_in, options_at, no_options as plain_options};
 
 use crate::parts::long_name_in;
 use mw_base::{List, Text};
 use mw_json::{
     Kind, Member, Refusal, Tree, copy_name, each, each_member, field_or, list_of, number_between,
-    object_of, refuse,
+    object_of, refuse, text_of,
 };
-use mw_multi::{Options, StartEntry};
+use mw_multi::{Access, Options, StartEntry};
 use std::alloc::Global;
 
 /// Names, however many.
 #[tactic(auto, unfolding(crate::specs::PlayersShape::wishes_at))]
-fn wishes_of(alloc: Global, tree: &Tree) -> Result<List<Text>, Refusal>
+pub(crate) fn wishes_of(alloc: Global, tree: &Tree) -> Result<List<Text>, Refusal>
     ensures { Gives result (wishes_at (view tree.now)) }
 {
     let items = list_of(alloc, tree)?;
@@ -75,10 +75,34 @@ fn start_inventory_of(alloc: Global, tree: &Tree) -> Result<List<StartEntry>, Re
     }
 }
 
+/// How much of a player's own world has to be reachable, by its word.
+#[tactic(auto, unfolding(crate::specs::PlayersShape::access_at))]
+fn access_of(alloc: Global, tree: &Tree) -> Result<Access, Refusal>
+    ensures { Gives result (access_at (view tree.now)) }
+{
+    match text_of(alloc, tree)? {
+        "full" => Ok(Access::Full),
+        "items" => Ok(Access::Items),
+        "minimal" => Ok(Access::Minimal),
+        _ => refuse(alloc, Kind::WrongKind),
+    }
+}
+
+/// How much of a player's own world has to be reachable; the first form doesn't say it.
+fn access_or_items(alloc: Global, members: &[Member], second: bool) -> Result<Access, Refusal>
+    ensures { Gives result (access_in second (members_view members.now)) }
+{
+    if second {
+        field_or(alloc, members, "accessibility", Access::Items, access_of)
+    } else {
+        Ok(Access::Items)
+    }
+}
+
 /// A player's wishes, each of which may be absent.
 #[tactic(auto, unfolding(crate::specs::PlayersShape::options_at))]
-pub(crate) fn options_of(alloc: Global, tree: &Tree) -> Result<Options, Refusal>
-    ensures { Gives result (options_at (view tree.now)) }
+pub(crate) fn options_of(alloc: Global, tree: &Tree, second: bool) -> Result<Options, Refusal>
+    ensures { Gives result (options_at second (view tree.now)) }
 {
     let members = object_of(alloc, tree)?;
     let local_items = wishes_or_none(alloc, members, "local_items")?;
@@ -92,12 +116,14 @@ pub(crate) fn options_of(alloc: Global, tree: &Tree) -> Result<Options, Refusal>
         List::new(alloc),
         start_inventory_of,
     )?;
+    let accessibility = access_or_items(alloc, members, second)?;
     Ok(Options {
         local_items,
         non_local_items,
         exclude_locations,
         priority_locations,
         start_inventory,
+        accessibility,
     })
 }
 
@@ -111,5 +137,6 @@ pub(crate) fn no_options(alloc: Global) -> Options
         exclude_locations: List::new(alloc),
         priority_locations: List::new(alloc),
         start_inventory: List::new(alloc),
+        accessibility: Access::Items,
     }
 }

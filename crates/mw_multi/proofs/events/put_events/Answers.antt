@@ -18,12 +18,12 @@ overflow_add-first c =
 
 pub loop-index-init : goal.loop-index-init
 loop-index-init c = record {
-  put = λ puts h. subst (λ ps. IsPlaced c.args.joint.now.slots ps c.args.placed.now) (sym (append-nil puts)) h;
+  put = λ puts h. subst (λ ps. IsPlaced c.args.joint.now ps c.args.placed.now) (sym (append-nil puts)) h;
   total = omega arith;
 }
 
-pub overflow_add-first-in-loop-index : goal.overflow_add-first-in-loop-index
-overflow_add-first-in-loop-index c =
+pub overflow_add-place : goal.overflow_add-place
+overflow_add-place c =
     let s = c.index-as_slice-before.result in
     let known = known_slot c.args.joint.now c.args.before s c.as_slice.result.now (subst IsJoint c.joint.view_is c.joint.invariant)
     (c.as_slice.ensures ∙ ap (λ (j : Joint). j.slots) c.joint.view_is) c.requires.slot c.index-as_slice-before.is in
@@ -81,7 +81,7 @@ put_event-requires-clause-kept c =
     (known_element s.world.locations c.as_slice-location-items.result.now i l locations c.loop-index-test.true c.location-item.is)
     (sym (ap (λ (u : Location). u.event) c.location.view_is))
     (omega (arith, ap (λ (u : Slot). u.first_place) c.slot.view_is, c.len.ensures, ap (λ (w : World). length w.regions) world)) in
-    subst (λ n. All (PutKept c.args.joint.now.slots) (event_at n (c.slot.inside.first_place + c.len.result + i) c.location.inside.event)) number kept
+    subst (λ n. All (PutKept c.args.joint.now) (event_at n (c.slot.inside.first_place + c.len.result + i) c.location.inside.event)) number kept
 
 pub loop-index-preserved : goal.loop-index-preserved
 loop-index-preserved c =
@@ -98,7 +98,7 @@ loop-index-preserved c =
     append_assoc puts (events_among number first (take i items)) (event_at number (first + i) c.location.inside.event) ∙ ap (λ es. puts ++ es) (sym next) in
     record {
       put = λ puts h.
-          subst (λ ps. IsPlaced slots ps c.put_event.new.placed) (all puts)
+          subst (λ ps. IsPlaced c.args.joint.now ps c.put_event.new.placed) (all puts)
           (c.in_ok-put_event.ensures.put (puts ++ events_among number first (take i items)) (c.loop-index.invariant.put puts h));
       total = omega (arith, c.loop-index.invariant.total, c.in_ok-put_event.ensures.more);
     }
@@ -118,4 +118,4 @@ returns-clause-put c = λ puts other e h.
     let begins : first ≡ location_place s 0 = omega (arith, ap (λ (u : Slot). u.first_place) c.slot.view_is, c.len.ensures, ap (λ (w : World). length w.regions) world) in
     let all : events_among number first (take c.loop-index.index items) ≡ slot_events number other =
     ap (events_among number first) (take_all c.loop-index.index items c.loop-index-test.false) ∙ ap₂ (events_among number) begins locations ∙ ap (slot_events number) same in
-    subst (λ es. IsPlaced slots (puts ++ es) c.loop-index.placed) all (c.loop-index.invariant.put puts h)
+    subst (λ es. IsPlaced c.args.joint.now (puts ++ es) c.loop-index.placed) all (c.loop-index.invariant.put puts h)

@@ -4,6 +4,7 @@ use Rattle.std.proofs.lemmas.List.Elements.{All-push}
 use Rattle.mw_multi.specs.Files.{world_named}
 use Rattle.mw_multi.specs.World.{place_count}
 use Rattle.mw_multi.specs.Joint.{SlotKept}
+use Rattle.mw_multi.specs.Links.{HasWholePool}
 use Rattle.mw_multi.specs.JointOf.{slot_of}
 use Rattle.mw_multi.proofs.Fronts.{slots_moved}
 use Rattle.mw_multi.proofs.Numbering.{numbered_push}
@@ -20,6 +21,7 @@ loop-i-preserved c =
           (c.place_count-place.ensures.value ∙ ap place_count c.world-world.ensures.value) (c.item_count-item.ensures.value ∙ ap (λ w. length w.items) c.world-world.ensures.value) c.in_ok-push.ensures.ok
           ∙ c.loop-i.invariant.slots;
       kept = rw c.in_ok-push.ensures.ok (All-push SlotKept c.loop-i.slots c.in_ok-slot.slot c.loop-i.invariant.kept c.in_ok-slot.ensures.kept);
+      whole = rw c.in_ok-push.ensures.ok (All-push HasWholePool c.loop-i.slots c.in_ok-slot.slot c.loop-i.invariant.whole c.in_ok-slot.ensures.whole);
       numbered = grind (arith, common_steps, numbered_push);
       places = grind (arith, common_steps);
       items = grind (arith, common_steps);

@@ -5,7 +5,7 @@ use Rattle.mw_multi.proofs.stands.stands_of.Goals as goal
 pub note-requires : goal.note-requires
 note-requires c =
     let puts = c.as_slice-puts.result.now in
-    let fits = put_fits c.args.joint.now.slots puts c.args.placement.now (length puts - 1 - c.loop-done.done) c.index-puts-puts.result c.requires.each c.as_slice-puts.ensures
+    let fits = put_fits c.args.joint.now puts c.args.placement.now (length puts - 1 - c.loop-done.done) c.index-puts-puts.result c.requires.each c.as_slice-puts.ensures
     (omega (arith, c.loop-done-test.true)) c.index-puts-puts.is in
     omega (arith, fits, c.loop-done.invariant.0)
 
@@ -14,7 +14,7 @@ loop-done-preserved c =
     let puts = c.as_slice-puts.result.now in
     let l = c.loop-done in
     let put = c.index-puts-puts.result in
-    let fits = put_fits c.args.joint.now.slots puts c.args.placement.now (length puts - 1 - l.done) put c.requires.each c.as_slice-puts.ensures (omega (arith, c.loop-done-test.true)) c.index-puts-puts.is in (
+    let fits = put_fits c.args.joint.now puts c.args.placement.now (length puts - 1 - l.done) put c.requires.each c.as_slice-puts.ensures (omega (arith, c.loop-done-test.true)) c.index-puts-puts.is in (
       ap length c.note.ensures ∙ length-set l.stands.items put.place _ ∙ l.invariant.0,
       λ q.
           ap (λ s. slice_index_or s q None) c.note.ensures

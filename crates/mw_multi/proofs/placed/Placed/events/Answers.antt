@@ -12,7 +12,7 @@ loop-before-preserved c =
     let within : k < length slots = omega (arith, c.loop-before-test.true, c.len-before-end.ensures, ap (λ (j : Joint). length j.slots) c.joint.view_is) in
     let found = some_slot slots k within in
     record {
-      placed = subst (λ (ps : List Put). IsPlaced slots ps c.put_events.new.placed) (sym (slots_next slots k found.0 found.1))
+      placed = subst (λ (ps : List Put). IsPlaced c.args.joint.now ps c.put_events.new.placed) (sym (slots_next slots k found.0 found.1))
           (c.in_ok-put_events.ensures.put (events_from 1 (take k slots)) found.0 found.1 c.loop-before.invariant.placed);
       total = omega (arith, c.loop-before.invariant.total, c.in_ok-put_events.ensures.more);
     }

@@ -6,6 +6,6 @@ use Rattle.mw_multi.proofs.placed.Placed.events.Given as goal
 
 abbrev pub invariant-loop-before : goal.invariant-loop-before
 invariant-loop-before l = record {
-  placed : IsPlaced l.joint.slots (events_from 1 (take l.before l.joint.slots)) l.placed;
+  placed : IsPlaced l.joint (events_from 1 (take l.before l.joint.slots)) l.placed;
   total : sum_by length l.placed ≤ 10000 * l.before;
 }
