@@ -1,4 +1,4 @@
--- Goals that hold, and placements that can be beaten.
+-- Goals that hold, and placements that meet them.
 use Rattle.std.proofs.Common.{◌≡◌, ℕ, suc, ◌+◌, ◌-◌, ◌<◌, ◌≤◌, Bool, true, false, List, [], ◌∷◌, ◌++◌, Some, None, length, get_or, map, take, drop, All, refl, sym, ap, subst, ◌∙◌, inl, inr, arith}
 use Rattle.std.specs.Prelude.{flat_map}
 use Rattle.std.proofs.Math.Seq.{drop-cons}
@@ -15,7 +15,7 @@ use Rattle.mw_multi.specs.Joint.{Slot, Joint, IsJoint, slot_items, slot_places, 
 use Rattle.mw_multi.specs.Bags.{start_count}
 use Rattle.mw_multi.specs.Steps.{steps_of, rule_list, entrance_rule, location_rule, slot_rules}
 use Rattle.mw_reach.specs.Reach.{Placed, bag_with, IsLeast}
-use Rattle.mw_reach.specs.Goals.{goal_holds, GoalsHold, unmet_from, unmet_goal, IsBeatable}
+use Rattle.mw_reach.specs.Goals.{goal_holds, GoalsHold, unmet_from, unmet_goal, MeetsGoals}
 use Rattle.mw_reach.specs.Building.{HasRules}
 use Rattle.mw_reach.specs.Rows.{no_slot, slot_at}
 use Rattle.mw_reach.proofs.Slots.{rules_back, slot_fits, slot_rules_there}
@@ -71,20 +71,20 @@ no_goal_unmet joint bag w all = none_unmet 1 joint.slots bag w all
 pub unmet_goal-same : (joint : Joint) (a b : Bag) (w : Places) → ((i : ℕ) → a i ≡ b i) → unmet_goal joint a w ≡ unmet_goal joint b w
 unmet_goal-same joint a b w h = unmet_from-same 1 joint.slots a b w h
 
--- ---- placements that can be beaten
+-- ---- placements that meet each goal
 
 module _ (joint : Joint) (placed : Placed) (w : Places) (least : IsLeast (steps_of joint) (start_count joint.slots) placed w) where
   abbrev bag : Bag
   bag = bag_with (start_count joint.slots) placed w
 
   -- goals that hold for the least list hold for every closed one
-  pub beatable_by_least : unmet_goal joint bag w ≡ None → IsBeatable joint placed
-  beatable_by_least e = λ v closed.
+  pub met_by_least : unmet_goal joint bag w ≡ None → MeetsGoals joint placed
+  met_by_least e = λ v closed.
       let part = least.least v closed in
       goals_more joint bag (bag_with (start_count joint.slots) placed v) w v (bag_more (start_count joint.slots) placed w v part) part (goals_hold joint bag w e)
 
-  pub least_of_beatable : IsBeatable joint placed → unmet_goal joint bag w ≡ None
-  least_of_beatable beatable = no_goal_unmet joint bag w (beatable w least.closed)
+  pub least_of_met : MeetsGoals joint placed → unmet_goal joint bag w ≡ None
+  least_of_met meets = no_goal_unmet joint bag w (meets w least.closed)
 
 -- the goals judged by counts in hand
 pub unmet_by_counts : (joint : Joint) (base : List ℕ) (placed : Placed) (w : Places) (counts : List ℕ) (start : Bag) → ((i : ℕ) → bag_of base i ≡ start i)
@@ -153,17 +153,18 @@ module _ (joint : Joint) (index number : ℕ) (known : KnownGoal joint index num
       ∙ ap (λ cs. goal_holds (bag_of cs) (places_of done) (slot_at joint index)) same_counts
       ∙ ap (λ ds. goal_holds (bag_of in_hand) (places_of ds) (slot_at joint index)) same_places
 
-module _ (joint : Joint) (index : ℕ) (h : index < length joint.slots) (bag : Bag) (w : Places) where
-  here : drop index joint.slots ≡ slot_at joint index ∷ drop (suc index) joint.slots
-  here = drop-cons joint.slots index no_slot h
+-- the slot with this index comes first of those from it on
+pub slot_here : (joint : Joint) (index : ℕ) → index < length joint.slots → drop index joint.slots ≡ slot_at joint index ∷ drop (suc index) joint.slots
+slot_here joint index h = drop-cons joint.slots index no_slot h
 
+module _ (joint : Joint) (index : ℕ) (h : index < length joint.slots) (bag : Bag) (w : Places) where
   pub next_met : goal_holds bag w (slot_at joint index) ≡ true → unmet_from (suc (index + 1)) (drop (index + 1) joint.slots) bag w ≡ unmet_from (suc index) (drop index joint.slots) bag w
   next_met e =
       let one : index + 1 ≡ suc index = omega arith in
       ap (λ n. unmet_from (suc n) (drop n joint.slots) bag w) one
-      ∙ sym (ap (λ ss. unmet_from (suc index) ss bag w) here ∙ met bag w (slot_at joint index) (suc index) (drop (suc index) joint.slots) e)
+      ∙ sym (ap (λ ss. unmet_from (suc index) ss bag w) (slot_here joint index h) ∙ met bag w (slot_at joint index) (suc index) (drop (suc index) joint.slots) e)
 
   pub next_unmet : goal_holds bag w (slot_at joint index) ≡ false → Some (index + 1) ≡ unmet_from (suc index) (drop index joint.slots) bag w
   next_unmet e =
       let one : index + 1 ≡ suc index = omega arith in
-      ap Some one ∙ sym (ap (λ ss. unmet_from (suc index) ss bag w) here ∙ unmet bag w (slot_at joint index) (suc index) (drop (suc index) joint.slots) e)
+      ap Some one ∙ sym (ap (λ ss. unmet_from (suc index) ss bag w) (slot_here joint index h) ∙ unmet bag w (slot_at joint index) (suc index) (drop (suc index) joint.slots) e)

@@ -14,6 +14,7 @@ pub mod Parts
 pub mod Slots
 pub mod Placing
 pub mod Putting
+pub mod Requiring
 pub mod Resuming
 pub mod Waking
 pub mod Walks

@@ -1,18 +1,18 @@
 -- The table of a placement is one that reach takes.
-use Rattle.std.proofs.Common.{◌≡◌, ℕ, zero, suc, ◌+◌, ◌<◌, ◌≤◌, Bool, true, false, cond, eqb, List, [], ◌∷◌, Option, Some, None, length, get_or, All, refl, sym, ap, subst, ◌∙◌, inl, inr, arith}
+use Rattle.std.proofs.Common.{◌≡◌, ℕ, zero, suc, ◌+◌, ◌*◌, ◌<◌, ◌≤◌, Bool, true, false, cond, eqb, List, [], ◌∷◌, Option, Some, None, length, get_or, All, refl, sym, ap, subst, ◌∙◌, inl, inr, arith}
 use Rattle.std.specs.Prelude.{filter, flat_map, slice_get, sum_by}
-use Rattle.std.proofs.lemmas.Bool.{false≢true, cases_Bool, cases_lt}
+use Rattle.std.proofs.lemmas.Bool.{false≢true, cases_Bool, cases_eq, eq-eqb, ne_eqb}
 use Rattle.std.proofs.lemmas.List.{length-append, get_or_default}
 use Rattle.std.proofs.lemmas.List.Concat.{flat_map-cons}
 use Rattle.std.proofs.lemmas.List.Elements.{All-nil, All-cons, All-append}
 use Rattle.std.proofs.lemmas.List.Sums.{sum_by-cons}
 use Rattle.mw_multi.specs.Joint.{Joint, Slot, AreNumbered, IsJoint, slot_items, item_total}
 use Rattle.mw_multi.specs.RulesKept.{is_progression_item}
-use Rattle.mw_multi.specs.Placement.{Put, slot_at, item_in, numbers_in, numbers_of, put_numbers, stands_at, standing, numbers_at, IsPlaced}
+use Rattle.mw_multi.specs.Placement.{Put, item_in, owners, numbers_in, numbers_of, owner_numbers, put_numbers, stands_at, standing, numbers_at, IsPlaced}
 use Rattle.mw_multi.specs.World.{Item}
-use Rattle.mw_reach.specs.Reach.{one_if}
+use Rattle.mw_multi.proofs.Owners.{put_numbers_le}
 use Rattle.mw_reach.specs.Reached.{IsPlacedFor}
-use Rattle.mw_reach.proofs.Counting.{sum_below, sum_below-add, sum_below-le, sum_below-zero, sum_below-past, sum_below-one, sum_below-first}
+use Rattle.mw_reach.proofs.Counting.{sum_below, sum_below-add, sum_below-zero, sum_below-first}
 use Rattle.mw_reach.proofs.Slots.{items_before}
 
 -- ---- each number is an item's
@@ -42,80 +42,92 @@ module _ (slots : List Slot) (numbered : AreNumbered 0 0 slots) where
   of_slot item n None e = All-nil (λ i. i < item_total slots)
   of_slot item n (Some s) e = in_slot item n s e
 
-  of_put : (receiver item : ℕ) → All (λ i. i < item_total slots) (numbers_of (slot_at slots receiver) item)
-  of_put zero item = All-nil (λ i. i < item_total slots)
-  of_put (suc n) item = of_slot item n (slice_get slots n) refl
+  of_owner : (item owner : ℕ) → All (λ i. i < item_total slots) (owner_numbers slots item owner)
+  of_owner item zero = All-nil (λ i. i < item_total slots)
+  of_owner item (suc n) = of_slot item n (slice_get slots n) refl
 
-  of_puts : (puts : List Put) → All (λ i. i < item_total slots) (flat_map (put_numbers slots) puts)
-  of_puts [] = All-nil (λ i. i < item_total slots)
-  of_puts (p ∷ puts) = rw (flat_map-cons (put_numbers slots) p puts) (All-append (λ i. i < item_total slots) (put_numbers slots p) (flat_map (put_numbers slots) puts) (of_put p.receiver p.item) (of_puts puts))
+  of_owners : (item : ℕ) (os : List ℕ) → All (λ i. i < item_total slots) (flat_map (owner_numbers slots item) os)
+  of_owners item [] = All-nil (λ i. i < item_total slots)
+  of_owners item (o ∷ os) =
+      rw (flat_map-cons (owner_numbers slots item) o os) (All-append (λ i. i < item_total slots) (owner_numbers slots item o) (flat_map (owner_numbers slots item) os) (of_owner item o) (of_owners item os))
 
--- ---- no more numbers than items at locations
+of_puts : (joint : Joint) → AreNumbered 0 0 joint.slots → (puts : List Put) → All (λ i. i < item_total joint.slots) (flat_map (put_numbers joint) puts)
+of_puts joint numbered [] = All-nil (λ i. i < item_total joint.slots)
+of_puts joint numbered (p ∷ puts) =
+    rw (flat_map-cons (put_numbers joint) p puts) (All-append (λ i. i < item_total joint.slots) (put_numbers joint p) (flat_map (put_numbers joint) puts) (of_owners joint.slots numbered p.item (owners joint p.receiver)) (of_puts joint numbered puts))
 
-in_slot-le : (item : ℕ) (s : Slot) → length (numbers_in item s) ≤ 1
-in_slot-le item s = elim (cases_Bool (is_progression_item (item_in item s))) [
-  | inl asked ↦ rw asked (omega arith)
-  | inr other ↦ rw other (omega arith)
-]
-
-of_slot-le : (o : Option Slot) (item : ℕ) → length (numbers_of o item) ≤ 1
-of_slot-le None item = omega arith
-of_slot-le (Some s) item = in_slot-le item s
+-- ---- no more numbers than the items at locations make
 
 front : (f : Put → List ℕ) (b : Bool) (p : Put) (puts : List Put) → length (flat_map f (cond b (p ∷ puts) puts)) ≡ cond b (length (f p)) 0 + length (flat_map f puts)
 front f true p puts = ap length (flat_map-cons f p puts) ∙ length-append (f p) (flat_map f puts)
 front f false p puts = omega arith
 
-one-le : (b : Bool) (n : ℕ) → n ≤ 1 → cond b n 0 ≤ one_if b
-one-le true n h = h
-one-le false n h = omega arith
+abbrev many : Joint → Put → ℕ
+many joint put = length (put_numbers joint put)
 
-standing-le : (slots : List Slot) (puts : List Put) (place : ℕ) → length (standing slots puts place) ≤ sum_by (λ p. one_if (eqb p.place place)) puts
-standing-le slots [] place = omega arith
-standing-le slots (p ∷ puts) place =
-    let more : length (standing slots (p ∷ puts) place) ≡ cond (eqb p.place place) (length (put_numbers slots p)) 0 + length (standing slots puts place) =
-    front (put_numbers slots) (eqb p.place place) p (filter (stands_at place) puts) in
-    let sum : sum_by (λ q. one_if (eqb q.place place)) (p ∷ puts) ≡ one_if (eqb p.place place) + sum_by (λ q. one_if (eqb q.place place)) puts = sum_by-cons (λ q. one_if (eqb q.place place)) p puts in
-    omega (arith, more, sum, one-le (eqb p.place place) (length (put_numbers slots p)) (of_slot-le (slot_at slots p.receiver) p.item), standing-le slots puts place)
+abbrev many_at : Joint → ℕ → Put → ℕ
+many_at joint place put = cond (eqb put.place place) (many joint put) 0
 
-once-le : (n q : ℕ) → sum_below n (λ k. one_if (eqb q k)) ≤ 1
-once-le n q = elim (cases_lt q n) [
-  | inl within ↦ omega (arith, sum_below-one n q within)
-  | inr past ↦ omega (arith, sum_below-past n q past)
+standing-length : (joint : Joint) (puts : List Put) (place : ℕ) → length (standing joint puts place) ≡ sum_by (many_at joint place) puts
+standing-length joint [] place = omega arith
+standing-length joint (p ∷ puts) place =
+    omega (arith, front (put_numbers joint) (eqb p.place place) p (filter (stands_at place) puts), sum_by-cons (many_at joint place) p puts, standing-length joint puts place)
+
+-- a number that counts at one place alone
+past-zero : (n q m : ℕ) → n ≤ q → sum_below n (λ k. cond (eqb q k) m 0) ≡ 0
+past-zero zero q m h = refl
+past-zero (suc n) q m h =
+    let apart : cond (eqb q n) m 0 ≡ 0 = ap (λ b. cond b m 0) (ne_eqb q n (λ e. absurd (omega arith))) in
+    omega (arith, past-zero n q m (omega arith), apart)
+
+once-le : (n q m : ℕ) → sum_below n (λ k. cond (eqb q k) m 0) ≤ m
+once-le zero q m = omega arith
+once-le (suc n) q m = elim (cases_eq q n) [
+  | inl same ↦ let here : cond (eqb q n) m 0 ≡ m = ap (λ b. cond b m 0) (eq-eqb q n same) in omega (arith, past-zero n q m (omega arith), here)
+  | inr other ↦ let apart : cond (eqb q n) m 0 ≡ 0 = ap (λ b. cond b m 0) (ne_eqb q n other) in omega (arith, once-le n q m, apart)
 ]
 
 sum_below-same : (n : ℕ) (f g : ℕ → ℕ) → ((k : ℕ) → f k ≡ g k) → sum_below n f ≡ sum_below n g
 sum_below-same zero f g h = refl
 sum_below-same (suc n) f g h = omega (arith, sum_below-same n f g h, h n)
 
-puts-le : (n : ℕ) (puts : List Put) → sum_below n (λ k. sum_by (λ p. one_if (eqb p.place k)) puts) ≤ length puts
-puts-le n [] = omega (arith, sum_below-zero n)
-puts-le n (p ∷ puts) =
+puts-le : (joint : Joint) (n : ℕ) (puts : List Put) → sum_below n (λ k. sum_by (many_at joint k) puts) ≤ sum_by (many joint) puts
+puts-le joint n [] = omega (arith, sum_below-zero n)
+puts-le joint n (p ∷ puts) =
     omega (
       arith,
-      sum_below-same n (λ k. sum_by (λ q. one_if (eqb q.place k)) (p ∷ puts)) (λ k. one_if (eqb p.place k) + sum_by (λ q. one_if (eqb q.place k)) puts) (λ k. sum_by-cons (λ q. one_if (eqb q.place k)) p puts),
-      sum_below-add n (λ k. one_if (eqb p.place k)) (λ k. sum_by (λ q. one_if (eqb q.place k)) puts),
-      once-le n p.place,
-      puts-le n puts,
+      sum_below-same n (λ k. sum_by (many_at joint k) (p ∷ puts)) (λ k. many_at joint k p + sum_by (many_at joint k) puts) (λ k. sum_by-cons (many_at joint k) p puts),
+      sum_below-add n (λ k. many_at joint k p) (λ k. sum_by (many_at joint k) puts),
+      once-le n p.place (many joint p),
+      puts-le joint n puts,
+      sum_by-cons (many joint) p puts,
     )
 
 lengths-below : (table : List (List ℕ)) → sum_by length table ≡ sum_below (length table) (λ k. length (numbers_at table k))
 lengths-below [] = refl
 lengths-below (entry ∷ table) = omega (arith, sum_by-cons length entry table, lengths-below table, sum_below-first (length table) (λ k. length (numbers_at (entry ∷ table) k)))
 
--- a table has no more numbers than there are items at locations
-pub placed-le : (slots : List Slot) (puts : List Put) (table : List (List ℕ)) → IsPlaced slots puts table → sum_by length table ≤ length puts
-placed-le slots puts table placed =
+-- a table has no more numbers than its items make
+pub numbers_placed-le : (joint : Joint) (puts : List Put) (table : List (List ℕ)) → IsPlaced joint puts table → sum_by length table ≤ sum_by (λ put. length (put_numbers joint put)) puts
+numbers_placed-le joint puts table placed =
     omega (
       arith,
       lengths-below table,
-      sum_below-le (length table) (λ k. length (numbers_at table k)) (λ k. sum_by (λ p. one_if (eqb p.place k)) puts) (λ k. omega (arith, ap length (placed.entries k), standing-le slots puts k)),
-      puts-le (length table) puts,
+      sum_below-same (length table) (λ k. length (numbers_at table k)) (λ k. sum_by (many_at joint k) puts) (λ k. ap length (placed.entries k) ∙ standing-length joint puts k),
+      puts-le joint (length table) puts,
     )
 
+owners-le : (joint : Joint) → IsJoint joint → (puts : List Put) → sum_by (many joint) puts ≤ 1024 * length puts
+owners-le joint kept [] = omega arith
+owners-le joint kept (p ∷ puts) = omega (arith, sum_by-cons (many joint) p puts, put_numbers_le joint p kept, owners-le joint kept puts)
+
+-- and no more than 1,024 for each
+pub placed-le : (joint : Joint) → IsJoint joint → (puts : List Put) (table : List (List ℕ)) → IsPlaced joint puts table → sum_by length table ≤ 1024 * length puts
+placed-le joint kept puts table placed = omega (arith, numbers_placed-le joint puts table placed, owners-le joint kept puts)
+
 -- what stands at locations of the joint is a table for reach
-pub placed_for : (joint : Joint) → IsJoint joint → (puts : List Put) (table : List (List ℕ)) → IsPlaced joint.slots puts table → IsPlacedFor joint table
+pub placed_for : (joint : Joint) → IsJoint joint → (puts : List Put) (table : List (List ℕ)) → IsPlaced joint puts table → IsPlacedFor joint table
 placed_for joint kept puts table placed = record {
   size = placed.size;
-  items = λ p d h. rw (get_or_default table p d [] h, placed.entries p) (of_puts joint.slots kept.numbered (filter (stands_at p) puts));
+  items = λ p d h. rw (get_or_default table p d [] h, placed.entries p) (of_puts joint kept.numbered (filter (stands_at p) puts));
 }

@@ -1,4 +1,4 @@
--- Which goals hold, and placements that can be beaten.
+-- Which goals hold.
 use Rattle.std.specs.Prelude.{ℕ, suc, ◌≡◌, ◌+◌, List, [], ◌∷◌, Option, Some, None, Bool, true, All, if◌then◌else◌}
 use Rattle.mw_rules.specs.Holds.{Bag, Places, holds}
 use Rattle.mw_multi.specs.Joint.{Slot, Joint}
@@ -24,8 +24,8 @@ unmet_from number (s ∷ ss) bag w =
 abbrev pub unmet_goal : Joint → Bag → Places → Option ℕ
 unmet_goal joint bag w = unmet_from 1 joint.slots bag w
 
--- Beatable: each goal holds in every list of places that is closed for the starting items and what is placed
-abbrev pub IsBeatable : Joint → Placed → Type 0
-IsBeatable joint placed =
+-- each goal holds in every list of places that is closed for the starting items and what is placed
+abbrev pub MeetsGoals : Joint → Placed → Type 0
+MeetsGoals joint placed =
     (w : Places) → Closed (steps_of joint) (start_count joint.slots) placed w
     → GoalsHold joint (bag_with (start_count joint.slots) placed w) w

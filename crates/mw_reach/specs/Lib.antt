@@ -10,4 +10,5 @@ pub mod Split
 pub mod Building
 pub mod Reached
 pub mod Goals
+pub mod Required
 pub mod Walking

@@ -5,6 +5,7 @@ use Rattle.mw_rules.specs.Ruling.{rule_at}
 use Rattle.mw_multi.specs.Files.{no_world}
 use Rattle.mw_multi.specs.Joint.{Slot, Joint, slot_places, slot_items}
 use Rattle.mw_multi.specs.Steps.{Step, rule_list}
+use Rattle.mw_multi.specs.declared.access.Access.TheVariants.{Items}
 use Rattle.mw_reach.specs.declared.row.Start.{Start}
 use Rattle.mw_reach.specs.declared.row.Row.{Row}
 use Rattle.mw_reach.specs.declared.row.Rows.{Rows}
@@ -21,6 +22,8 @@ no_slot = record {
   exclude_locations = [];
   priority_locations = [];
   start = [];
+  pool = [];
+  access = Items;
 }
 
 -- the slot with this index, from 0

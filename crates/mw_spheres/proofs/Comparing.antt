@@ -1,5 +1,5 @@
 -- Claimed spheres beside those that are due.
-use Rattle.std.proofs.Common.{◌≡◌, ℕ, suc, ◌≤◌, Bool, true, false, cond, eqb, List, [], ◌∷◌, ◌++◌, length, All, None, Ok, Err, refl, sym, ap, ap₂, subst, ◌∙◌, inl, inr, arith}
+use Rattle.std.proofs.Common.{◌≡◌, ℕ, suc, ◌≤◌, Bool, true, false, cond, eqb, List, [], ◌∷◌, ◌++◌, length, All, None, Some, Ok, Err, refl, sym, ap, ap₂, subst, ◌∙◌, inl, inr, arith}
 use Rattle.std.specs.Prelude.{IsErrAnd, OnOk}
 use Rattle.std.proofs.lemmas.Bool.{and_parts, cases_Bool, eqb-true}
 use Rattle.std.proofs.lemmas.List.Elements.{All-nil, All-cons}
@@ -9,10 +9,12 @@ use Rattle.mw_multi.specs.Placement.{Put}
 use Rattle.mw_reach.specs.Reach.{Placed}
 use Rattle.mw_spheres.specs.Spots.{placement_table, spot_at}
 use Rattle.mw_spheres.specs.Spheres.{AreSpheres, IsSpheres}
-use Rattle.mw_spheres.specs.Unmet.{IsFirstUnmet}
-use Rattle.mw_spheres.specs.Check.{Check, or_later, same_spot, compare_places, first_sphere, later_spheres, compare_spheres, Compares, IsChecked}
+use Rattle.mw_reach.specs.declared.lack.Lack.{Lack}
+use Rattle.mw_reach.specs.declared.lack.Lack.TheVariants.{Goal, Location as Spotted}
+use Rattle.mw_spheres.specs.Lacking.{IsFirstLack}
+use Rattle.mw_spheres.specs.Check.{Check, or_later, same_spot, compare_places, first_sphere, later_spheres, compare_spheres, refused_for, Compares, IsChecked}
 use Rattle.mw_spheres.specs.declared.refusal.CheckRefusal.{CheckRefusal}
-use Rattle.mw_spheres.specs.declared.refusal.CheckRefusal.TheVariants.{GoalMissed, Wrong, Missing, Memory}
+use Rattle.mw_spheres.specs.declared.refusal.CheckRefusal.TheVariants.{GoalMissed, LocationMissed, Wrong, Missing, Memory}
 
 -- ---- what is found
 
@@ -20,6 +22,7 @@ use Rattle.mw_spheres.specs.declared.refusal.CheckRefusal.TheVariants.{GoalMisse
 abbrev pub FindsPlace : Check → Type 0
 FindsPlace (Ok done) = Unit {0}
 FindsPlace (Err (GoalMissed slot)) = ⊥
+FindsPlace (Err (LocationMissed slot place)) = ⊥
 FindsPlace (Err (Wrong sphere place)) = Unit {0}
 FindsPlace (Err (Missing sphere place)) = Unit {0}
 FindsPlace (Err Memory) = ⊥
@@ -45,6 +48,7 @@ spheres_find sphere (c ∷ claimed) due = later_finds _ _ (places_find sphere c 
 checked_at : (joint : Joint) (puts : List Put) (claimed : List (List Spot)) (found : Check) → FindsPlace found → Compares joint puts claimed found → IsChecked joint puts claimed found
 checked_at joint puts claimed (Ok done) h c = c
 checked_at joint puts claimed (Err (GoalMissed slot)) h c = absurd h
+checked_at joint puts claimed (Err (LocationMissed slot place)) h c = absurd h
 checked_at joint puts claimed (Err (Wrong sphere place)) h c = c
 checked_at joint puts claimed (Err (Missing sphere place)) h c = c
 checked_at joint puts claimed (Err Memory) h c = absurd h
@@ -56,6 +60,11 @@ checked joint puts claimed found c = checked_at joint puts claimed found (subst 
 pub memory_checked : (joint : Joint) (puts : List Put) (claimed : List (List Spot)) (found : Check) → IsErrAnd found (λ e. e ≡ Memory) → IsChecked joint puts claimed found
 memory_checked joint puts claimed (Ok done) e = absurd e
 memory_checked joint puts claimed (Err refusal) e = subst (λ (r : CheckRefusal). IsChecked joint puts claimed (Err r)) (sym e) tt
+
+-- what a placement lacks is its refusal
+pub lack_checked : (joint : Joint) (puts : List Put) (claimed : List (List Spot)) (table : Placed) (lack : Lack) → table ≡ placement_table joint puts → IsFirstLack joint table (Some lack) → IsChecked joint puts claimed (Err (refused_for lack))
+lack_checked joint puts claimed table (Goal slot) same is = subst (λ t. IsFirstLack joint t (Some (Goal slot))) same is
+lack_checked joint puts claimed table (Spotted slot place) same is = subst (λ t. IsFirstLack joint t (Some (Spotted slot place))) same is
 
 -- ---- nothing is found where they are the same
 
@@ -105,9 +114,9 @@ ok_claims joint puts claimed (Err e) some c = tt
 
 -- the parts of the check, over a table of the placement
 pub compared : (joint : Joint) (puts : List Put) (claimed due : List (List Spot)) (table : Placed) (found : Check) → table ≡ placement_table joint puts
-    → IsFirstUnmet joint table None → AreSpheres joint table [] due → found ≡ compare_spheres 0 claimed due → Compares joint puts claimed found
-compared joint puts claimed due table found same goals spheres is = record {
-  goals = subst (λ t. IsFirstUnmet joint t None) same goals;
+    → IsFirstLack joint table None → AreSpheres joint table [] due → found ≡ compare_spheres 0 claimed due → Compares joint puts claimed found
+compared joint puts claimed due table found same nothing spheres is = record {
+  nothing = subst (λ t. IsFirstLack joint t None) same nothing;
   due = due;
   spheres = subst (λ t. AreSpheres joint t [] due) same spheres;
   is = is;

@@ -24,7 +24,7 @@ use Rattle.mw_reach.specs.Counts.{outside}
 use Rattle.mw_reach.specs.GoingOn.{IsFinished, HasMore, CountsFitWith}
 use Rattle.mw_reach.proofs.Found.{found-le}
 use Rattle.mw_reach.proofs.Items.{times_in-append}
-use Rattle.mw_reach.proofs.Placing.{placed-le}
+use Rattle.mw_reach.proofs.Placing.{numbers_placed-le, placed-le}
 use Rattle.mw_reach.proofs.Settling.{settled_alike}
 use Rattle.mw_reach.proofs.Walks.{replicate-false}
 use Rattle.mw_spheres.specs.Spots.{spot_place, spots_of, is_listed, table_of, holds_progression, items_at}
@@ -34,28 +34,28 @@ use Rattle.mw_spheres.specs.Gathering.{BagFits, Gathered, IsInHand}
 -- ---- tables
 
 -- a table of what stands at each place is the one table of it
-pub table_is : (slots : List Slot) (puts : List Put) (table : Placed) → IsPlaced slots puts table → table ≡ table_of slots puts
-table_is slots puts table placed =
-    same_lists table (table_of slots puts) (placed.size ∙ sym (length-map-range_with_len (standing slots puts) 0 (place_total slots)))
+pub table_is : (joint : Joint) (puts : List Put) (table : Placed) → IsPlaced joint puts table → table ≡ table_of joint puts
+table_is joint puts table placed =
+    same_lists table (table_of joint puts) (placed.size ∙ sym (length-map-range_with_len (standing joint puts) 0 (place_total joint.slots)))
     (λ k d h.
     get_or_default table k d [] h ∙ placed.entries k
-    ∙ sym (get_or-map-range_with_len (standing slots puts) 0 (place_total slots) k k d (omega (arith, placed.size)) (omega arith)))
+    ∙ sym (get_or-map-range_with_len (standing joint puts) 0 (place_total joint.slots) k k d (omega (arith, placed.size)) (omega arith)))
 
 -- a number of the table stands at its place
-pub table_entry : (slots : List Slot) (puts : List Put) (p : ℕ) → 0 < length (numbers_at (table_of slots puts) p) → 0 < length (standing slots puts p)
-table_entry slots puts p some = elim (cases_lt p (place_total slots)) [
-  | inl within ↦ omega (arith, ap length (get_or-map-range_with_len (standing slots puts) 0 (place_total slots) p p [] within (omega arith)))
-  | inr past ↦ absurd (omega (arith, ap length (get_or_past (table_of slots puts) p [] (omega (arith, length-map-range_with_len (standing slots puts) 0 (place_total slots))))))
+pub table_entry : (joint : Joint) (puts : List Put) (p : ℕ) → 0 < length (numbers_at (table_of joint puts) p) → 0 < length (standing joint puts p)
+table_entry joint puts p some = elim (cases_lt p (place_total joint.slots)) [
+  | inl within ↦ omega (arith, ap length (get_or-map-range_with_len (standing joint puts) 0 (place_total joint.slots) p p [] within (omega arith)))
+  | inr past ↦ absurd (omega (arith, ap length (get_or_past (table_of joint puts) p [] (omega (arith, length-map-range_with_len (standing joint puts) 0 (place_total joint.slots))))))
 ]
 
 -- where nothing stands nothing is found
-nothing_found : (slots : List Slot) (nothing : Placed) (w : Places) (i : ℕ) → IsPlaced slots [] nothing → found nothing w i ≡ 0
-nothing_found slots nothing w i placed = omega (arith, found-le 0 nothing w i, placed-le slots [] nothing placed)
+nothing_found : (joint : Joint) (nothing : Placed) (w : Places) (i : ℕ) → IsPlaced joint [] nothing → found nothing w i ≡ 0
+nothing_found joint nothing w i placed = omega (arith, found-le 0 nothing w i, numbers_placed-le joint [] nothing placed)
 
 -- a list that is least with a table of nothing is least with no table
-pub settled_without : (joint : Joint) (bag : List ℕ) (nothing : Placed) (done : List Bool) (counts : List ℕ) → IsPlaced joint.slots [] nothing → IsFinished (steps_of joint) (bag_of bag) nothing done counts → IsFinished (steps_of joint) (bag_of bag) [] done counts
+pub settled_without : (joint : Joint) (bag : List ℕ) (nothing : Placed) (done : List Bool) (counts : List ℕ) → IsPlaced joint [] nothing → IsFinished (steps_of joint) (bag_of bag) nothing done counts → IsFinished (steps_of joint) (bag_of bag) [] done counts
 settled_without joint bag nothing done counts placed settled =
-    settled_alike (steps_of joint) (bag_of bag) (bag_of bag) nothing [] done counts (λ v i. omega (arith, nothing_found joint.slots nothing v i placed)) settled
+    settled_alike (steps_of joint) (bag_of bag) (bag_of bag) nothing [] done counts (λ v i. omega (arith, nothing_found joint nothing v i placed)) settled
 
 -- ---- a slot's first place
 
@@ -129,16 +129,16 @@ items_within joint table fits (s ∷ spots) =
     rw (flat_map-cons (λ t. numbers_at table (spot_place joint.slots t)) s spots)
     (All-append (λ i. i < item_total joint.slots) (numbers_at table place) (items_at joint.slots table spots) (all_numbers joint table place fits) (items_within joint table fits spots))
 
-module _ (joint : Joint) (nothing table : Placed) (places : IsPlaced joint.slots [] nothing) (bag later items : List ℕ) (counted : (i : ℕ) → bag_of later i ≡ bag_of bag i + times_in i items) where
+module _ (joint : Joint) (nothing table : Placed) (places : IsPlaced joint [] nothing) (bag later items : List ℕ) (counted : (i : ℕ) → bag_of later i ≡ bag_of bag i + times_in i items) where
   pub has_more : (w : Places) → HasMore (bag_of bag) (bag_of later) [] nothing w items
   has_more w = record {
-    counts = λ i. omega (arith, counted i, nothing_found joint.slots nothing w i places);
+    counts = λ i. omega (arith, counted i, nothing_found joint nothing w i places);
     grows = λ v i. omega (arith, counted i);
   }
 
   pub room_for : (taken done : List Bool) (counts : List ℕ) → IsFinished (steps_of joint) (bag_of bag) [] done counts → BagFits table taken later → CountsFitWith items nothing done counts
   room_for taken done counts settled room i =
-      omega (arith, settled.tally i, counted i, room.room i, nothing_found joint.slots nothing (outside done) i places)
+      omega (arith, settled.tally i, counted i, room.room i, nothing_found joint nothing (outside done) i places)
 
 -- ---- at first
 
@@ -148,7 +148,7 @@ first_hand joint table n taken bag none start = record {
   counts = λ i. omega (arith, start.counts i);
 }
 
-pub first_room : (joint : Joint) (table : Placed) (taken : List Bool) (bag : List ℕ) → IsJoint joint → IsPlacedFor joint table → sum_by length table ≤ 400000 → taken ≡ replicate (place_total joint.slots) false
+pub first_room : (joint : Joint) (table : Placed) (taken : List Bool) (bag : List ℕ) → IsJoint joint → IsPlacedFor joint table → sum_by length table ≤ 409600000 → taken ≡ replicate (place_total joint.slots) false
     → IsBagOf joint.slots (start_count joint.slots) bag → BagFits table taken bag
 first_room joint table taken bag kept placed few none start = record {
   size = ap length none ∙ length-replicate (place_total joint.slots) false ∙ sym placed.size;
@@ -156,8 +156,8 @@ first_room joint table taken bag kept placed few none start = record {
   room = λ i. omega (arith, start.counts i, start_bound joint.slots i kept.each, kept.few, found-le 0 table (outside taken) i);
 }
 
-pub few_numbers : (joint : Joint) (puts : List Put) (table : Placed) → IsJoint joint → IsPlacement joint puts → IsPlaced joint.slots (with_events joint puts) table → sum_by length table ≤ 400000
-few_numbers joint puts table kept placement placed = omega (arith, placed-le joint.slots (with_events joint puts) table placed, with_events_are_few joint puts kept placement)
+pub few_numbers : (joint : Joint) (puts : List Put) (table : Placed) → IsJoint joint → IsPlacement joint puts → IsPlaced joint (with_events joint puts) table → sum_by length table ≤ 409600000
+few_numbers joint puts table kept placement placed = omega (arith, placed-le joint kept (with_events joint puts) table placed, with_events_are_few joint puts kept placement)
 
 -- ---- sphere after sphere
 

@@ -18,38 +18,38 @@ use Rattle.mw_spheres.specs.Spots.{spot_at, spot_place, place_in, slot_spots, sp
 -- ---- what is put is put at locations
 
 events_among_kept : (j : Joint) (number : ℕ) (s : Slot) (i : ℕ) (rest : List Location) → IsJoint j → slot_at j.slots number ≡ Some s
-    → ((k : ℕ) (l : Location) → slice_get rest k ≡ Some l → slice_get s.world.locations (i + k) ≡ Some l) → All (PutKept j.slots) (events_among number (location_place s i) rest)
-events_among_kept j number s i [] kept at there = All-nil (PutKept j.slots)
+    → ((k : ℕ) (l : Location) → slice_get rest k ≡ Some l → slice_get s.world.locations (i + k) ≡ Some l) → All (PutKept j) (events_among number (location_place s i) rest)
+events_among_kept j number s i [] kept at there = All-nil (PutKept j)
 events_among_kept j number s i (l ∷ rest) kept at there =
     let here : i + 0 ≡ i = omega arith in
     let next : location_place s (suc i) ≡ suc (location_place s i) = omega arith in
-    All-append (PutKept j.slots) (event_at number (location_place s i) l.event) (events_among number (suc (location_place s i)) rest)
+    All-append (PutKept j) (event_at number (location_place s i) l.event) (events_among number (suc (location_place s i)) rest)
     (events_kept j number s i l l.event (location_place s i) kept at (ap (slice_get s.world.locations) (sym here) ∙ there 0 l refl) refl refl)
-    (subst (λ p. All (PutKept j.slots) (events_among number p rest)) next
+    (subst (λ p. All (PutKept j) (events_among number p rest)) next
     (events_among_kept j number s (suc i) rest kept at (λ k m e. let up : suc i + k ≡ i + suc k = omega arith in ap (slice_get s.world.locations) up ∙ there (suc k) m e)))
 
-events_from_kept : (j : Joint) (n : ℕ) (rest : List Slot) → IsJoint j → ((k : ℕ) (s : Slot) → slice_get rest k ≡ Some s → slice_get j.slots (n + k) ≡ Some s) → All (PutKept j.slots) (events_from (suc n) rest)
-events_from_kept j n [] kept there = All-nil (PutKept j.slots)
+events_from_kept : (j : Joint) (n : ℕ) (rest : List Slot) → IsJoint j → ((k : ℕ) (s : Slot) → slice_get rest k ≡ Some s → slice_get j.slots (n + k) ≡ Some s) → All (PutKept j) (events_from (suc n) rest)
+events_from_kept j n [] kept there = All-nil (PutKept j)
 events_from_kept j n (s ∷ rest) kept there =
     let here : n + 0 ≡ n = omega arith in
-    All-append (PutKept j.slots) (slot_events (suc n) s) (events_from (suc (suc n)) rest)
+    All-append (PutKept j) (slot_events (suc n) s) (events_from (suc (suc n)) rest)
     (events_among_kept j (suc n) s 0 s.world.locations kept (ap (slice_get j.slots) (sym here) ∙ there 0 s refl) (λ k l e. let at : 0 + k ≡ k = omega arith in ap (slice_get s.world.locations) at ∙ e))
     (events_from_kept j (suc n) rest kept (λ k t e. let up : suc n + k ≡ n + suc k = omega arith in ap (slice_get j.slots) up ∙ there (suc k) t e))
 
-pub with_events_kept : (j : Joint) (puts : List Put) → IsJoint j → IsPlacement j puts → All (PutKept j.slots) (with_events j puts)
+pub with_events_kept : (j : Joint) (puts : List Put) → IsJoint j → IsPlacement j puts → All (PutKept j) (with_events j puts)
 with_events_kept j puts kept placement =
-    All-append (PutKept j.slots) (events_of j) (filter (is_at_no_event j.slots) puts)
+    All-append (PutKept j) (events_of j) (filter (is_at_no_event j.slots) puts)
     (events_from_kept j 0 j.slots kept (λ k s e. let at : 0 + k ≡ k = omega arith in ap (slice_get j.slots) at ∙ e))
-    (All-filter (is_at_no_event j.slots) (PutKept j.slots) puts placement.each)
+    (All-filter (is_at_no_event j.slots) (PutKept j) puts placement.each)
 
 -- where a number stands something is put
-pub stands_somewhere : (slots : List Slot) (puts : List Put) (p : ℕ) → All (PutKept slots) puts → 0 < length (standing slots puts p) → is_some (site_at slots p) ≡ true
-stands_somewhere slots [] p kept h = absurd (omega arith)
-stands_somewhere slots (q ∷ puts) p kept h = elim (cases_Bool (eqb q.place p)) [
-  | inl here ↦ ap (λ k. is_some (site_at slots k)) (sym (eqb-true q.place p here)) ∙ (kept 0 q (omega arith)).place
+pub stands_somewhere : (joint : Joint) (puts : List Put) (p : ℕ) → All (PutKept joint) puts → 0 < length (standing joint puts p) → is_some (site_at joint.slots p) ≡ true
+stands_somewhere joint [] p kept h = absurd (omega arith)
+stands_somewhere joint (q ∷ puts) p kept h = elim (cases_Bool (eqb q.place p)) [
+  | inl here ↦ ap (λ k. is_some (site_at joint.slots k)) (sym (eqb-true q.place p here)) ∙ (kept 0 q (omega arith)).place
   | inr other ↦
-      let rest : standing slots (q ∷ puts) p ≡ standing slots puts p = ap (λ b. flat_map (put_numbers slots) (cond b (q ∷ filter (stands_at p) puts) (filter (stands_at p) puts))) other in
-      stands_somewhere slots puts p (λ i d l. kept (suc i) d (omega arith)) (omega (arith, ap length rest))
+      let rest : standing joint (q ∷ puts) p ≡ standing joint puts p = ap (λ b. flat_map (put_numbers joint) (cond b (q ∷ filter (stands_at p) puts) (filter (stands_at p) puts))) other in
+      stands_somewhere joint puts p (λ i d l. kept (suc i) d (omega arith)) (omega (arith, ap length rest))
 ]
 
 -- ---- a location's place has its spot

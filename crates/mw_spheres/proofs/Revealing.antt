@@ -8,7 +8,7 @@ use Rattle.std.proofs.lemmas.List.Folds.{list_any-append}
 use Rattle.std.proofs.lemmas.List.Sums.{sum_by-cons}
 use Rattle.mw_rules.specs.Holds.{Bag, Places, places_of}
 use Rattle.mw_rules.specs.Names.{is_among}
-use Rattle.mw_multi.specs.Joint.{Slot, place_total}
+use Rattle.mw_multi.specs.Joint.{Joint, place_total}
 use Rattle.mw_multi.specs.Placement.{numbers_at, IsPlaced}
 use Rattle.mw_reach.specs.Reach.{Placed, times_in, found}
 use Rattle.mw_reach.specs.GoingOn.{HasMore}
@@ -217,6 +217,6 @@ table_hidden first last places full before table l is size out =
 
 -- ---- at first
 
-pub nothing_shown : (slots : List Slot) (full table : Placed) (shown : List Bool) (n : ℕ) → shown ≡ replicate n false → IsPlaced slots [] table → length full ≡ place_total slots → table ≡ only shown full
-nothing_shown slots full table shown n none placed size =
+pub nothing_shown : (joint : Joint) (full table : Placed) (shown : List Bool) (n : ℕ) → shown ≡ replicate n false → IsPlaced joint [] table → length full ≡ place_total joint.slots → table ≡ only shown full
+nothing_shown joint full table shown n none placed size =
     only-from shown full table (placed.size ∙ sym size) (λ p. placed.entries p ∙ sym (ap (λ b. if b then numbers_at full p else []) (ap (λ flags. places_of flags p) none ∙ replicate-false n p)))

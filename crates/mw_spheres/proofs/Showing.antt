@@ -14,13 +14,13 @@ use Rattle.mw_multi.specs.Events.{with_events}
 use Rattle.mw_multi.specs.Placement.{Put, IsPlacement, numbers_at, standing}
 use Rattle.mw_multi.specs.Steps.{steps_of}
 use Rattle.mw_reach.specs.Reach.{Placed, times_in, found, found_from, bag_with}
-use Rattle.mw_reach.specs.Goals.{IsBeatable}
-use Rattle.mw_reach.proofs.Beating.{goals_more}
+use Rattle.mw_reach.specs.Required.{IsBeatable}
 use Rattle.mw_reach.proofs.Found.{Adds, found-Adds, found_more}
 use Rattle.mw_reach.proofs.Items.{times_in-append}
+use Rattle.mw_reach.proofs.Requiring.{required_more}
 use Rattle.mw_reach.proofs.SameLeast.{Closed-less}
 use Rattle.mw_spheres.specs.Spots.{spot_place, spots_of, is_listed, placement_table, holds_progression, items_at}
-use Rattle.mw_spheres.specs.Spheres.{hand_of, is_due, IsSphere, AreSpheres, listed, ShowsGoals}
+use Rattle.mw_spheres.specs.Spheres.{hand_of, is_due, IsSphere, AreSpheres, listed, ShowsRequired}
 use Rattle.mw_spheres.specs.Laws.{SpheresShow}
 use Rattle.mw_spheres.proofs.Reaching.{spot_there, stands_somewhere, with_events_kept}
 use Rattle.mw_spheres.proofs.Hand.{table_entry}
@@ -128,8 +128,8 @@ module _ (joint : Joint) (puts : List Put) (kept : IsJoint joint) (placement : I
 
   covers : (p : ℕ) → last.reached p ≡ true → 0 < length (numbers_at table p) → is_listed joint.slots spots p ≡ true
   covers p reached some =
-      let stands : 0 < length (standing joint.slots (with_events joint puts) p) = table_entry joint.slots (with_events joint puts) p some in
-      let site = stands_somewhere joint.slots (with_events joint puts) p (with_events_kept joint puts kept placement) stands in
+      let stands : 0 < length (standing joint (with_events joint puts) p) = table_entry joint (with_events joint puts) p some in
+      let site = stands_somewhere joint (with_events joint puts) p (with_events_kept joint puts kept placement) stands in
       let there = spot_there joint (λ s. is_due joint.slots table last.reached (is_listed joint.slots spots) s ≡ false) p kept
       (none_passes (is_due joint.slots table last.reached (is_listed joint.slots spots)) (spots_of joint) last.due) site in
       undue (last.reached p) (holds_progression table p) (is_listed joint.slots spots p)
@@ -138,15 +138,15 @@ module _ (joint : Joint) (puts : List Put) (kept : IsJoint joint) (placement : I
   no_less : HasNoLess (bag_with (start_count joint.slots) table last.reached) (bag_with (hand_of joint table spots) [] last.reached)
   no_less i = omega (arith, found_listed joint.slots table spots last.reached i covers)
 
-  pub shown : IsBeatable joint table → ShowsGoals joint table spots
+  pub shown : IsBeatable joint table → ShowsRequired joint table spots
   shown beatable =
       let start = start_count joint.slots in
       let w = last.reached in
-      let goals = beatable w (Closed-less (steps_of joint) start (hand_of joint table spots) table [] w no_less last.least.closed) in
+      let there = beatable w (Closed-less (steps_of joint) start (hand_of joint table spots) table [] w no_less last.least.closed) in
       record {
         reached = w;
         least = last.least;
-        goals = goals_more joint (bag_with start table w) (hand_of joint table spots) w w (λ i. omega (arith, no_less i)) (λ p e. e) goals;
+        required = required_more joint (bag_with start table w) (hand_of joint table spots) w w (λ i. omega (arith, no_less i)) (λ p e. e) there;
       }
 
 pub spheres_show : SpheresShow

@@ -15,8 +15,8 @@ use Rattle.mw_multi.specs.Bags.{start_count}
 use Rattle.mw_multi.specs.Placement.{Put, numbers_at}
 use Rattle.mw_multi.specs.Steps.{steps_of}
 use Rattle.mw_reach.specs.Reach.{Placed, times_in, found_from, bag_with}
-use Rattle.mw_reach.specs.Goals.{IsBeatable}
-use Rattle.mw_reach.proofs.Beating.{goals_more, least_of_beatable}
+use Rattle.mw_reach.specs.Goals.{MeetsGoals}
+use Rattle.mw_reach.proofs.Beating.{goals_more, least_of_met}
 use Rattle.mw_reach.proofs.SameLeast.{Closed-less}
 use Rattle.mw_spheres.specs.Spots.{spot_place, is_listed, placement_table}
 use Rattle.mw_spheres.specs.Spheres.{listed}
@@ -41,19 +41,19 @@ found_at_more k (x ∷ xs) [] w i h = omega (arith, cond_more (w k) (times_in i 
 found_at_more k (x ∷ xs) (y ∷ ys) w i h = omega (arith, cond_more (w k) (times_in i x) (times_in i y) (h 0), found_at_more (suc k) xs ys w i (λ j. h (suc j)))
 
 -- what is enough to beat the goals stays enough with more
-beatable_more : (joint : Joint) (a b : Placed) → ((i j : ℕ) → times_in i (numbers_at a j) ≤ times_in i (numbers_at b j)) → IsBeatable joint a → IsBeatable joint b
-beatable_more joint a b h beatable w closed =
+meets_more : (joint : Joint) (a b : Placed) → ((i j : ℕ) → times_in i (numbers_at a j) ≤ times_in i (numbers_at b j)) → MeetsGoals joint a → MeetsGoals joint b
+meets_more joint a b h meets w closed =
     let start = start_count joint.slots in
     let more : HasNoLess (bag_with start a w) (bag_with start b w) = λ i. omega (arith, found_at_more 0 a b w i (h i)) in
-    goals_more joint (bag_with start a w) (bag_with start b w) w w more (λ p e. e) (beatable w (Closed-less (steps_of joint) start start a b w more closed))
+    goals_more joint (bag_with start a w) (bag_with start b w) w w more (λ p e. e) (meets w (Closed-less (steps_of joint) start start a b w more closed))
 
 kept_more : (i : ℕ) (a b : Bool) (xs : List ℕ) → (a ≡ true → b ≡ true) → times_in i (if a then xs else []) ≤ times_in i (if b then xs else [])
 kept_more i true b xs h = rw (h refl) (omega arith)
 kept_more i false b xs h = omega arith
 
-only_more : (joint : Joint) (table : Placed) (a b : List Bool) → ((p : ℕ) → places_of a p ≡ true → places_of b p ≡ true) → IsBeatable joint (only a table) → IsBeatable joint (only b table)
+only_more : (joint : Joint) (table : Placed) (a b : List Bool) → ((p : ℕ) → places_of a p ≡ true → places_of b p ≡ true) → MeetsGoals joint (only a table) → MeetsGoals joint (only b table)
 only_more joint table a b h =
-    beatable_more joint (only a table) (only b table)
+    meets_more joint (only a table) (only b table)
     (λ i j. rw (only-at a table j, only-at b table j) (kept_more i (places_of a j) (places_of b j) (numbers_at table j) (h j)))
 
 -- ---- kept places
@@ -83,17 +83,17 @@ set_more a b p h q e =
     get_or-set_other b p q false false parts.0 ∙ h q parts.1
 
 needed_here : (joint : Joint) (table : Placed) (slot : Option ℕ) (mid : List Bool) (p : ℕ) → IsFirstUnmet joint (only (set mid p false) table) slot → places_of (after slot mid p) p ≡ true
-    → IsBeatable joint (only (set (after slot mid p) p false) table) → ⊥
-needed_here joint table None mid p unmet e beatable = (set_false mid p p e).0 refl
-needed_here joint table (Some s) mid p unmet e beatable =
-    let none = least_of_beatable joint (only (set mid p false) table) unmet.reached unmet.least beatable in
+    → MeetsGoals joint (only (set (after slot mid p) p false) table) → ⊥
+needed_here joint table None mid p unmet e meets = (set_false mid p p e).0 refl
+needed_here joint table (Some s) mid p unmet e meets =
+    let none = least_of_met joint (only (set mid p false) table) unmet.reached unmet.least meets in
     let differ : Some s ≡ None = unmet.unmet ∙ none in cc
 
 -- each kept place that was asked is needed
 needed : (joint : Joint) (table : Placed) (places : List ℕ) (first kept : List Bool) (p : ℕ) → IsThinned joint table places first kept → is_among places p ≡ true → places_of kept p ≡ true
-    → IsBeatable joint (only (set kept p false) table) → ⊥
-needed joint table [] first kept p t among e beatable = true≢false (sym among)
-needed joint table (q ∷ places) first kept p t among e beatable =
+    → MeetsGoals joint (only (set kept p false) table) → ⊥
+needed joint table [] first kept p t among e meets = true≢false (sym among)
+needed joint table (q ∷ places) first kept p t among e meets =
     let asked = t.2 in
     let still : places_of (after asked.slot t.0 q) p ≡ true = ap (λ ks. places_of ks p) (sym asked.is) ∙ e in
     elim (or_cases (eqb q p) (is_among places p) among) [
@@ -102,10 +102,10 @@ needed joint table (q ∷ places) first kept p t among e beatable =
           needed_here joint table asked.slot t.0 p
           (subst (λ k. IsFirstUnmet joint (only (set t.0 k false) table) asked.slot) same asked.unmet)
           (subst (λ k. places_of (after asked.slot t.0 k) p ≡ true) same still)
-          (subst (λ k. IsBeatable joint (only (set (after asked.slot t.0 k) p false) table)) same (subst (λ ks. IsBeatable joint (only (set ks p false) table)) asked.is beatable))
+          (subst (λ k. MeetsGoals joint (only (set (after asked.slot t.0 k) p false) table)) same (subst (λ ks. MeetsGoals joint (only (set ks p false) table)) asked.is meets))
       | inr later ↦
           needed joint table places first t.0 p t.1 later (after_shrinks asked.slot t.0 q p still)
-          (only_more joint table (set kept p false) (set t.0 p false) (set_more kept t.0 p (λ r k. after_shrinks asked.slot t.0 q r (ap (λ ks. places_of ks r) (sym asked.is) ∙ k))) beatable)
+          (only_more joint table (set kept p false) (set t.0 p false) (set_more kept t.0 p (λ r k. after_shrinks asked.slot t.0 q r (ap (λ ks. places_of ks r) (sym asked.is) ∙ k))) meets)
     ]
 
 -- ---- entries
@@ -144,7 +144,7 @@ not_there : (p place : ℕ) → not (eqb p place) ≡ true → p ≢ place
 not_there p place e same = let equal = (Decides-eqb p place).1 same in cc
 
 pub none_to_spare : (joint : Joint) (puts : List Put) (spheres played : List (List Spot)) → IsPlaythrough joint puts spheres played → NoneToSpare joint puts played
-none_to_spare joint puts spheres played is = λ i d h beatable.
+none_to_spare joint puts spheres played is = λ i d h meets.
     let slots = joint.slots in
     let table = placement_table joint puts in
     let spot = get_or (listed played) i d in
@@ -158,6 +158,6 @@ none_to_spare joint puts spheres played is = λ i d h beatable.
     let parts = and_parts (is_listed slots (listed played) q) (not (eqb q p)) e in
     get_or-set_other is.kept p q false false (not_there q p parts.1) ∙ kept_entries slots is.kept (listed played) q all_kept parts.0 in
     needed joint table places is.first is.kept p is.thinned among kept
-    (beatable_more joint (others slots table (listed played) p) (only (set is.kept p false) table)
+    (meets_more joint (others slots table (listed played) p) (only (set is.kept p false) table)
     (λ j q. rw (others-at slots table (listed played) p q, only-at (set is.kept p false) table q)
-    (kept_more j (is_listed slots (listed played) q && not (eqb q p)) (places_of (set is.kept p false) q) (numbers_at table q) (stay q))) beatable)
+    (kept_more j (is_listed slots (listed played) q && not (eqb q p)) (places_of (set is.kept p false) q) (numbers_at table q) (stay q))) meets)

@@ -5,9 +5,11 @@ use Rattle.mw_multi.specs.Joint.{Joint}
 use Rattle.mw_multi.specs.Placement.{Put}
 use Rattle.mw_spheres.specs.Spots.{placement_table}
 use Rattle.mw_spheres.specs.Spheres.{IsSpheres}
-use Rattle.mw_spheres.specs.Unmet.{IsFirstUnmet}
+use Rattle.mw_reach.specs.declared.lack.Lack.{Lack}
+use Rattle.mw_reach.specs.declared.lack.Lack.TheVariants.{Goal, Location as Spotted}
+use Rattle.mw_spheres.specs.Lacking.{IsFirstLack}
 use Rattle.mw_spheres.specs.declared.refusal.CheckRefusal.{CheckRefusal}
-use Rattle.mw_spheres.specs.declared.refusal.CheckRefusal.TheVariants.{GoalMissed, Wrong, Missing, Memory}
+use Rattle.mw_spheres.specs.declared.refusal.CheckRefusal.TheVariants.{GoalMissed, LocationMissed, Wrong, Missing, Memory}
 
 -- nothing to refuse, or the first refusal
 abbrev pub Check : Type 0
@@ -44,10 +46,16 @@ compare_spheres sphere (c ∷ claimed) due =
     or_later (compare_places sphere c (first_sphere due))
     (compare_spheres (suc sphere) claimed (later_spheres due))
 
--- each goal holds, and this is found where the claimed spheres are compared with those of the placement
+-- a goal or a location that is missed
+abbrev pub refused_for : Lack → CheckRefusal
+refused_for (Goal slot) = GoalMissed slot
+refused_for (Spotted slot place) = LocationMissed slot place
+
+-- nothing is lacking, and this is found where the claimed spheres are compared with those of the
+-- placement
 pub record Compares (joint : Joint) (puts : List Put) (claimed : List (List Spot))
     (found : Check) : Type 0 where
-  pub goals : IsFirstUnmet joint (placement_table joint puts) None
+  pub nothing : IsFirstLack joint (placement_table joint puts) None
   pub due : List (List Spot)
   pub spheres : IsSpheres joint puts due
   pub is : found ≡ compare_spheres 0 claimed due
@@ -56,7 +64,9 @@ pub record Compares (joint : Joint) (puts : List Put) (claimed : List (List Spot
 abbrev pub IsChecked : Joint → List Put → List (List Spot) → Check → Type 0
 IsChecked joint puts claimed (Ok done) = Compares joint puts claimed (Ok done)
 IsChecked joint puts claimed (Err (GoalMissed slot)) =
-    IsFirstUnmet joint (placement_table joint puts) (Some slot)
+    IsFirstLack joint (placement_table joint puts) (Some (Goal slot))
+IsChecked joint puts claimed (Err (LocationMissed slot place)) =
+    IsFirstLack joint (placement_table joint puts) (Some (Spotted slot place))
 IsChecked joint puts claimed (Err (Wrong sphere place)) =
     Compares joint puts claimed (Err (Wrong sphere place))
 IsChecked joint puts claimed (Err (Missing sphere place)) =

@@ -3,7 +3,7 @@ use Rattle.std.specs.Prelude.{◌≡◌, List}
 use Rattle.mw_model.specs.Seed.{Spot}
 use Rattle.mw_multi.specs.Joint.{Joint, IsJoint}
 use Rattle.mw_multi.specs.Placement.{Put, IsPlacement}
-use Rattle.mw_reach.specs.Goals.{IsBeatable}
+use Rattle.mw_reach.specs.Required.{IsBeatable}
 use Rattle.mw_spheres.specs.Spots.{placement_table}
 use Rattle.mw_spheres.specs.Spheres.{IsSpheres, Shows}
 use Rattle.mw_spheres.specs.Playthrough.{IsPlaythrough}
@@ -14,7 +14,7 @@ SpheresAreOne =
     (joint : Joint) (puts : List Put) (a b : List (List Spot)) → IsSpheres joint puts a
     → IsSpheres joint puts b → a ≡ b
 
--- the spheres of a placement that can be beaten show that each goal is reached
+-- the spheres of a placement that can be beaten show it
 abbrev pub SpheresShow : Type 0
 SpheresShow =
     (joint : Joint) (puts : List Put) (spheres : List (List Spot)) → IsJoint joint

@@ -3,6 +3,7 @@ pub mod Spheres
 pub mod Gathering
 pub mod Thinning
 pub mod Unmet
+pub mod Lacking
 pub mod Check
 pub mod Playthrough
 pub mod Laws

@@ -6,7 +6,7 @@ use Rattle.mw_rules.specs.Holds.{places_of}
 use Rattle.mw_multi.specs.Joint.{Slot, Joint, place_total}
 use Rattle.mw_multi.specs.Placement.{Put, numbers_at}
 use Rattle.mw_reach.specs.Reach.{Placed}
-use Rattle.mw_reach.specs.Goals.{IsBeatable}
+use Rattle.mw_reach.specs.Goals.{MeetsGoals}
 use Rattle.mw_spheres.specs.Spots.{spot_place, is_listed, placement_table}
 use Rattle.mw_spheres.specs.Spheres.{listed}
 use Rattle.mw_spheres.specs.Unmet.{IsFirstUnmet}
@@ -67,6 +67,6 @@ others slots table entries place =
 -- without any one of the entries the others alone leave a goal unmet
 abbrev pub NoneToSpare : Joint → List Put → List (List Spot) → Type 0
 NoneToSpare joint puts played =
-    All (λ spot. IsBeatable joint
+    All (λ spot. MeetsGoals joint
     (others joint.slots (placement_table joint puts) (listed played) (spot_place joint.slots spot))
     → ⊥) (listed played)

@@ -7,7 +7,7 @@ use Rattle.mw_multi.specs.Bags.{start_count}
 use Rattle.mw_multi.specs.Placement.{Put}
 use Rattle.mw_multi.specs.Steps.{steps_of}
 use Rattle.mw_reach.specs.Reach.{Placed, times_in, IsLeast}
-use Rattle.mw_reach.specs.Goals.{GoalsHold}
+use Rattle.mw_reach.specs.Required.{Required}
 use Rattle.mw_spheres.specs.Spots.{spot_place, spots_of, is_listed, placement_table, holds_progression, items_at}
 
 -- the starting items, and what stands at these locations
@@ -44,12 +44,13 @@ IsSpheres joint puts spheres = AreSpheres joint (placement_table joint puts) [] 
 abbrev pub listed : List (List Spot) → List Spot
 listed spheres = flat_map (λ sphere. sphere) spheres
 
--- each goal holds in the least list for the starting items and what stands at these locations, with nothing found on the way
-pub record ShowsGoals (joint : Joint) (table : Placed) (spots : List Spot) : Type 0 where
+-- all is as required in the least list for the starting items and what stands at these locations,
+-- with nothing found on the way
+pub record ShowsRequired (joint : Joint) (table : Placed) (spots : List Spot) : Type 0 where
   pub reached : Places
   pub least : IsLeast (steps_of joint) (hand_of joint table spots) [] reached
-  pub goals : GoalsHold joint (hand_of joint table spots) reached
+  pub required : Required joint (hand_of joint table spots) reached
 
 -- the same of all locations in spheres of a placement
 abbrev pub Shows : Joint → List Put → List (List Spot) → Type 0
-Shows joint puts spheres = ShowsGoals joint (placement_table joint puts) (listed spheres)
+Shows joint puts spheres = ShowsRequired joint (placement_table joint puts) (listed spheres)

@@ -46,12 +46,12 @@ is_listed slots spots p = is_among (map (spot_place slots) spots) p
 -- ---- what stands there
 
 -- the numbers of the progression items at each place
-abbrev pub table_of : List Slot → List Put → Placed
-table_of slots puts = map (standing slots puts) (range_with_len 0 (place_total slots))
+abbrev pub table_of : Joint → List Put → Placed
+table_of joint puts = map (standing joint puts) (range_with_len 0 (place_total joint.slots))
 
 -- the same of a placement with the events
 abbrev pub placement_table : Joint → List Put → Placed
-placement_table joint puts = table_of joint.slots (with_events joint puts)
+placement_table joint puts = table_of joint (with_events joint puts)
 
 -- a progression item stands at the place
 abbrev pub holds_progression : Placed → ℕ → Bool

@@ -4,13 +4,13 @@ ghost use Rattle.mw_spheres.specs.Spheres.{IsSpheres};
 ghost use Rattle.mw_spheres.specs.Check as plain;
 ghost use Rattle.mw_spheres.specs.Check.{same_spot, IsChecked};
 
+use crate::lacking::lack_of;
 use crate::refusal::CheckRefusal;
 use crate::sphere::spheres_of;
 use crate::table::table_for;
-use crate::unmet::first_unmet;
 use mw_base::{List, SphereList, Spot};
 use mw_multi::{Bag, Joint, Placement};
-use mw_reach::Reached;
+use mw_reach::{Lack, Reached};
 use std::alloc::Global;
 
 /// Whether two spots are of one location.
@@ -58,10 +58,12 @@ fn compare_spheres(claimed: &[List<Spot>], due: &[List<Spot>]) -> Result<(), Che
     compare_places(claimed.len() as u64, &[], sphere_at(due, claimed.len()))
 }
 
-/// Checks that each slot's goal is reached, with the starting items and the placement with the joint's events, and that the
-/// claimed spheres are those of the placement. `GoalMissed` is judged first. Then the spheres are compared from the first,
-/// place by place: `Wrong` at the first claimed place that isn't the one due there, also one that no table has, and
-/// `Missing` at the first due place that the claimed list lacks. `Memory` where memory ran out.
+/// Checks that each slot's goal is reached, and each location of each slot that wants all of its
+/// world, with the starting items and the placement with the joint's events, and that the claimed
+/// spheres are those of the placement. `GoalMissed` is judged first, then `LocationMissed`. Then
+/// the spheres are compared from the first, place by place: `Wrong` at the first claimed place that
+/// isn't the one due there, also one that no table has, and `Missing` at the first due place that
+/// the claimed list lacks. `Memory` where memory ran out.
 pub fn check_spheres(
     alloc: Global,
     joint: &Joint,
@@ -76,8 +78,8 @@ pub fn check_spheres(
     let table = table_for(alloc, joint, placement)?;
     let start = Bag::starting(alloc, joint)?;
     let mut reached = Reached::new(alloc, joint)?;
-    if let Some(slot) = first_unmet(joint, &start, &table, &mut reached) {
-        return Err(CheckRefusal::GoalMissed { slot });
+    if let Some(lack) = lack_of(joint, &start, &table, &mut reached) {
+        return Err(CheckRefusal::of(lack));
     }
     let due = spheres_of(alloc, joint, &table, &mut reached)?;
     compare_spheres(claimed.as_slice(), due.as_slice())

@@ -6,8 +6,9 @@ pub fn spheres_are_one()
     ensures { SpheresAreOne }
 {}
 
-/// The spheres of a placement that can be beaten show that each goal is reached: it holds with the starting items and what
-/// their locations hold, with nothing found on the way.
+/// The spheres of a placement that can be beaten show it: with the starting items and what their
+/// locations hold, and with nothing found on the way, each goal holds, and each location is reached
+/// of each slot that wants all of its world.
 pub fn spheres_show()
     ensures { SpheresShow }
 {}

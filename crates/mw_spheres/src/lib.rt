@@ -3,6 +3,7 @@
 
 mod check;
 mod gather;
+mod lacking;
 mod laws;
 mod place;
 mod played;
@@ -11,7 +12,6 @@ mod shown;
 mod sphere;
 mod table;
 mod thin;
-mod unmet;
 
 pub use check::check_spheres;
 pub use laws::{playthroughs_are_one, spheres_are_one, spheres_show};

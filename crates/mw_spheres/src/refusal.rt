@@ -1,6 +1,8 @@
 ghost use Rattle.std.specs.Prelude.{◌≡◌};
+ghost use Rattle.mw_spheres.specs.Check.{refused_for};
 
 use mw_base::{Memory, Spot};
+use mw_reach::Lack;
 use thiserror::Error;
 
 /// Why claimed spheres aren't those of a placement, in the order of judging.
@@ -11,6 +13,14 @@ pub enum CheckRefusal {
     GoalMissed {
         /// The first such slot's number, from 1.
         slot: u16,
+    },
+    /// The placement doesn't reach a location of a slot that wants all of its world.
+    #[error("location {place} of slot {slot}")]
+    LocationMissed {
+        /// The first such slot's number, from 1.
+        slot: u16,
+        /// The first such location's index in its world's table.
+        place: u32,
     },
     /// A claimed location isn't the one that is due there.
     #[error("wrong in sphere {sphere}")]
@@ -40,5 +50,17 @@ impl From<Memory> for CheckRefusal {
 
     fn from(_error: Memory) -> Self {
         CheckRefusal::Memory
+    }
+}
+
+impl CheckRefusal {
+    /// The refusal for what is lacking.
+    pub(crate) fn of(lack: Lack) -> CheckRefusal
+        ensures { result ≡ refused_for lack }
+    {
+        match lack {
+            Lack::Goal { slot } => CheckRefusal::GoalMissed { slot },
+            Lack::Location { slot, place } => CheckRefusal::LocationMissed { slot, place },
+        }
     }
 }

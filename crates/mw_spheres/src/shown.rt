@@ -68,7 +68,7 @@ fn put_one(
 ) -> Result<(), Memory>
     requires place { place < length table.old }
     requires sizes { (length full.now ≡ length table.old) × (length shown.now ≡ length table.old) }
-    requires few { sum_by length full.now ≤ 400000 }
+    requires few { sum_by length full.now ≤ 409600000 }
     requires fewer { HasFewer table.old full.now }
     ensures size { length table.new ≡ length table.old }
     ensures fewer { HasFewer table.new full.now }
@@ -104,7 +104,7 @@ fn put_shown(
 ) -> Result<List<u32>, Memory>
     requires places { All (λ p. p < length table.old) places.now }
     requires sizes { (length full.now ≡ length table.old) × (length shown.now ≡ length table.old) }
-    requires few { sum_by length full.now ≤ 400000 }
+    requires few { sum_by length full.now ≤ 409600000 }
     requires fewer { HasFewer table.old full.now }
     ensures size { length table.new ≡ length table.old }
     ensures fewer { HasFewer table.new full.now }
@@ -135,7 +135,7 @@ pub(crate) fn reveal(
     reached: &mut Reached,
 ) -> Result<(), Memory>
     requires full { IsPlacedFor joint.now full.now }
-    requires few { sum_by length full.now ≤ 400000 }
+    requires few { sum_by length full.now ≤ 409600000 }
     requires made { IsMadeFor joint.now reached.old }
     requires rules { KeepsRules joint.now reached.old }
     requires add { All (λ p. p < length full.now) add.now }

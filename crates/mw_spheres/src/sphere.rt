@@ -57,7 +57,7 @@ fn next_sphere(
     bag: &mut Bag,
 ) -> Result<List<Spot>, Memory>
     requires table { IsPlacedFor joint.now table.now }
-    requires nothing { IsPlaced joint.now.slots [] nothing.now }
+    requires nothing { IsPlaced joint.now [] nothing.now }
     requires reached { IsMadeFor joint.now reached.old }
     requires rules { KeepsRules joint.now reached.old }
     requires bag { IsBagFor joint.now bag.old }
@@ -98,7 +98,7 @@ fn spheres_from(
     bag: &mut Bag,
 ) -> Result<SphereList, Memory>
     requires table { IsPlacedFor joint.now table.now }
-    requires nothing { IsPlaced joint.now.slots [] nothing.now }
+    requires nothing { IsPlaced joint.now [] nothing.now }
     requires reached { IsMadeFor joint.now reached.old }
     requires rules { KeepsRules joint.now reached.old }
     requires bag { IsBagFor joint.now bag.old }
@@ -125,7 +125,7 @@ pub(crate) fn spheres_of(
 ) -> Result<SphereList, Memory>
     requires joint { IsJoint joint.now }
     requires table { IsPlacedFor joint.now table.now }
-    requires few { sum_by length table.now ≤ 400000 }
+    requires few { sum_by length table.now ≤ 409600000 }
     requires reached { IsMadeFor joint.now reached.old }
     requires rules { KeepsRules joint.now reached.old }
     ensures { IfOk result (AreSpheres joint.now table.now []) }

@@ -18,7 +18,7 @@ pub(crate) fn table_for(
     ensures joint { IsJoint joint.now }
     ensures value { IfOk result (λ table. table ≡ placement_table joint.now placement.now) }
     ensures fits { IfOk result (IsPlacedFor joint.now) }
-    ensures few { IfOk result (λ table. sum_by length table ≤ 400000) }
+    ensures few { IfOk result (λ table. sum_by length table ≤ 409600000) }
 {
     let _ = &joint.slots;
     let table = Placed::with_events(alloc, joint, placement)?;

@@ -63,7 +63,7 @@ fn thin(
     reached: &mut Reached,
 ) -> Result<(), Memory>
     requires full { IsPlacedFor joint.now full.now }
-    requires few { sum_by length full.now ≤ 400000 }
+    requires few { sum_by length full.now ≤ 409600000 }
     requires made { IsMadeFor joint.now reached.old }
     requires rules { KeepsRules joint.now reached.old }
     requires places { All (λ p. p < length full.now) places.now }
@@ -110,7 +110,7 @@ pub(crate) fn thin_all(
     kept: &mut [bool],
 ) -> Result<(), Memory>
     requires full { IsPlacedFor joint.now full.now }
-    requires few { sum_by length full.now ≤ 400000 }
+    requires few { sum_by length full.now ≤ 409600000 }
     requires places { All (λ p. p < length full.now) places.now }
     requires size { length kept.old ≡ length full.now }
     requires kept { (p : ℕ) → places_of kept.old p ≡ is_among places.now p }

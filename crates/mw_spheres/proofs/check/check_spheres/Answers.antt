@@ -9,7 +9,7 @@ returns-clause-found c =
     let puts = c.args.placement.now in
     let claimed = c.args.claimed.now in
     checked joint puts claimed c.compare_spheres.result
-    (compared joint puts claimed c.in_ok-due.due c.in_ok-table.table c.compare_spheres.result c.in_ok-table.ensures.value c.in_default.ensures.unmet c.in_ok-due.ensures
+    (compared joint puts claimed c.in_ok-due.due c.in_ok-table.table c.compare_spheres.result c.in_ok-table.ensures.value c.in_default.ensures.lack c.in_ok-due.ensures
     (c.compare_spheres.ensures ∙ ap₂ (compare_spheres 0) c.as_slice.ensures c.as_slice-2.ensures))
 
 pub returns-clause-ok : goal.returns-clause-ok
@@ -18,7 +18,7 @@ returns-clause-ok c =
     let puts = c.args.placement.now in
     let claimed = c.args.claimed.now in
     ok_claims joint puts claimed c.compare_spheres.result c.requires.claimed
-    (compared joint puts claimed c.in_ok-due.due c.in_ok-table.table c.compare_spheres.result c.in_ok-table.ensures.value c.in_default.ensures.unmet c.in_ok-due.ensures
+    (compared joint puts claimed c.in_ok-due.due c.in_ok-table.table c.compare_spheres.result c.in_ok-table.ensures.value c.in_default.ensures.lack c.in_ok-due.ensures
     (c.compare_spheres.ensures ∙ ap₂ (compare_spheres 0) c.as_slice.ensures c.as_slice-2.ensures))
 
 pub returns-in_err-due-clause-found : goal.returns-in_err-due-clause-found

@@ -29,7 +29,7 @@ pub thin-requires-clause-table : goal.thin-requires-clause-table
 thin-requires-clause-table c =
     let joint = c.args.joint.now in
     let none : c.as_mut_slice-shown.result.now ≡ replicate (place_total joint.slots) false = grind (arith, common_steps) in
-    nothing_shown joint.slots c.args.full.now c.in_ok-table.table c.as_mut_slice-shown.result.now (place_total joint.slots) none c.in_ok-table.ensures.value c.requires.full.size
+    nothing_shown joint c.args.full.now c.in_ok-table.table c.as_mut_slice-shown.result.now (place_total joint.slots) none c.in_ok-table.ensures.value c.requires.full.size
 
 pub thin-requires-clause-least : goal.thin-requires-clause-least
 thin-requires-clause-least c =
