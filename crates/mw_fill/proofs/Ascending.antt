@@ -95,21 +95,21 @@ filler_place opening (Some put) h = h put refl
 pub end_place : (puts : List Put) (opening : Opening) → (end_put puts opening).place ≡ opening.place
 end_place puts opening = filler_place opening (what_stands puts opening.place) (λ put e. (Decides-eqb put.place opening.place).0 (find_passes (stands_at opening.place) puts put e))
 
-filler_kept : (slots : List Slot) (opening : Opening) (o : Option Put) → OpeningKept slots opening → ((put : Put) → o ≡ Some put → PutKept slots put) → PutKept slots (or_filler o opening)
-filler_kept slots opening None kept h = put_kept slots opening opening.slot opening.filler kept kept.filler
-filler_kept slots opening (Some put) kept h = h put refl
+filler_kept : (joint : Joint) (opening : Opening) (o : Option Put) → OpeningKept joint opening → ((put : Put) → o ≡ Some put → PutKept joint put) → PutKept joint (or_filler o opening)
+filler_kept joint opening None kept h = put_kept joint opening opening.slot opening.filler kept kept.filler
+filler_kept joint opening (Some put) kept h = h put refl
 
 -- the placement is one of the joint
-pub placement_kept : (joint : Joint) → IsJoint joint → (puts : List Put) → All (PutKept joint.slots) puts → IsPlacement joint (placement_of joint puts)
+pub placement_kept : (joint : Joint) → IsJoint joint → (puts : List Put) → All (PutKept joint) puts → IsPlacement joint (placement_of joint puts)
 placement_kept joint kept puts each = record {
   ascend =
       let places : map put_place (map (end_put puts) (openings_of joint)) ≡ map place_of (openings_of joint) = map_map put_place (end_put puts) (openings_of joint) ∙ map_same (λ s. put_place (end_put puts s)) place_of (openings_of joint) (end_place puts) in
       subst IsStrictlyIncreasing (sym places) (increasing 0 (map place_of (openings_of joint)) (0 + place_total joint.slots) (slots_rise 1 0 0 joint.slots kept.numbered));
   each =
-      All-map (PutKept joint.slots) (end_put puts) (openings_of joint)
+      All-map (PutKept joint) (end_put puts) (openings_of joint)
       (λ i d l.
       let opening = get_or (openings_of joint) i d in
-      filler_kept joint.slots opening (what_stands puts opening.place) (openings_kept joint kept i d l) (λ put e. find_all (PutKept joint.slots) (stands_at opening.place) puts put each e));
+      filler_kept joint opening (what_stands puts opening.place) (openings_kept joint kept i d l) (λ put e. find_all (PutKept joint) (stands_at opening.place) puts put each e));
 }
 
 -- by the table of what is held

@@ -1,5 +1,5 @@
 -- The asks of a fill, half by half.
-use Rattle.std.proofs.Common.{◌≡◌, ℕ, zero, suc, ◌+◌, ◌-◌, ◌*◌, ◌^◌, ◌≤◌, Bool, false, List, [], ◌∷◌, ◌++◌, All, length, map, take, drop, refl, sym, ap, subst, ◌∙◌, inl, inr, arith, append-nil, take-append-drop}
+use Rattle.std.proofs.Common.{◌≡◌, ℕ, zero, suc, ◌+◌, ◌-◌, ◌*◌, ◌^◌, ◌<◌, ◌≤◌, Bool, false, List, [], ◌∷◌, ◌++◌, All, length, get_or, map, take, drop, refl, sym, ap, ap₂, subst, ◌∙◌, inl, inr, arith, append-nil, take-append-drop}
 use Rattle.std.specs.Prelude.{Result, Ok, Err, IsErrAnd, flat_map, sum_by}
 use Rattle.std.proofs.Math.Nat.{add-mul, mul-add, mul-div-le}
 use Rattle.std.proofs.lemmas.Bool.{cases_Bool}
@@ -7,7 +7,7 @@ use Rattle.std.proofs.lemmas.List.{drop-drop, drop-map, drop-take, ext_get_or, l
 use Rattle.std.proofs.lemmas.List.Concat.{flat_map-append}
 use Rattle.std.proofs.lemmas.List.Sums.{sum_by-append, sum_by-cons}
 use Rattle.mw_rules.specs.Holds.{Places, places_of}
-use Rattle.mw_multi.specs.Joint.{Slot, Joint, place_total}
+use Rattle.mw_multi.specs.Joint.{Joint, place_total}
 use Rattle.mw_multi.specs.Placement.{Put, put_numbers, IsPlaced}
 use Rattle.mw_multi.specs.Events.{events_of}
 use Rattle.mw_multi.specs.Steps.{Step, steps_of}
@@ -18,12 +18,14 @@ use Rattle.mw_reach.specs.declared.reached.Reached.{Reached}
 use Rattle.mw_fill.specs.Copies.{ItemCopy, copy_numbers, all_numbers}
 use Rattle.mw_fill.specs.Openings.{Opening}
 use Rattle.mw_fill.specs.Fill.{in_hand}
-use Rattle.mw_fill.specs.Asks.{AreRun, AreLists, half_way, asks_of_levels, FindsNone, EndsWith, AnswersAt, AsksWhere, AsksWithin}
-use Rattle.mw_fill.specs.Laying.{numbers_found, numbers_between, AreFirst, IsLaid, RunsOn, asks_more, asks_of_range, RangeWithin}
+use Rattle.mw_fill.specs.Asks.{AreRun, AreLists, half_way, goals_for, asks_of_goals, asks_of_levels, FindsNone, EndsWith, AnswersAt, AsksWhere, AsksWithin}
+use Rattle.mw_fill.specs.Laying.{numbers_found, numbers_between, goals_between, AreFirst, IsLaid, RunsOn, asks_more, asks_of_range, RangeWithin}
 use Rattle.mw_fill.specs.Answer.{OnStuck}
 use Rattle.mw_fill.specs.declared.error.FillError.{FillError}
 use Rattle.mw_fill.specs.declared.error.FillError.TheVariants.{Stuck, Memory}
+use Rattle.mw_fill.proofs.Owning.{middle_le}
 use Rattle.mw_fill.proofs.Keeping.{least_alike}
+use Rattle.mw_fill.proofs.Stepping.{next_copy}
 use Rattle.mw_fill.proofs.Trying.{on_stuck, passed_on}
 use Rattle.mw_fill.proofs.Determined.{same_places}
 use Rattle.mw_fill.proofs.Existing.{tables_of, lists_of, there_are_lists}
@@ -37,19 +39,19 @@ front_puts front later puts same all =
     sym (take-take (length front) (length later) puts short) ∙ ap (take (length front)) all ∙ same
 
 -- the numbers of the copies that were put from one on
-pub first_since : (slots : List Slot) (copies : List ItemCopy) (laid : List Put) (from : ℕ) → from ≤ length laid → AreFirst slots copies laid
-    → map (put_numbers slots) (drop from laid) ≡ map (copy_numbers slots) (take (length laid - from) (drop from copies))
-first_since slots copies laid from h first =
-    let own = copy_numbers slots in
+pub first_since : (joint : Joint) (copies : List ItemCopy) (laid : List Put) (from : ℕ) → from ≤ length laid → AreFirst joint copies laid
+    → map (put_numbers joint) (drop from laid) ≡ map (copy_numbers joint) (take (length laid - from) (drop from copies))
+first_since joint copies laid from h first =
+    let own = copy_numbers joint in
     let sum : length laid ≡ from + (length laid - from) = omega arith in
-    sym (drop-map (put_numbers slots) from laid) ∙ ap (drop from) (first ∙ ap (λ k. map own (take k copies)) sum) ∙ drop-map own from (take (from + (length laid - from)) copies)
+    sym (drop-map (put_numbers joint) from laid) ∙ ap (drop from) (first ∙ ap (λ k. map own (take k copies)) sum) ∙ drop-map own from (take (from + (length laid - from)) copies)
     ∙ ap (map own) (drop-take from (length laid - from) copies)
 
-pub rest_first : (slots : List Slot) (copies : List ItemCopy) (laid slice : List Put) (from : ℕ) → from ≤ length laid → slice ≡ drop from laid → AreFirst slots copies laid
-    → map (put_numbers slots) slice ≡ map (copy_numbers slots) (take (length slice) (drop from copies))
-rest_first slots copies laid slice from h is first =
-    ap (map (put_numbers slots)) is ∙ first_since slots copies laid from h first
-    ∙ ap (λ n. map (copy_numbers slots) (take n (drop from copies))) (sym (ap length is ∙ length-drop from laid))
+pub rest_first : (joint : Joint) (copies : List ItemCopy) (laid slice : List Put) (from : ℕ) → from ≤ length laid → slice ≡ drop from laid → AreFirst joint copies laid
+    → map (put_numbers joint) slice ≡ map (copy_numbers joint) (take (length slice) (drop from copies))
+rest_first joint copies laid slice from h is first =
+    ap (map (put_numbers joint)) is ∙ first_since joint copies laid from h first
+    ∙ ap (λ n. map (copy_numbers joint) (take n (drop from copies))) (sym (ap length is ∙ length-drop from laid))
 
 -- lists of the same numbers
 end_to_end : {X : Type 0} (f : X → List ℕ) (xs : List X) → flat_map (λ (ns : List ℕ). ns) (map f xs) ≡ flat_map f xs
@@ -59,24 +61,28 @@ end_to_end f (x ∷ xs) = ap (λ ns. f x ++ ns) (end_to_end f xs)
 joined : {X Y : Type 0} (f : X → List ℕ) (g : Y → List ℕ) (xs : List X) (ys : List Y) → map f xs ≡ map g ys → flat_map f xs ≡ flat_map g ys
 joined f g xs ys same = sym (end_to_end f xs) ∙ ap (flat_map (λ (ns : List ℕ). ns)) same ∙ end_to_end g ys
 
-pub half_numbers : (slots : List Slot) (copies : List ItemCopy) (laid : List Put) (from : ℕ) → from ≤ length laid → AreFirst slots copies laid → flat_map (put_numbers slots) (drop from laid) ≡ numbers_between slots copies from (length laid)
-half_numbers slots copies laid from h first = joined (put_numbers slots) (copy_numbers slots) (drop from laid) (take (length laid - from) (drop from copies)) (first_since slots copies laid from h first)
+pub half_numbers : (joint : Joint) (copies : List ItemCopy) (laid : List Put) (from : ℕ) → from ≤ length laid → AreFirst joint copies laid → flat_map (put_numbers joint) (drop from laid) ≡ numbers_between joint copies from (length laid)
+half_numbers joint copies laid from h first = joined (put_numbers joint) (copy_numbers joint) (drop from laid) (take (length laid - from) (drop from copies)) (first_since joint copies laid from h first)
+
+-- the copies that were put have no more numbers than all
+pub laid_le : (joint : Joint) (copies : List ItemCopy) (laid : List Put) → AreFirst joint copies laid → length (flat_map (put_numbers joint) laid) ≤ length (all_numbers joint copies)
+laid_le joint copies laid first = omega (arith, ap length (half_numbers joint copies laid 0 (omega arith) first), middle_le joint copies 0 (length laid) (omega arith))
 
 -- ---- fewer items
 
-fewer_in_step : (slots : List Slot) (step : Step) (w : Places) (laid : List Put) → items_named step (numbers_found slots w laid) ≤ items_named step (flat_map (put_numbers slots) laid)
-fewer_in_step slots step w [] = omega arith
-fewer_in_step slots step w (l ∷ laid) =
+fewer_in_step : (joint : Joint) (step : Step) (w : Places) (laid : List Put) → items_named step (numbers_found joint w laid) ≤ items_named step (flat_map (put_numbers joint) laid)
+fewer_in_step joint step w [] = omega arith
+fewer_in_step joint step w (l ∷ laid) =
     let f : ℕ → ℕ = λ i. one_if (names_item_at step i) in
-    let own = put_numbers slots l in
-    let all : items_named step (flat_map (put_numbers slots) (l ∷ laid)) ≡ items_named step own + items_named step (flat_map (put_numbers slots) laid) = sum_by-append f own (flat_map (put_numbers slots) laid) in
+    let own = put_numbers joint l in
+    let all : items_named step (flat_map (put_numbers joint) (l ∷ laid)) ≡ items_named step own + items_named step (flat_map (put_numbers joint) laid) = sum_by-append f own (flat_map (put_numbers joint) laid) in
     elim (cases_Bool (w l.place)) [
       | inl here ↦
-          let more : items_named step (numbers_found slots w (l ∷ laid)) ≡ items_named step own + items_named step (numbers_found slots w laid) = rw here (sum_by-append f own (numbers_found slots w laid)) in
-          omega (arith, all, more, fewer_in_step slots step w laid)
+          let more : items_named step (numbers_found joint w (l ∷ laid)) ≡ items_named step own + items_named step (numbers_found joint w laid) = rw here (sum_by-append f own (numbers_found joint w laid)) in
+          omega (arith, all, more, fewer_in_step joint step w laid)
       | inr away ↦
-          let still : items_named step (numbers_found slots w (l ∷ laid)) ≡ items_named step (numbers_found slots w laid) = rw away refl in
-          omega (arith, all, still, fewer_in_step slots step w laid)
+          let still : items_named step (numbers_found joint w (l ∷ laid)) ≡ items_named step (numbers_found joint w laid) = rw away refl in
+          omega (arith, all, still, fewer_in_step joint step w laid)
     ]
 
 sums_less : {X : Type 0} (f g : X → ℕ) (xs : List X) → ((x : X) → f x ≤ g x) → sum_by f xs ≤ sum_by g xs
@@ -84,8 +90,8 @@ sums_less f g [] h = omega arith
 sums_less f g (x ∷ xs) h = omega (arith, sum_by-cons f x xs, sum_by-cons g x xs, h x, sums_less f g xs h)
 
 -- those that are found name no more than all
-pub fewer_named : (slots : List Slot) (steps : List Step) (w : Places) (laid : List Put) → asks_naming steps (numbers_found slots w laid) ≤ asks_naming steps (flat_map (put_numbers slots) laid)
-fewer_named slots steps w laid = sums_less (λ step. items_named step (numbers_found slots w laid)) (λ step. items_named step (flat_map (put_numbers slots) laid)) steps (λ step. fewer_in_step slots step w laid)
+pub fewer_named : (joint : Joint) (steps : List Step) (w : Places) (laid : List Put) → asks_naming steps (numbers_found joint w laid) ≤ asks_naming steps (flat_map (put_numbers joint) laid)
+fewer_named joint steps w laid = sums_less (λ step. items_named step (numbers_found joint w laid)) (λ step. items_named step (flat_map (put_numbers joint) laid)) steps (λ step. fewer_in_step joint step w laid)
 
 -- ---- items of two halves
 
@@ -102,19 +108,33 @@ naming_append (step ∷ steps) is js =
       naming_append steps is js,
     )
 
-both_numbers : (slots : List Slot) (copies : List ItemCopy) (from middle to : ℕ) → from ≤ middle → middle ≤ to
-    → numbers_between slots copies from to ≡ numbers_between slots copies from middle ++ numbers_between slots copies middle to
-both_numbers slots copies from middle to low high =
-    let all = all_numbers slots in
+-- the copies of a range are those of its halves
+both_parts : (copies : List ItemCopy) (from middle to : ℕ) → from ≤ middle → middle ≤ to → take (to - from) (drop from copies) ≡ take (middle - from) (drop from copies) ++ take (to - middle) (drop middle copies)
+both_parts copies from middle to low high =
     let rest = drop from copies in
     let k = middle - from in
     let n = to - middle in
-    let whole : to - from ≡ k + n = omega arith in
+    let wide : to - from ≡ k + n = omega arith in
     let at : from + k ≡ middle = omega arith in
     let first : take k (take (k + n) rest) ≡ take k rest = take-take k (k + n) rest (omega arith) in
     let second : drop k (take (k + n) rest) ≡ take n (drop middle copies) = drop-take k n rest ∙ ap (take n) (drop-drop k from copies ∙ ap (λ m. drop m copies) at) in
-    ap (λ m. all (take m rest)) whole ∙ ap all (sym (take-append-drop k (take (k + n) rest))) ∙ flat_map-append (copy_numbers slots) (take k (take (k + n) rest)) (drop k (take (k + n) rest))
-    ∙ ap (λ cs. all cs ++ all (drop k (take (k + n) rest))) first ∙ ap (λ cs. all (take k rest) ++ all cs) second
+    ap (λ m. take m rest) wide ∙ sym (take-append-drop k (take (k + n) rest)) ∙ ap₂ (λ (xs ys : List ItemCopy). xs ++ ys) first second
+
+both_numbers : (joint : Joint) (copies : List ItemCopy) (from middle to : ℕ) → from ≤ middle → middle ≤ to
+    → numbers_between joint copies from to ≡ numbers_between joint copies from middle ++ numbers_between joint copies middle to
+both_numbers joint copies from middle to low high =
+    ap (all_numbers joint) (both_parts copies from middle to low high) ∙ flat_map-append (copy_numbers joint) (take (middle - from) (drop from copies)) (take (to - middle) (drop middle copies))
+
+both_goals : (joint : Joint) (copies : List ItemCopy) (from middle to : ℕ) → from ≤ middle → middle ≤ to → goals_between joint copies from to ≡ goals_between joint copies from middle + goals_between joint copies middle to
+both_goals joint copies from middle to low high =
+    ap (asks_of_goals joint) (both_parts copies from middle to low high) ∙ sum_by-append (goals_for joint) (take (middle - from) (drop from copies)) (take (to - middle) (drop middle copies))
+
+-- those of one copy
+pub goals_of_one : (joint : Joint) (copies : List ItemCopy) (k : ℕ) (copy : ItemCopy) → k < length copies → copy ≡ get_or copies k copy → goals_between joint copies k (k + 1) ≡ goals_for joint copy
+goals_of_one joint copies k copy within is =
+    let one : k + 1 - k ≡ 1 = omega arith in
+    let sum : goals_for joint copy + 0 ≡ goals_for joint copy = omega arith in
+    ap (λ n. asks_of_goals joint (take n (drop k copies))) one ∙ ap (λ cs. asks_of_goals joint (take 1 cs)) (next_copy copies k copy within is) ∙ sum_by-cons (goals_for joint) copy [] ∙ sum
 
 -- ---- halves
 
@@ -130,7 +150,7 @@ halved from to (suc below) long few = (below, record { one_less = refl; first = 
 
 -- the list with the copies from `to` on in hand, and with those below `from` where they were put
 pub record IsListFor (joint : Joint) (copies : List ItemCopy) (puts : List Put) (from to : ℕ) (table : Placed) (w : List Bool) : Type 0 where
-  pub table_is : IsPlaced joint.slots (events_of joint ++ take from puts) table
+  pub table_is : IsPlaced joint (events_of joint ++ take from puts) table
   pub size : length w ≡ place_total joint.slots
   pub least : IsLeast (steps_of joint) (in_hand joint (drop to copies)) table (places_of w)
 
@@ -158,7 +178,7 @@ module _ (joint : Joint) (copies : List ItemCopy) (puts : List Put) (tables : �
 
   module _ (from middle to : ℕ) (half : middle ≡ half_way from to) (low : from ≤ middle) (high : middle ≤ to) where
     abbrev asked_for : ℕ → ℕ → ℕ
-    asked_for k n = asks_naming (steps_of joint) (numbers_between joint.slots copies k n)
+    asked_for k n = asks_naming (steps_of joint) (numbers_between joint copies k n)
 
     abbrev new_there : ℕ → ℕ → ℕ
     new_there k n = asks_at (steps_of joint) (tables k) (new_in (lists from to) (lists k n))
@@ -168,7 +188,7 @@ module _ (joint : Joint) (copies : List ItemCopy) (puts : List Put) (tables : �
         ≡ (asked_for middle to + new_there from middle + asks_of_range joint copies tables lists below from middle) + (asked_for from middle + new_there middle to + asks_of_range joint copies tables lists below middle to)
     splits below =
         let naming : asked_for from to ≡ asked_for from middle + asked_for middle to =
-        ap (asks_naming (steps_of joint)) (both_numbers joint.slots copies from middle to low high) ∙ naming_append (steps_of joint) (numbers_between joint.slots copies from middle) (numbers_between joint.slots copies middle to) in
+        ap (asks_naming (steps_of joint)) (both_numbers joint copies from middle to low high) ∙ naming_append (steps_of joint) (numbers_between joint copies from middle) (numbers_between joint copies middle to) in
         let levels : asks_of_levels joint tables lists (suc below) from to
         ≡ new_there from middle + new_there middle to + (asks_of_levels joint tables lists below from middle + asks_of_levels joint tables lists below middle to) = rw half refl in
         omega (
@@ -176,6 +196,7 @@ module _ (joint : Joint) (copies : List ItemCopy) (puts : List Put) (tables : �
           naming,
           levels,
           add-mul 1 below (asked_for from to),
+          both_goals joint copies from middle to low high,
           ap (λ n. below * n) naming,
           mul-add below (asked_for from middle) (asked_for middle to),
         )
@@ -196,7 +217,7 @@ module _ (joint : Joint) (copies : List ItemCopy) (puts : List Put) (tables : �
 
 -- the list of what was put so far
 pub list_there : (joint : Joint) (copies : List ItemCopy) (puts : List Put) (laid : List Put) (from to : ℕ) (table : Placed) (w : List Bool) → from ≡ length laid → take (length laid) puts ≡ laid
-    → IsPlaced joint.slots (events_of joint ++ laid) table → length w ≡ place_total joint.slots → IsLeast (steps_of joint) (in_hand joint (drop to copies)) table (places_of w) → IsListFor joint copies puts from to table w
+    → IsPlaced joint (events_of joint ++ laid) table → length w ≡ place_total joint.slots → IsLeast (steps_of joint) (in_hand joint (drop to copies)) table (places_of w) → IsListFor joint copies puts from to table w
 list_there joint copies puts laid from to table w is same placed size least = record { table_is = rw (is, same) placed; size = size; least = least }
 
 -- ---- the whole
@@ -205,11 +226,11 @@ are_run : (joint : Joint) (openings : List Opening) (copies : List ItemCopy) (la
 are_run joint openings copies laid runs = runs
 
 -- the asks for the first list, and then those within the whole
-pub whole_within : {X : Type 0} (joint : Joint) (openings : List Opening) (copies : List ItemCopy) (begin laid : List Put) (table : Placed) (reached : Reached) (before begun last : ℕ) → begin ≡ [] → IsPlaced joint.slots (events_of joint ++ begin) table
+pub whole_within : {X : Type 0} (joint : Joint) (openings : List Opening) (copies : List ItemCopy) (begin laid : List Put) (table : Placed) (reached : Reached) (before begun last : ℕ) → begin ≡ [] → IsPlaced joint (events_of joint ++ begin) table
     → IsMadeFor joint reached → IsLeast (steps_of joint) (in_hand joint (drop (length copies) copies)) table (places_in reached) → begun ≤ before + asks_allowed (steps_of joint) table (flags_in reached)
-    → All (IsLaid joint.slots) laid → RunsOn joint openings copies laid → RangeWithin joint copies laid (length begin) (length copies) begun last → (result : Result X FillError) → AnswersAt joint openings copies result laid → AsksWithin joint openings copies result before last
+    → All (IsLaid joint) laid → RunsOn joint openings copies laid → RangeWithin joint copies laid (length begin) (length copies) begun last → (result : Result X FillError) → AnswersAt joint openings copies result laid → AsksWithin joint openings copies result before last
 whole_within joint openings copies begin laid table reached before begun last none placed made least first each runs within result ends =
-    let events : IsPlaced joint.slots (events_of joint) table = subst (λ ps. IsPlaced joint.slots ps table) (append-nil (events_of joint)) (rw none at placed) in
+    let events : IsPlaced joint (events_of joint) table = subst (λ ps. IsPlaced joint ps table) (append-nil (events_of joint)) (rw none at placed) in
     let tables = tables_of joint copies laid table reached.work made in
     let lists = lists_of joint copies laid table reached.work made in
     let are = there_are_lists joint copies laid table reached.work made events each in
@@ -227,11 +248,12 @@ whole_within joint openings copies begin laid table reached before begun last no
           let list = list_there joint copies puts nothing 0 (length copies) table w refl refl (rw none at placed) made.tally.done least in
           let first_list : asks_allowed (steps_of joint) table w ≡ asks_allowed (steps_of joint) (tables 0) (lists 0 (length copies)) =
           first_is joint copies puts tables lists are (length copies) table w list in
-          let all : numbers_between joint.slots copies 0 (length copies) ≡ all_numbers joint.slots copies = ap (all_numbers joint.slots) (take_all (length copies - 0) copies (omega arith)) in
+          let all : numbers_between joint copies 0 (length copies) ≡ all_numbers joint copies = ap (all_numbers joint) (take_all (length copies - 0) copies (omega arith)) in
           let same = take_all (length laid) laid (omega arith) in
           let rest : last ≤ begun + asks_of_range joint copies tables lists levels 0 (length copies) =
           subst (λ (ls : List Put). last ≤ begun + asks_of_range joint copies tables lists levels (length ls) (length copies)) none (within levels puts tables lists (omega (arith, few)) same are) in
-          omega (arith, first, first_list, rest, ap (λ ns. levels * asks_naming (steps_of joint) ns) all),
+          let goals : goals_between joint copies 0 (length copies) ≡ asks_of_goals joint copies = ap (asks_of_goals joint) (take_all (length copies - 0) copies (omega arith)) in
+          omega (arith, first, first_list, rest, ap (λ ns. levels * asks_naming (steps_of joint) ns) all, goals),
     )
 
 -- ---- answers that are passed on

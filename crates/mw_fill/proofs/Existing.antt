@@ -5,7 +5,7 @@ use Rattle.std.proofs.lemmas.List.{length-replicate}
 use Rattle.std.proofs.lemmas.List.Elements.{All-map, All-take}
 use Rattle.mw_rules.specs.Holds.{Bag, Places, places_of}
 use Rattle.mw_rules.specs.Laws.{IsPartOf}
-use Rattle.mw_multi.specs.Joint.{Slot, Joint, place_total}
+use Rattle.mw_multi.specs.Joint.{Joint, place_total}
 use Rattle.mw_multi.specs.Placement.{Put, put_numbers, numbers_at, IsPlaced}
 use Rattle.mw_multi.specs.Steps.{Step, steps_of}
 use Rattle.mw_multi.specs.Events.{events_of}
@@ -89,23 +89,23 @@ steps_fit joint work made =
 -- ---- tables
 
 -- the table with these copies where they were put
-abbrev pub table_after : List Slot → Placed → List Put → Placed
-table_after slots table [] = table
-table_after slots table (l ∷ laid) = table_after slots (set table l.place (numbers_at table l.place ++ put_numbers slots l)) laid
+abbrev pub table_after : Joint → Placed → List Put → Placed
+table_after joint table [] = table
+table_after joint table (l ∷ laid) = table_after joint (set table l.place (numbers_at table l.place ++ put_numbers joint l)) laid
 
-after_placed : (slots : List Slot) (laid : List Put) (puts : List Put) (table : Placed) → All (IsLaid slots) laid → IsPlaced slots puts table → IsPlaced slots (puts ++ laid) (table_after slots table laid)
-after_placed slots [] puts table all placed = subst (λ ps. IsPlaced slots ps table) (sym (append-nil puts)) placed
-after_placed slots (l ∷ laid) puts table all placed =
+after_placed : (joint : Joint) (laid : List Put) (puts : List Put) (table : Placed) → All (IsLaid joint) laid → IsPlaced joint puts table → IsPlaced joint (puts ++ laid) (table_after joint table laid)
+after_placed joint [] puts table all placed = subst (λ ps. IsPlaced joint ps table) (sym (append-nil puts)) placed
+after_placed joint (l ∷ laid) puts table all placed =
     let here = all 0 l (omega arith) in
-    let next = set table l.place (numbers_at table l.place ++ put_numbers slots l) in
-    let one = placed_put slots puts l table next (omega (arith, placed.size, here.place)) refl placed in
-    subst (λ ps. IsPlaced slots ps (table_after slots next laid)) (append_assoc puts (l ∷ []) laid) (after_placed slots laid (puts ++ l ∷ []) next (λ k d h. all (suc k) d (omega arith)) one)
+    let next = set table l.place (numbers_at table l.place ++ put_numbers joint l) in
+    let one = placed_put joint puts l table next (omega (arith, placed.size, here.place)) refl placed in
+    subst (λ ps. IsPlaced joint ps (table_after joint next laid)) (append_assoc puts (l ∷ []) laid) (after_placed joint laid (puts ++ l ∷ []) next (λ k d h. all (suc k) d (omega arith)) one)
 
 -- ---- the lists of a fill
 
 module _ (joint : Joint) (copies : List ItemCopy) (laid : List Put) (begin : Placed) (work : Work) (made : IsWorkFor joint work) where
   pub tables_of : ℕ → Placed
-  tables_of from = table_after joint.slots begin (take from laid)
+  tables_of from = table_after joint begin (take from laid)
 
   list_without : (from to : ℕ) → HasLeastList (steps_of joint) (in_hand joint (drop to copies)) (tables_of from) (place_total joint.slots)
   list_without from to = least_list (steps_of joint) (in_hand joint (drop to copies)) (tables_of from) (place_total joint.slots) (steps_fit joint work made)
@@ -113,10 +113,10 @@ module _ (joint : Joint) (copies : List ItemCopy) (laid : List Put) (begin : Pla
   pub lists_of : ℕ → ℕ → List Bool
   lists_of from to = (list_without from to).list
 
-  pub there_are_lists : IsPlaced joint.slots (events_of joint) begin → All (IsLaid joint.slots) laid → AreLists joint copies laid tables_of lists_of
+  pub there_are_lists : IsPlaced joint (events_of joint) begin → All (IsLaid joint) laid → AreLists joint copies laid tables_of lists_of
   unfolding tables_of lists_of list_without
   there_are_lists placed each = record {
-    tables_are = λ from. after_placed joint.slots (take from laid) (events_of joint) begin (All-take (IsLaid joint.slots) from laid each) placed;
+    tables_are = λ from. after_placed joint (take from laid) (events_of joint) begin (All-take (IsLaid joint) from laid each) placed;
     sizes = λ from to. (list_without from to).size;
     least = λ from to. (list_without from to).least;
   }

@@ -65,7 +65,7 @@ free_there test puts openings s e =
     let parts = and_parts (is_none (what_stands puts s.place)) (test s) (find_passes (is_fit test puts) openings s e) in
     (none_there (what_stands puts s.place) parts.0, parts.1)
 
-pub held_put : (joint : Joint) (puts : List Put) (put : Put) (held : List (Option Put)) → IsHeldFor joint puts held → PutKept joint.slots put → put.place < length held → what_stands puts put.place ≡ None
+pub held_put : (joint : Joint) (puts : List Put) (put : Put) (held : List (Option Put)) → IsHeldFor joint puts held → PutKept joint put → put.place < length held → what_stands puts put.place ≡ None
     → IsHeldFor joint (puts ++ put ∷ []) (set held put.place (Some put))
 held_put joint puts put held h kept within free = record {
   size = length-set held put.place (Some put) ∙ h.size;
@@ -76,5 +76,5 @@ held_put joint puts put held h kept within free = record {
     | inr other ↦
         get_or-set_other held put.place place (Some put) None (λ e. other (sym e)) ∙ h.entries place ∙ sym (stands_still puts put place (differ put.place place other))
   ];
-  kept = All-push (PutKept joint.slots) puts put h.kept kept;
+  kept = All-push (PutKept joint) puts put h.kept kept;
 }

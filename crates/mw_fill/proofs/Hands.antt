@@ -12,18 +12,18 @@ use Rattle.mw_fill.proofs.Owning.{count_append}
 
 -- the copies from one number to another in hand as well
 pub in_hand_more : (joint : Joint) (copies : List ItemCopy) (middle to : ℕ) → middle ≤ to → (n : ℕ)
-    → in_hand joint (drop middle copies) n ≡ in_hand joint (drop to copies) n + times_in n (numbers_between joint.slots copies middle to)
+    → in_hand joint (drop middle copies) n ≡ in_hand joint (drop to copies) n + times_in n (numbers_between joint copies middle to)
 in_hand_more joint copies middle to h n =
     let rest = drop middle copies in
     let k = to - middle in
     let sum : middle + k ≡ to = omega arith in
     let past : drop k rest ≡ drop to copies = drop-drop k middle copies ∙ ap (λ m. drop m copies) sum in
-    let both : copies_count joint.slots rest n ≡ copies_count joint.slots (take k rest) n + copies_count joint.slots (drop k rest) n =
-    ap (λ cs. copies_count joint.slots cs n) (sym (take-append-drop k rest)) ∙ count_append joint.slots (take k rest) (drop k rest) n in
-    omega (arith, both, ap (λ cs. copies_count joint.slots cs n) past)
+    let both : copies_count joint rest n ≡ copies_count joint (take k rest) n + copies_count joint (drop k rest) n =
+    ap (λ cs. copies_count joint cs n) (sym (take-append-drop k rest)) ∙ count_append joint (take k rest) (drop k rest) n in
+    omega (arith, both, ap (λ cs. copies_count joint cs n) past)
 
 pub held_more : (joint : Joint) (copies : List ItemCopy) (middle to : ℕ) → middle ≤ to → (placed : Placed) (w : Places)
-    → HasMore (in_hand joint (drop to copies)) (in_hand joint (drop middle copies)) placed placed w (numbers_between joint.slots copies middle to)
+    → HasMore (in_hand joint (drop to copies)) (in_hand joint (drop middle copies)) placed placed w (numbers_between joint copies middle to)
 held_more joint copies middle to h placed w = record {
   counts = λ i. omega (arith, in_hand_more joint copies middle to h i);
   grows = λ v i. omega (arith, in_hand_more joint copies middle to h i);

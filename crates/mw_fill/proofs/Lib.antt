@@ -1,6 +1,10 @@
+pub mod Links
+pub mod Copying
 pub mod Pools
+pub mod Few
 pub mod Locations
 pub mod Fitting
+pub mod Allowing
 pub mod Stepping
 pub mod Runs
 pub mod Shuffling

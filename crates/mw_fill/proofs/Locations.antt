@@ -14,7 +14,7 @@ use Rattle.mw_fill.specs.Kept.{OpeningKept}
 use Rattle.mw_multi.specs.Numbered.{each_numbered}
 use Rattle.mw_fill.specs.Openings.{Opening, opening_of, opening_at, slot_openings, openings_of}
 use Rattle.mw_multi.proofs.Numbered.{numbered_le, numbered_all}
-use Rattle.mw_fill.proofs.Pools.{item_there}
+use Rattle.mw_fill.proofs.Pools.{item_there, some_item}
 
 one_le : (number : ℕ) (s : Slot) (index : ℕ) (l : Location) (b : Bool) → length (if b then opening_of number s index l ∷ [] else []) ≤ 1
 one_le number s index l true = omega arith
@@ -43,7 +43,7 @@ module _ (joint : Joint) (kept : IsJoint joint) (k : ℕ) (s : Slot) (within : k
   world_kept : IsWorld s.world
   world_kept = subst (λ (t : Slot). IsWorld t.world) (sym is) (kept.each k s within).world
 
-  opening_kept : (i : ℕ) (l : Location) → slice_get s.world.locations i ≡ Some l → LocationKept s.world l → i < length s.world.locations → is_some l.id ≡ true → OpeningKept joint.slots (opening_of (suc k) s i l)
+  opening_kept : (i : ℕ) (l : Location) → slice_get s.world.locations i ≡ Some l → LocationKept s.world l → i < length s.world.locations → is_some l.id ≡ true → OpeningKept joint (opening_of (suc k) s i l)
   opening_kept i l there location inside id =
       let fits = slot_fits joint kept k s within is in
       let site = location_site joint k s i l kept slot_there there in
@@ -51,25 +51,25 @@ module _ (joint : Joint) (kept : IsJoint joint) (k : ℕ) (s : Slot) (within : k
         place = omega (arith, fits.places);
         location = ap is_some site;
         no_event = ap has_no_event site ∙ no_event_here s.world.items l.id l.event location.event id;
-        filler = item_there joint kept k s within is s.world.filler world_kept.filler.id;
+        filler = item_there joint k s s.world.filler slot_there (some_item (slice_get s.world.items s.world.filler) world_kept.filler.id);
       }
 
-  one_kept : (i : ℕ) (l : Location) (b : Bool) → is_some l.id ≡ b → slice_get s.world.locations i ≡ Some l → LocationKept s.world l → i < length s.world.locations → All (OpeningKept joint.slots) (if b then opening_of (suc k) s i l ∷ [] else [])
-  one_kept i l true id there location inside = All-cons (OpeningKept joint.slots) (opening_of (suc k) s i l) [] (opening_kept i l there location inside id) (All-nil (OpeningKept joint.slots))
-  one_kept i l false id there location inside = All-nil (OpeningKept joint.slots)
+  one_kept : (i : ℕ) (l : Location) (b : Bool) → is_some l.id ≡ b → slice_get s.world.locations i ≡ Some l → LocationKept s.world l → i < length s.world.locations → All (OpeningKept joint) (if b then opening_of (suc k) s i l ∷ [] else [])
+  one_kept i l true id there location inside = All-cons (OpeningKept joint) (opening_of (suc k) s i l) [] (opening_kept i l there location inside id) (All-nil (OpeningKept joint))
+  one_kept i l false id there location inside = All-nil (OpeningKept joint)
 
-  slot_kept : All (OpeningKept joint.slots) (slot_openings (suc k) s)
+  slot_kept : All (OpeningKept joint) (slot_openings (suc k) s)
   slot_kept =
-      numbered_all (OpeningKept joint.slots) (opening_at (suc k) s) 0 s.world.locations
+      numbered_all (OpeningKept joint) (opening_at (suc k) s) 0 s.world.locations
       (λ i l inside e. let at : i ≡ 0 + i = omega arith in
-      subst (λ n. All (OpeningKept joint.slots) (opening_at (suc k) s n l)) at
+      subst (λ n. All (OpeningKept joint) (opening_at (suc k) s n l)) at
       (one_kept i l (is_some l.id) refl (get_some s.world.locations i l inside ∙ ap Some (sym e)) (subst (LocationKept s.world) (sym e) (world_kept.locations.each i l inside)) inside))
 
 -- they are the joint's, and have no events
-pub openings_kept : (joint : Joint) → IsJoint joint → All (OpeningKept joint.slots) (openings_of joint)
+pub openings_kept : (joint : Joint) → IsJoint joint → All (OpeningKept joint) (openings_of joint)
 openings_kept joint kept =
-    numbered_all (OpeningKept joint.slots) slot_openings 1 joint.slots
-    (λ k s l e. let at : suc k ≡ 1 + k = omega arith in subst (λ n. All (OpeningKept joint.slots) (slot_openings n s)) at (slot_kept joint kept k s l e))
+    numbered_all (OpeningKept joint) slot_openings 1 joint.slots
+    (λ k s l e. let at : suc k ≡ 1 + k = omega arith in subst (λ n. All (OpeningKept joint) (slot_openings n s)) at (slot_kept joint kept k s l e))
 
 -- ---- puts at them
 
@@ -82,9 +82,9 @@ fits_here put None e = refl
 fits_here put (Some site) e = fits_none put site site.location.event e
 
 -- an item of the joint may stand at such a location
-pub put_kept : (slots : List Slot) (opening : Opening) (receiver item : ℕ) → OpeningKept slots opening → is_some (item_at slots receiver item) ≡ true → PutKept slots record { place = opening.place; receiver = receiver; item = item }
-put_kept slots opening receiver item kept there = record {
+pub put_kept : (joint : Joint) (opening : Opening) (receiver item : ℕ) → OpeningKept joint opening → is_some (item_at joint receiver item) ≡ true → PutKept joint record { place = opening.place; receiver = receiver; item = item }
+put_kept joint opening receiver item kept there = record {
   place = kept.location;
   item = there;
-  event = fits_here record { place = opening.place; receiver = receiver; item = item } (site_at slots opening.place) kept.no_event;
+  event = fits_here record { place = opening.place; receiver = receiver; item = item } (site_at joint.slots opening.place) kept.no_event;
 }

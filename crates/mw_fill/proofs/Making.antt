@@ -1,50 +1,42 @@
 -- What holds of each copy of a group, and of each location with an id.
-use Rattle.std.proofs.Common.{◌≡◌, ℕ, zero, suc, ◌+◌, ◌<◌, Bool, true, false, List, [], ◌∷◌, Option, Some, None, All, length, get_or, refl, sym, ap, subst, ◌∙◌, inl, inr, arith}
-use Rattle.std.specs.Prelude.{flat_map, is_some, replicate, slice_get, ◌==◌, ◌||◌, if◌then◌else◌}
+use Rattle.std.proofs.Common.{◌≡◌, ℕ, zero, suc, ◌+◌, ◌<◌, Bool, true, false, List, [], ◌∷◌, Option, Some, None, All, length, get_or, refl, sym, ap, subst, ◌∙◌, inl, inr, arith, append-nil}
+use Rattle.std.specs.Prelude.{flat_map, is_some, slice_get, ◌==◌, ◌||◌, if◌then◌else◌}
 use Rattle.std.specs.List.{list_any}
 use Rattle.std.proofs.lemmas.Bool.{cases_Bool}
 use Rattle.std.proofs.lemmas.Bool.Decides.{Decides-eqb}
-use Rattle.std.proofs.lemmas.List.Concat.{flat_map-cons}
-use Rattle.std.proofs.lemmas.List.Elements.{All-nil, All-cons, All-append, All-replicate}
-use Rattle.mw_multi.specs.World.{Item, Location, PoolEntry}
+use Rattle.std.proofs.lemmas.List.Elements.{All-nil, All-cons}
+use Rattle.mw_multi.specs.World.{Item, Location}
 use Rattle.mw_multi.specs.WorldKept.{is_filler}
 use Rattle.mw_multi.specs.RulesKept.{is_progression_item}
-use Rattle.mw_multi.specs.Joint.{Slot, Joint, IsJoint}
-use Rattle.mw_multi.specs.Placement.{slot_at, numbers_of, put_numbers}
+use Rattle.mw_multi.specs.Joint.{Slot, Link, Joint, IsJoint, world_of, first_slot, slot_at}
+use Rattle.mw_multi.specs.Placement.{numbers_of, owner_numbers, receiver_numbers, put_numbers}
 use Rattle.mw_multi.specs.declared.item.Class.TheVariants.{Progression, Useful, Filler, Trap}
+use Rattle.mw_multi.proofs.Owners.{owners_of_slot}
 use Rattle.mw_multi.proofs.Sites.{get_some}
 use Rattle.mw_fill.specs.declared.group.Group.{Group}
 use Rattle.mw_fill.specs.declared.group.Group.TheVariants.{Asked, Helping, Filling}
-use Rattle.mw_fill.specs.Copies.{ItemCopy, is_of, item_is_of, copy_of, entry_copies, slot_copies, has_others, copies_of}
+use Rattle.mw_fill.specs.Copies.{is_of, item_is_of, copies_of}
 use Rattle.mw_fill.specs.Openings.{Opening, opening_of, opening_at, slot_openings, openings_of}
 use Rattle.mw_fill.specs.Try.{filler_at}
 use Rattle.mw_multi.proofs.Numbered.{numbered_all}
+use Rattle.mw_fill.proofs.Copying.{copies_all}
+use Rattle.mw_fill.proofs.Links.{owners_of_link, link_kept, idle_owners}
 use Rattle.mw_fill.proofs.Tidy.{IsIdle, is_opening}
 
 -- ---- copies
 
-module _ (P : ItemCopy → Type 0) (group : Group) (many : Bool) (number : ℕ) (s : Slot) (each : (item : ℕ) → item_is_of group (slice_get s.world.items item) ≡ true → P (copy_of many number s item)) where
-  entry_all : (e : PoolEntry) (here : Bool) → item_is_of group (slice_get s.world.items e.item) ≡ here → All P (if here then replicate e.count (copy_of many number s e.item) else [])
-  entry_all e true h = All-replicate P e.count (copy_of many number s e.item) (each e.item h)
-  entry_all e false h = All-nil P
+pub numbers_are : (joint : Joint) (number item : ℕ) (s : Slot) (asked : Bool) → slot_at joint.slots number ≡ Some s → is_progression_item (slice_get s.world.items item) ≡ asked
+    → receiver_numbers joint number item ≡ (if asked then (s.first_item + item) ∷ [] else [])
+numbers_are joint number item s asked there is =
+    ap (flat_map (owner_numbers joint.slots item)) (owners_of_slot joint number s there) ∙ append-nil (owner_numbers joint.slots item number) ∙ ap (λ o. numbers_of o item) there
+    ∙ ap (λ b. if b then (s.first_item + item) ∷ [] else []) is
 
-  pool_all : (pool : List PoolEntry) → All P (flat_map (entry_copies group many number s) pool)
-  pool_all [] = All-nil P
-  pool_all (e ∷ pool) =
-      rw (flat_map-cons (entry_copies group many number s) e pool)
-      (All-append P (entry_copies group many number s e) (flat_map (entry_copies group many number s) pool) (entry_all e (item_is_of group (slice_get s.world.items e.item)) refl) (pool_all pool))
-
-pub copies_all : (P : ItemCopy → Type 0) (group : Group) (joint : Joint)
-    → ((k : ℕ) (s : Slot) → slot_at joint.slots (suc k) ≡ Some s → (item : ℕ) → item_is_of group (slice_get s.world.items item) ≡ true → P (copy_of (has_others joint) (suc k) s item)) → All P (copies_of group joint)
-copies_all P group joint each =
-    numbered_all P (slot_copies group (has_others joint)) 1 joint.slots
-    (λ k s l e. let at : suc k ≡ 1 + k = omega arith in
-    subst (λ n. All P (slot_copies group (has_others joint) n s)) at
-    (pool_all P group (has_others joint) (suc k) s (each k s (get_some joint.slots k s l ∙ ap Some (sym e))) s.world.pool))
-
-pub numbers_are : (slots : List Slot) (number item : ℕ) (s : Slot) (asked : Bool) → slot_at slots number ≡ Some s → is_progression_item (slice_get s.world.items item) ≡ asked
-    → numbers_of (slot_at slots number) item ≡ (if asked then (s.first_item + item) ∷ [] else [])
-numbers_are slots number item s asked there is = ap (λ o. numbers_of o item) there ∙ ap (λ b. if b then (s.first_item + item) ∷ [] else []) is
+-- a link's item that no rule asks for
+link_idle : (joint : Joint) → IsJoint joint → (k : ℕ) (l : Link) → slice_get joint.links k ≡ Some l → (item : ℕ) → is_progression_item (slice_get (world_of (first_slot joint.slots l.members)).items item) ≡ false
+    → receiver_numbers joint (suc (length joint.slots) + k) item ≡ []
+link_idle joint kept k l there item e =
+    ap (flat_map (owner_numbers joint.slots item)) (owners_of_link joint k l there)
+    ∙ idle_owners joint.slots (world_of (first_slot joint.slots l.members)) item e l.members (link_kept joint kept k l there).world
 
 pub asked_is : (o : Option Item) → item_is_of Asked o ≡ true → is_progression_item o ≡ true
 asked_is (Some i) e = e
@@ -64,11 +56,16 @@ filling_is : (o : Option Item) → item_is_of Filling o ≡ true → is_progress
 filling_is (Some i) e = filling_item i e
 filling_is None e = cc
 
-pub helping_idle : (joint : Joint) → All (IsIdle joint.slots) (copies_of Helping joint)
-helping_idle joint = copies_all (IsIdle joint.slots) Helping joint (λ k s there item e. record { numbers = numbers_are joint.slots (suc k) item s false there (helping_is (slice_get s.world.items item) e) })
+group_idle : (group : Group) → ((o : Option Item) → item_is_of group o ≡ true → is_progression_item o ≡ false) → (joint : Joint) → IsJoint joint → All (IsIdle joint) (copies_of group joint)
+group_idle group idle joint kept =
+    copies_all (IsIdle joint) group joint (λ k s there item e. record { numbers = numbers_are joint (suc k) item s false there (idle (slice_get s.world.items item) e) })
+    (λ k l there item e. record { numbers = link_idle joint kept k l there item (idle (slice_get (world_of (first_slot joint.slots l.members)).items item) e) })
 
-pub filling_idle : (joint : Joint) → All (IsIdle joint.slots) (copies_of Filling joint)
-filling_idle joint = copies_all (IsIdle joint.slots) Filling joint (λ k s there item e. record { numbers = numbers_are joint.slots (suc k) item s false there (filling_is (slice_get s.world.items item) e) })
+pub helping_idle : (joint : Joint) → IsJoint joint → All (IsIdle joint) (copies_of Helping joint)
+helping_idle = group_idle Helping helping_is
+
+pub filling_idle : (joint : Joint) → IsJoint joint → All (IsIdle joint) (copies_of Filling joint)
+filling_idle = group_idle Filling filling_is
 
 -- ---- locations
 
@@ -91,11 +88,11 @@ filler_is : (o : Option Item) → is_filler o ≡ true → is_progression_item o
 filler_is (Some i) e = filler_item i e
 filler_is None e = cc
 
-pub fillers_idle : (joint : Joint) → IsJoint joint → All (λ s. put_numbers joint.slots (filler_at s) ≡ []) (openings_of joint)
+pub fillers_idle : (joint : Joint) → IsJoint joint → All (λ s. put_numbers joint (filler_at s) ≡ []) (openings_of joint)
 fillers_idle joint kept =
-    openings_all (λ s. put_numbers joint.slots (filler_at s) ≡ []) joint
+    openings_all (λ s. put_numbers joint (filler_at s) ≡ []) joint
     (λ k s within is index l.
-    numbers_are joint.slots (suc k) s.world.filler s false (get_some joint.slots k s within ∙ ap Some (sym is))
+    numbers_are joint (suc k) s.world.filler s false (get_some joint.slots k s within ∙ ap Some (sym is))
     (filler_is (slice_get s.world.items s.world.filler) (subst (λ (t : Slot). is_filler (slice_get t.world.items t.world.filler) ≡ true) (sym is) (kept.each k s within).world.filler.class)))
 
 any_at : {X : Type 0} (p : X → Bool) (xs : List X) (k : ℕ) (d : X) → k < length xs → p (get_or xs k d) ≡ true → list_any p xs ≡ true

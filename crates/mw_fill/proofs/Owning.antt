@@ -7,9 +7,8 @@ use Rattle.std.proofs.lemmas.List.Concat.{flat_map-append, length-flat_map}
 use Rattle.std.proofs.lemmas.List.Elements.{All-append, All-nil, filter-append}
 use Rattle.std.proofs.lemmas.List.Sums.{sum_by-cons, sum_by-le}
 use Rattle.mw_rules.specs.Holds.{Places}
-use Rattle.mw_multi.specs.RulesKept.{is_progression_item}
-use Rattle.mw_multi.specs.Joint.{Slot, item_total}
-use Rattle.mw_multi.specs.Placement.{Put, item_in, slot_at, numbers_of, put_numbers}
+use Rattle.mw_multi.specs.Joint.{Joint, item_total}
+use Rattle.mw_multi.specs.Placement.{Put, put_numbers}
 use Rattle.mw_reach.specs.Reach.{times_in}
 use Rattle.mw_reach.proofs.Found.{times_in-le}
 use Rattle.mw_reach.proofs.Items.{times_in-append}
@@ -20,129 +19,129 @@ use Rattle.mw_fill.specs.Laying.{lies_in, numbers_found, numbers_between, AreFir
 
 -- ---- how many
 
-one_le : (b : Bool) (n : ℕ) → length (cond b (n ∷ []) []) ≤ 1
-one_le true n = omega arith
-one_le false n = omega arith
+-- no more of an item than there are numbers
+pub count_le : (joint : Joint) (copies : List ItemCopy) (n : ℕ) → copies_count joint copies n ≤ length (all_numbers joint copies)
+count_le joint copies n = times_in-le n (all_numbers joint copies)
 
-numbers_le : (o : Option Slot) (item : ℕ) → length (numbers_of o item) ≤ 1
-numbers_le None item = omega arith
-numbers_le (Some s) item = one_le (is_progression_item (item_in item s)) (s.first_item + item)
+-- what is left has no more numbers than all
+pub rest_le : (joint : Joint) (copies : List ItemCopy) (from : ℕ) → length (all_numbers joint (drop from copies)) ≤ length (all_numbers joint copies)
+rest_le joint copies from =
+    let own = copy_numbers joint in
+    let parts : all_numbers joint copies ≡ all_numbers joint (take from copies) ++ all_numbers joint (drop from copies) =
+    ap (all_numbers joint) (sym (take-append-drop from copies)) ∙ flat_map-append own (take from copies) (drop from copies) in
+    omega (arith, ap length parts, length-append (all_numbers joint (take from copies)) (all_numbers joint (drop from copies)))
 
--- no more numbers than copies
-pub copies_le : (slots : List Slot) (copies : List ItemCopy) → length (all_numbers slots copies) ≤ length copies
-copies_le slots copies =
-    let each = sum_by-le (λ c. length (copy_numbers slots c)) 1 copies (λ k d h. numbers_le (slot_at slots (get_or copies k d).receiver) (get_or copies k d).item) in
-    omega (arith, length-flat_map (copy_numbers slots) copies, each)
-
-pub puts_le : (slots : List Slot) (puts : List Put) → length (flat_map (put_numbers slots) puts) ≤ length puts
-puts_le slots puts =
-    let each = sum_by-le (λ p. length (put_numbers slots p)) 1 puts (λ k d h. numbers_le (slot_at slots (get_or puts k d).receiver) (get_or puts k d).item) in
-    omega (arith, length-flat_map (put_numbers slots) puts, each)
-
-pub count_le : (slots : List Slot) (copies : List ItemCopy) (n : ℕ) → copies_count slots copies n ≤ length copies
-count_le slots copies n = omega (arith, times_in-le n (all_numbers slots copies), copies_le slots copies)
+-- the first puts have no more numbers than all
+pub front_le : (joint : Joint) (puts : List Put) (n : ℕ) → length (flat_map (put_numbers joint) (take n puts)) ≤ length (flat_map (put_numbers joint) puts)
+front_le joint puts n =
+    let own = put_numbers joint in
+    let parts : flat_map own puts ≡ flat_map own (take n puts) ++ flat_map own (drop n puts) = ap (flat_map own) (sym (take-append-drop n puts)) ∙ flat_map-append own (take n puts) (drop n puts) in
+    omega (arith, ap length parts, length-append (flat_map own (take n puts)) (flat_map own (drop n puts)))
 
 -- ---- whose
 
 -- the numbers of copies of the joint are its own
-pub copies_within : (slots : List Slot) (copies : List ItemCopy) → All (CopyKept slots) copies → All (λ n. n < item_total slots) (all_numbers slots copies)
-copies_within slots [] all = All-nil (λ n. n < item_total slots)
-copies_within slots (copy ∷ later) all =
-    All-append (λ n. n < item_total slots) (copy_numbers slots copy) (all_numbers slots later) (all 0 copy (omega arith)).numbers (copies_within slots later (λ k d h. all (suc k) d (omega (arith, h))))
+pub copies_within : (joint : Joint) (copies : List ItemCopy) → All (CopyKept joint) copies → All (λ n. n < item_total joint.slots) (all_numbers joint copies)
+copies_within joint [] all = All-nil (λ n. n < item_total joint.slots)
+copies_within joint (copy ∷ later) all =
+    All-append (λ n. n < item_total joint.slots) (copy_numbers joint copy) (all_numbers joint later) (all 0 copy (omega arith)).numbers (copies_within joint later (λ k d h. all (suc k) d (omega (arith, h))))
 
 -- ---- counts
 
-pub count_append : (slots : List Slot) (xs ys : List ItemCopy) (n : ℕ) → copies_count slots (xs ++ ys) n ≡ copies_count slots xs n + copies_count slots ys n
-count_append slots xs ys n = ap (times_in n) (flat_map-append (copy_numbers slots) xs ys) ∙ times_in-append n (all_numbers slots xs) (all_numbers slots ys)
+pub count_append : (joint : Joint) (xs ys : List ItemCopy) (n : ℕ) → copies_count joint (xs ++ ys) n ≡ copies_count joint xs n + copies_count joint ys n
+count_append joint xs ys n = ap (times_in n) (flat_map-append (copy_numbers joint) xs ys) ∙ times_in-append n (all_numbers joint xs) (all_numbers joint ys)
 
 -- they are counted copy by copy
-pub count_each : (slots : List Slot) (copies : List ItemCopy) (n : ℕ) → copies_count slots copies n ≡ sum_by (λ c. times_in n (copy_numbers slots c)) copies
-count_each slots [] n = refl
-count_each slots (copy ∷ later) n =
-    times_in-append n (copy_numbers slots copy) (all_numbers slots later) ∙ ap (λ k. times_in n (copy_numbers slots copy) + k) (count_each slots later n) ∙ sym (sum_by-cons (λ c. times_in n (copy_numbers slots c)) copy later)
+pub count_each : (joint : Joint) (copies : List ItemCopy) (n : ℕ) → copies_count joint copies n ≡ sum_by (λ c. times_in n (copy_numbers joint c)) copies
+count_each joint [] n = refl
+count_each joint (copy ∷ later) n =
+    times_in-append n (copy_numbers joint copy) (all_numbers joint later) ∙ ap (λ k. times_in n (copy_numbers joint copy) + k) (count_each joint later n) ∙ sym (sum_by-cons (λ c. times_in n (copy_numbers joint c)) copy later)
 
 -- ---- one copy more
 
-pub numbers_more : (slots : List Slot) (copies : List ItemCopy) (i : ℕ) (copy : ItemCopy) → i < length copies → copy ≡ get_or copies i copy → all_numbers slots (take (i + 1) copies) ≡ all_numbers slots (take i copies) ++ copy_numbers slots copy
-numbers_more slots copies i copy within is =
+pub numbers_more : (joint : Joint) (copies : List ItemCopy) (i : ℕ) (copy : ItemCopy) → i < length copies → copy ≡ get_or copies i copy → all_numbers joint (take (i + 1) copies) ≡ all_numbers joint (take i copies) ++ copy_numbers joint copy
+numbers_more joint copies i copy within is =
     let front = take i copies in
-    ap (all_numbers slots) (take_more copies i copy within ∙ ap (λ c. front ++ c ∷ []) (sym is)) ∙ flat_map-append (copy_numbers slots) front (copy ∷ [])
-    ∙ ap (λ ns. all_numbers slots front ++ ns) (append-nil (copy_numbers slots copy))
+    ap (all_numbers joint) (take_more copies i copy within ∙ ap (λ c. front ++ c ∷ []) (sym is)) ∙ flat_map-append (copy_numbers joint) front (copy ∷ [])
+    ∙ ap (λ ns. all_numbers joint front ++ ns) (append-nil (copy_numbers joint copy))
 
 -- where each of the first copies begins, and the next
-pub begins_more : (slots : List Slot) (copies : List ItemCopy) (begins : List ℕ) (i end : ℕ) → length begins ≡ i + 1 → ((k d : ℕ) → k ≤ i → get_or begins k d ≡ length (all_numbers slots (take k copies)))
-    → end ≡ length (all_numbers slots (take (i + 1) copies)) → (k d : ℕ) → k ≤ i + 1 → get_or (begins ++ end ∷ []) k d ≡ length (all_numbers slots (take k copies))
-begins_more slots copies begins i end size each is k d low = elim (cases_lt k (i + 1)) [
+pub begins_more : (joint : Joint) (copies : List ItemCopy) (begins : List ℕ) (i end : ℕ) → length begins ≡ i + 1 → ((k d : ℕ) → k ≤ i → get_or begins k d ≡ length (all_numbers joint (take k copies)))
+    → end ≡ length (all_numbers joint (take (i + 1) copies)) → (k d : ℕ) → k ≤ i + 1 → get_or (begins ++ end ∷ []) k d ≡ length (all_numbers joint (take k copies))
+begins_more joint copies begins i end size each is k d low = elim (cases_lt k (i + 1)) [
   | inl before ↦ get_or_append_left begins (end ∷ []) d k (omega (arith, size, before)) ∙ each k d (omega (arith, before))
-  | inr last ↦ let at : i + 1 ≡ k = omega (arith, low, last) in get_or_push begins end d k (size ∙ at) ∙ is ∙ ap (λ n. length (all_numbers slots (take n copies))) at
+  | inr last ↦ let at : i + 1 ≡ k = omega (arith, low, last) in get_or_push begins end d k (size ∙ at) ∙ is ∙ ap (λ n. length (all_numbers joint (take n copies))) at
 ]
 
 -- ---- the numbers of a range
 
-module _ (slots : List Slot) (copies : List ItemCopy) (from to : ℕ) (low : from ≤ to) where
+module _ (joint : Joint) (copies : List ItemCopy) (from to : ℕ) (low : from ≤ to) where
   abbrev front : List ℕ
-  front = all_numbers slots (take from copies)
+  front = all_numbers joint (take from copies)
 
   abbrev middle : List ℕ
-  middle = numbers_between slots copies from to
+  middle = numbers_between joint copies from to
 
   abbrev rest : List ℕ
-  rest = all_numbers slots (drop to copies)
+  rest = all_numbers joint (drop to copies)
 
-  up_to : all_numbers slots (take to copies) ≡ front ++ middle
+  up_to : all_numbers joint (take to copies) ≡ front ++ middle
   up_to =
       let sum : to ≡ from + (to - from) = omega arith in
-      ap (λ n. all_numbers slots (take n copies)) sum ∙ ap (all_numbers slots) (take-add from (to - from) copies) ∙ flat_map-append (copy_numbers slots) (take from copies) (take (to - from) (drop from copies))
+      ap (λ n. all_numbers joint (take n copies)) sum ∙ ap (all_numbers joint) (take-add from (to - from) copies) ∙ flat_map-append (copy_numbers joint) (take from copies) (take (to - from) (drop from copies))
 
-  whole : all_numbers slots copies ≡ front ++ (middle ++ rest)
+  whole : all_numbers joint copies ≡ front ++ (middle ++ rest)
   whole =
-      ap (all_numbers slots) (sym (take-append-drop to copies)) ∙ flat_map-append (copy_numbers slots) (take to copies) (drop to copies) ∙ ap (λ ns. ns ++ rest) up_to ∙ append_assoc front middle rest
+      ap (all_numbers joint) (sym (take-append-drop to copies)) ∙ flat_map-append (copy_numbers joint) (take to copies) (drop to copies) ∙ ap (λ ns. ns ++ rest) up_to ∙ append_assoc front middle rest
 
-  pub end_is : length (all_numbers slots (take to copies)) ≡ length front + length middle
+  pub end_is : length (all_numbers joint (take to copies)) ≡ length front + length middle
   end_is = ap length up_to ∙ length-append front middle
 
-  pub end_within : length (all_numbers slots (take to copies)) ≤ length (all_numbers slots copies)
+  pub middle_le : length middle ≤ length (all_numbers joint copies)
+  middle_le = omega (arith, ap length whole, length-append front (middle ++ rest), length-append middle rest)
+
+  pub end_within : length (all_numbers joint (take to copies)) ≤ length (all_numbers joint copies)
   end_within = omega (arith, end_is, ap length whole, length-append front (middle ++ rest), length-append middle rest)
 
-  pub part_is : (begin end : ℕ) → begin ≡ length front → end ≡ length (all_numbers slots (take to copies)) → take (end - begin) (drop begin (all_numbers slots copies)) ≡ middle
+  pub part_is : (begin end : ℕ) → begin ≡ length front → end ≡ length (all_numbers joint (take to copies)) → take (end - begin) (drop begin (all_numbers joint copies)) ≡ middle
   part_is begin end b e =
       let wide : length middle ≡ end - begin = omega (arith, end_is, b, e) in
       ap (λ ns. take (end - begin) (drop begin ns)) whole ∙ ap (take (end - begin)) (drop_at front (middle ++ rest) begin (sym b)) ∙ take_at middle rest (end - begin) wide
 
 -- ---- the numbers of the copies that were put
 
-pub first_short : (slots : List Slot) (copies : List ItemCopy) (laid : List Put) → AreFirst slots copies laid → length laid ≤ length copies
-first_short slots copies laid first =
+pub first_short : (joint : Joint) (copies : List ItemCopy) (laid : List Put) → AreFirst joint copies laid → length laid ≤ length copies
+first_short joint copies laid first =
     let front = take (length laid) copies in
-    omega (arith, ap length first, length-map laid (put_numbers slots), length-map front (copy_numbers slots), length-take (length laid) copies)
+    omega (arith, ap length first, length-map laid (put_numbers joint), length-map front (copy_numbers joint), length-take (length laid) copies)
 
 any_copy : ItemCopy
 any_copy = record { receiver = 0; item = 0; locality = Anywhere }
 
 -- those of one
-pub one_between : (slots : List Slot) (copies : List ItemCopy) (laid : List Put) (from i : ℕ) (put : Put) → from + length laid ≤ length copies
-    → map (put_numbers slots) laid ≡ map (copy_numbers slots) (take (length laid) (drop from copies)) → i < length laid → put ≡ get_or laid i put → numbers_between slots copies (from + i) (from + i + 1) ≡ put_numbers slots put
-one_between slots copies laid from i put within same inside is =
+pub one_between : (joint : Joint) (copies : List ItemCopy) (laid : List Put) (from i : ℕ) (put : Put) → from + length laid ≤ length copies
+    → map (put_numbers joint) laid ≡ map (copy_numbers joint) (take (length laid) (drop from copies)) → i < length laid → put ≡ get_or laid i put → numbers_between joint copies (from + i) (from + i + 1) ≡ put_numbers joint put
+one_between joint copies laid from i put within same inside is =
     let at = from + i in
     let copy = get_or copies at any_copy in
     let some = drop from copies in
     let one : at + 1 - at ≡ 1 = omega arith in
     let short : i < length (take (length laid) some) = omega (arith, length-take (length laid) some, length-drop from copies, within, inside) in
-    let there : copy_numbers slots copy ≡ put_numbers slots put =
-    ap (copy_numbers slots) (sym (get_or-take (length laid) some i any_copy inside ∙ get_or-drop from copies i any_copy)) ∙ sym (get_or-map (copy_numbers slots) (take (length laid) some) i any_copy [] short)
-    ∙ ap (λ (ns : List (List ℕ)). get_or ns i []) (sym same) ∙ get_or-map (put_numbers slots) laid i put [] inside ∙ ap (put_numbers slots) (sym is) in
-    ap (λ n. all_numbers slots (take n (drop at copies))) one ∙ ap (λ cs. all_numbers slots (take 1 cs)) (drop_more copies at any_copy (omega (arith, within, inside))) ∙ append-nil (copy_numbers slots copy) ∙ there
+    let there : copy_numbers joint copy ≡ put_numbers joint put =
+    ap (copy_numbers joint) (sym (get_or-take (length laid) some i any_copy inside ∙ get_or-drop from copies i any_copy)) ∙ sym (get_or-map (copy_numbers joint) (take (length laid) some) i any_copy [] short)
+    ∙ ap (λ (ns : List (List ℕ)). get_or ns i []) (sym same) ∙ get_or-map (put_numbers joint) laid i put [] inside ∙ ap (put_numbers joint) (sym is) in
+    ap (λ n. all_numbers joint (take n (drop at copies))) one ∙ ap (λ cs. all_numbers joint (take 1 cs)) (drop_more copies at any_copy (omega (arith, within, inside))) ∙ append-nil (copy_numbers joint copy) ∙ there
 
-module _ (slots : List Slot) (w : Places) (laid : List Put) (i : ℕ) (put : Put) (within : i < length laid) (is : put ≡ get_or laid i put) where
-  found_step : (b : Bool) → w put.place ≡ b → numbers_found slots w (take (i + 1) laid) ≡ numbers_found slots w (take i laid) ++ flat_map (put_numbers slots) (cond b (put ∷ []) [])
+module _ (joint : Joint) (w : Places) (laid : List Put) (i : ℕ) (put : Put) (within : i < length laid) (is : put ≡ get_or laid i put) where
+  found_step : (b : Bool) → w put.place ≡ b → numbers_found joint w (take (i + 1) laid) ≡ numbers_found joint w (take i laid) ++ flat_map (put_numbers joint) (cond b (put ∷ []) [])
   found_step b e =
       let before = take i laid in
-      ap (numbers_found slots w) (take_more laid i put within ∙ ap (λ p. before ++ p ∷ []) (sym is)) ∙ ap (flat_map (put_numbers slots)) (filter-append (lies_in w) before (put ∷ []))
-      ∙ flat_map-append (put_numbers slots) (filter (lies_in w) before) (filter (lies_in w) (put ∷ [])) ∙ ap (λ t. numbers_found slots w before ++ flat_map (put_numbers slots) (cond t (put ∷ []) [])) e
+      ap (numbers_found joint w) (take_more laid i put within ∙ ap (λ p. before ++ p ∷ []) (sym is)) ∙ ap (flat_map (put_numbers joint)) (filter-append (lies_in w) before (put ∷ []))
+      ∙ flat_map-append (put_numbers joint) (filter (lies_in w) before) (filter (lies_in w) (put ∷ [])) ∙ ap (λ t. numbers_found joint w before ++ flat_map (put_numbers joint) (cond t (put ∷ []) [])) e
 
   -- one more is found
-  pub found_more : w put.place ≡ true → numbers_found slots w (take (i + 1) laid) ≡ numbers_found slots w (take i laid) ++ put_numbers slots put
-  found_more e = found_step true e ∙ ap (λ ns. numbers_found slots w (take i laid) ++ ns) (append-nil (put_numbers slots put))
+  pub found_more : w put.place ≡ true → numbers_found joint w (take (i + 1) laid) ≡ numbers_found joint w (take i laid) ++ put_numbers joint put
+  found_more e = found_step true e ∙ ap (λ ns. numbers_found joint w (take i laid) ++ ns) (append-nil (put_numbers joint put))
 
-  pub found_still : w put.place ≡ false → numbers_found slots w (take (i + 1) laid) ≡ numbers_found slots w (take i laid)
-  found_still e = found_step false e ∙ append-nil (numbers_found slots w (take i laid))
+  pub found_still : w put.place ≡ false → numbers_found joint w (take (i + 1) laid) ≡ numbers_found joint w (take i laid)
+  found_still e = found_step false e ∙ append-nil (numbers_found joint w (take i laid))

@@ -24,11 +24,11 @@ module _ (copies : List ItemCopy) (k : ℕ) (copy : ItemCopy) (within : k < leng
       ap (λ cs. placed_anywhere openings cs puts) next_copy ∙ ap (λ o. or_stuck o copy (λ s. placed_anywhere openings (drop (k + 1) copies) (puts ++ put_of copy s ∷ []))) e
 
 -- a copy at a location that fits
-pub held_next : (joint : Joint) (copy : ItemCopy) (test : Opening → Bool) (puts : List Put) (openings : List Opening) (opening : Opening) (held : List (Option Put)) → CopyKept joint.slots copy → All (OpeningKept joint.slots) openings → IsHeldFor joint puts held
+pub held_next : (joint : Joint) (copy : ItemCopy) (test : Opening → Bool) (puts : List Put) (openings : List Opening) (opening : Opening) (held : List (Option Put)) → CopyKept joint copy → All (OpeningKept joint) openings → IsHeldFor joint puts held
     → first_fit test puts openings ≡ Some opening → IsHeldFor joint (puts ++ put_of copy opening ∷ []) (set held opening.place (Some (put_of copy opening)))
 held_next joint copy test puts openings opening held kept there h e =
-    let site = find_all (OpeningKept joint.slots) _ openings opening there e in
-    held_put joint puts (put_of copy opening) held h (put_kept joint.slots opening copy.receiver copy.item site kept.item) (omega (arith, h.size, site.place)) (free_there test puts openings opening e).0
+    let site = find_all (OpeningKept joint) _ openings opening there e in
+    held_put joint puts (put_of copy opening) held h (put_kept joint opening copy.receiver copy.item site kept.item) (omega (arith, h.size, site.place)) (free_there test puts openings opening e).0
 
 pub anywhere_end : (copies : List ItemCopy) (k : ℕ) → length copies ≤ k → (openings : List Opening) (puts : List Put) → placed_anywhere openings (drop k copies) puts ≡ filled puts
 anywhere_end copies k past openings puts = ap (λ cs. placed_anywhere openings cs puts) (drop_all k copies past)

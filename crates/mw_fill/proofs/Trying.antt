@@ -10,7 +10,7 @@ use Rattle.mw_fill.specs.declared.error.FillError.{FillError}
 use Rattle.mw_fill.specs.declared.error.FillError.TheVariants.{Stuck, Memory}
 use Rattle.mw_fill.specs.Copies.{ItemCopy}
 use Rattle.mw_fill.specs.Openings.{Opening, has_kind, of_kind, regular, all_kinds}
-use Rattle.mw_fill.specs.Fill.{Outcome, filled, stuck, is_reached, FillRun}
+use Rattle.mw_fill.specs.Fill.{Outcome, filled, stuck, FillRun}
 use Rattle.mw_fill.specs.Try.{Lists, the_rest, IsOutcome}
 use Rattle.mw_fill.specs.Kept.{OpeningKept, IsHeldFor}
 use Rattle.mw_fill.specs.Answer.{OnStuck}
@@ -24,7 +24,7 @@ pub all_kinds_all : (P : Opening → Type 0) (openings : List Opening) → All P
 all_kinds_all P openings h = All-append P (of_kind Excluded openings) (regular openings) (All-filter (has_kind Excluded) P openings h) (regular_all P openings h)
 
 -- locations of the joint are within what is held for it
-pub places_within : (joint : Joint) (puts : List Put) (held : List (Option Put)) (openings : List Opening) → IsHeldFor joint puts held → All (OpeningKept joint.slots) openings → All (λ s. s.place < length held) openings
+pub places_within : (joint : Joint) (puts : List Put) (held : List (Option Put)) (openings : List Opening) → IsHeldFor joint puts held → All (OpeningKept joint) openings → All (λ s. s.place < length held) openings
 places_within joint puts held openings h there = λ i d l. omega (arith, h.size, (there i d l).place)
 
 -- ---- answers
@@ -33,21 +33,21 @@ pub on_stuck : (e : FillError) (P Q : ℕ → ℕ → Type 0) → ((slot item : 
 on_stuck (Stuck slot item) P Q h p = h slot item p
 on_stuck Memory P Q h p = tt
 
-pub run_same : (joint : Joint) (openings other : List Opening) (copies more : List ItemCopy) (out : Outcome) → openings ≡ other → copies ≡ more → FillRun is_reached joint openings copies [] out → FillRun is_reached joint other more [] out
+pub run_same : (joint : Joint) (openings other : List Opening) (copies more : List ItemCopy) (out : Outcome) → openings ≡ other → copies ≡ more → FillRun joint openings copies [] out → FillRun joint other more [] out
 run_same joint openings other copies more out s c r =
-    subst (λ ss. FillRun is_reached joint ss more [] out) s (subst (λ cs. FillRun is_reached joint openings cs [] out) c r)
+    subst (λ ss. FillRun joint ss more [] out) s (subst (λ cs. FillRun joint openings cs [] out) c r)
 
 -- stuck at a copy that rules ask for
-pub stuck_first : (joint : Joint) (lists : Lists) (slot item : ℕ) → FillRun is_reached joint (regular lists.openings) lists.asked [] (stuck slot item) → IsOutcome joint lists (stuck slot item)
+pub stuck_first : (joint : Joint) (lists : Lists) (slot item : ℕ) → FillRun joint (regular lists.openings) lists.asked [] (stuck slot item) → IsOutcome joint lists (stuck slot item)
 stuck_first joint lists slot item run = (stuck slot item, run, refl)
 
 -- stuck at another one
-pub stuck_rest : (joint : Joint) (lists : Lists) (puts : List Put) (slot item : ℕ) → FillRun is_reached joint (regular lists.openings) lists.asked [] (filled puts)
+pub stuck_rest : (joint : Joint) (lists : Lists) (puts : List Put) (slot item : ℕ) → FillRun joint (regular lists.openings) lists.asked [] (filled puts)
     → the_rest lists puts ≡ stuck slot item → IsOutcome joint lists (stuck slot item)
 stuck_rest joint lists puts slot item run e = (filled puts, run, sym e)
 
 -- what the last copies come to
-pub rest_filled : (joint : Joint) (lists : Lists) (puts more : List Put) → FillRun is_reached joint (regular lists.openings) lists.asked [] (filled puts)
+pub rest_filled : (joint : Joint) (lists : Lists) (puts more : List Put) → FillRun joint (regular lists.openings) lists.asked [] (filled puts)
     → the_rest lists puts ≡ filled more → IsOutcome joint lists (filled more)
 rest_filled joint lists puts more run e = (filled puts, run, sym e)
 

@@ -13,7 +13,8 @@ seed_key seed = key_of (to_le_bytes w64 seed ++ replicate 24 0)
 abbrev pub start_of : ℕ → ℕ → ChaCha
 start_of seed stream = record { key = seed_key seed; stream = stream; word_pos = 0 }
 
--- the word at a place of the generator's stream, by the 20 rounds of ChaCha20; after 2^68 words they begin anew
+-- the word at a place of the generator's stream, by the 20 rounds of ChaCha20; after 2^68 words
+-- they begin anew
 abbrev pub words_of : ChaCha → ℕ → ℕ
 words_of g place = word_at 10 g.key g.stream (place % 2 ^ 68)
 
@@ -25,7 +26,8 @@ at_place g place = record g { word_pos = place % 2 ^ 68 }
 abbrev pub drawn : ℕ → ℕ → ℕ
 drawn word k = word * k / 2 ^ 32
 
--- from the entry at i down to the one at 1, each changes places with a drawn one at or before it; the words begin at a place
+-- from the entry at i down to the one at 1, each changes places with a drawn one at or before it;
+-- the words begin at a place
 abbrev pub shuffled_down : {A : Type 0} → (ℕ → ℕ) → ℕ → ℕ → List A → List A
 shuffled_down words place zero xs = xs
 shuffled_down words place (suc i) xs =

@@ -10,7 +10,8 @@ use Rattle.mw_fill.specs.Copies.{ItemCopy}
 use Rattle.mw_fill.specs.declared.locality.Locality.{Locality}
 use Rattle.mw_fill.specs.declared.locality.Locality.TheVariants.{Anywhere, AtHome, Abroad}
 
--- a location with an id: its place, its slot's number, its kind, and the item of its slot that fills it where nothing else does
+-- a location with an id: its place, its slot's number, its kind, and the item of its slot that
+-- fills it where nothing else does
 pub record Opening : Type 0 where
   pub place : ℕ
   pub slot : ℕ
@@ -38,7 +39,8 @@ is_kind Default kind = is_default kind
 is_kind Priority kind = is_priority kind
 is_kind Excluded kind = is_excluded kind
 
--- excluded where an option or the table says so, else priority where an option or the table says so, else default
+-- excluded where an option or the table says so, else priority where an option or the table says
+-- so, else default
 abbrev pub kind_of : Bool → Bool → LocKind → LocKind
 kind_of exclude priority table =
     if exclude || is_excluded table then Excluded

@@ -6,11 +6,12 @@ use Rattle.mw_fill.specs.Draws.{start_of, words_of, shuffled, place_after}
 use Rattle.mw_fill.specs.declared.group.Group.TheVariants.{Asked, Helping, Filling}
 use Rattle.mw_fill.specs.Copies.{ItemCopy, copies_of}
 use Rattle.mw_fill.specs.Openings.{Opening, openings_of, regular, all_kinds}
-use Rattle.mw_fill.specs.Fill.{Outcome, filled, stuck, FillRun, is_reached, placed_anywhere}
+use Rattle.mw_fill.specs.Fill.{Outcome, filled, stuck, FillRun, placed_anywhere}
 
 -- ---- shuffles
 
--- the copies that rules ask for, the locations with an id, the useful copies, and the filler and trap copies
+-- the copies that rules ask for, the locations with an id, the useful copies, and the filler and
+-- trap copies
 pub record Lists : Type 0 where
   pub asked : List ItemCopy
   pub openings : List Opening
@@ -57,7 +58,8 @@ abbrev pub and_then : Outcome → (List Put → Outcome) → Outcome
 and_then (filled puts) next = next puts
 and_then (stuck slot item) next = stuck slot item
 
--- useful copies at priority and then default locations; filler and trap copies at excluded ones first
+-- useful copies at priority and then default locations; filler and trap copies at excluded ones
+-- first
 abbrev pub the_rest : Lists → List Put → Outcome
 the_rest lists puts =
     and_then (placed_anywhere (regular lists.openings) lists.helping puts)
@@ -66,7 +68,7 @@ the_rest lists puts =
 -- what a try comes to: first the copies that rules ask for, then the rest
 abbrev pub IsOutcome : Joint → Lists → Outcome → Type 0
 IsOutcome joint lists out =
-    (first : Outcome) × FillRun is_reached joint (regular lists.openings) lists.asked [] first
+    (first : Outcome) × FillRun joint (regular lists.openings) lists.asked [] first
     × (out ≡ and_then first (the_rest lists))
 
 -- ---- the placement

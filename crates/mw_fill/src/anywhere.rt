@@ -39,8 +39,8 @@ pub(crate) fn place_anywhere(
     held: &mut [Option<Put>],
 ) -> Result<(), FillError>
     requires within { All (λ s. s.place < length held.old) openings.now }
-    ensures { (joint : Joint) (puts : List plain.Put) → All (CopyKept joint.slots) copies.now
-        → All (OpeningKept joint.slots) openings.now → IsHeldFor joint puts held.old
+    ensures { (joint : Joint) (puts : List plain.Put) → All (CopyKept joint) copies.now
+        → All (OpeningKept joint) openings.now → IsHeldFor joint puts held.old
         → MatchResult result (λ _. (more : List plain.Put) × IsHeldFor joint more held.new
         × (placed_anywhere openings.now copies.now puts ≡ filled more))
         (λ e. OnStuck e (λ slot item. placed_anywhere openings.now copies.now puts

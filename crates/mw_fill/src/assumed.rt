@@ -5,7 +5,8 @@ ghost use Rattle.mw_multi.specs.Steps.{rule_list};
 ghost use Rattle.mw_multi.specs.Events.{events_of};
 ghost use Rattle.mw_reach.specs.Reach.{Placed};
 ghost use Rattle.mw_reach.specs.Reached.{IsMadeFor, HasLeast, counts_in, flags_in};
-ghost use Rattle.mw_fill.specs.Fill.{filled, stuck, in_hand, is_reached, FillRun};
+ghost use Rattle.mw_fill.specs.Copies.{all_numbers};
+ghost use Rattle.mw_fill.specs.Fill.{filled, stuck, in_hand, FillRun};
 ghost use Rattle.mw_fill.specs.Asks.{AsksWithin, FindsNone};
 ghost use Rattle.mw_fill.specs.Kept.{CopyKept, OpeningKept, IsHeldFor};
 ghost use Rattle.mw_fill.specs.Laying.{IsLaid, RunsOn, AreOrdered, IsLaying, IsPast, RangeWithin, FirstWithin, SecondWithin};
@@ -23,10 +24,12 @@ use mw_rules::{Ruling, Steps};
 use std::alloc::Global;
 use std::sync::ledger::Ledger;
 
-/// Puts the copies up to the middle one, which isn't put, as `place_range` does, with those from there on in hand as well.
-/// `reached` has the list with the copies from `to` on in hand and with those that were put, and has it again in the end.
+/// Puts the copies up to the middle one, which isn't put, as `place_range` does, with those from
+/// there on in hand as well. `reached` has the list with the copies from `to` on in hand and with
+/// those that were put, and has it again in the end.
 ///
-/// Where only one copy is left, it is put without a list of its own if its location is known by the smaller one.
+/// Where only one copy is left, it is put without a list of its own if its location is known by the
+/// smaller one.
 #[cycle(place_range)]
 fn place_first<R: Ruling, L: Ledger>(
     alloc: Global,
@@ -40,7 +43,7 @@ fn place_first<R: Ruling, L: Ledger>(
     steps: &mut Steps<L>,
 ) -> Result<(), FillError>
     requires rules { R.stands_for rules.now (rule_list joint.now) }
-    requires order { AreOrdered joint.now.slots order.now.copies.now order.now.numbers.now
+    requires order { AreOrdered joint.now order.now.copies.now order.now.numbers.now
         order.now.begins.now order.now.openings.now }
     requires range { (length laying.old.laid < middle) × (middle ≤ to)
         × (to ≤ length order.now.copies.now) }
@@ -53,14 +56,14 @@ fn place_first<R: Ruling, L: Ledger>(
     ensures again { OnOk result ((flags_in reached.new ≡ flags_in reached.old)
         × (counts_in reached.new ≡ counts_in reached.old)) }
     ensures front { take (length laying.old.laid) laying.new.laid ≡ laying.old.laid }
-    ensures each { All (IsLaid joint.now.slots) laying.new.laid }
+    ensures each { All (IsLaid joint.now) laying.new.laid }
     ensures runs { RunsOn joint.now order.now.openings.now order.now.copies.now
         laying.new.laid }
     ensures more { OnOk result (length laying.new.laid ≡ middle) }
     ensures past { OnOk result (IsPast order.now.openings.now laying.new) }
     ensures answer { MatchResult result
         (λ _. IsLaying joint.now order.now.openings.now order.now.copies.now laying.new)
-        (λ e. OnStuck e (λ slot item. FillRun is_reached joint.now order.now.openings.now
+        (λ e. OnStuck e (λ slot item. FillRun joint.now order.now.openings.now
         order.now.copies.now [] (stuck slot item))) }
     ensures none { IfErr result (λ e. OnStuck e (λ slot item. FindsNone joint.now
         order.now.openings.now (drop (length laying.new.laid) order.now.copies.now)
@@ -70,8 +73,8 @@ fn place_first<R: Ruling, L: Ledger>(
 {
     // Reading the joint makes known what its type keeps.
     let _ = &joint.slots;
-    if laying.is_sure(order, middle, reached) {
-        return laying.put_next(joint, order, reached);
+    if let Some(opening) = laying.sure_location(order, middle, reached) {
+        return laying.put_next(alloc, joint, order, Some(opening));
     }
     let mark = reached.mark(alloc)?;
     laying.hold_more(joint, rules, order, middle, to, reached, steps);
@@ -80,8 +83,8 @@ fn place_first<R: Ruling, L: Ledger>(
     Ok(())
 }
 
-/// Puts the other copies up to this one, which isn't put, as `place_range` does. `reached` has the list with the copies from
-/// there on in hand and with those that were put before `from`.
+/// Puts the other copies up to this one, which isn't put, as `place_range` does. `reached` has the
+/// list with the copies from there on in hand and with those that were put before `from`.
 #[cycle(place_range)]
 fn place_second<R: Ruling, L: Ledger>(
     alloc: Global,
@@ -95,7 +98,7 @@ fn place_second<R: Ruling, L: Ledger>(
     steps: &mut Steps<L>,
 ) -> Result<(), FillError>
     requires rules { R.stands_for rules.now (rule_list joint.now) }
-    requires order { AreOrdered joint.now.slots order.now.copies.now order.now.numbers.now
+    requires order { AreOrdered joint.now order.now.copies.now order.now.numbers.now
         order.now.begins.now order.now.openings.now }
     requires range { (from ≤ length laying.old.laid) × (length laying.old.laid < to)
         × (to ≤ length order.now.copies.now) }
@@ -103,20 +106,20 @@ fn place_second<R: Ruling, L: Ledger>(
     requires past { IsPast order.now.openings.now laying.old }
     requires made { IsMadeFor joint.now reached.old }
     requires least { (before : Placed)
-        × IsPlaced joint.now.slots
+        × IsPlaced joint.now
         (events_of joint.now ++ take from laying.old.laid) before
         × HasLeast joint.now (in_hand joint.now (drop to order.now.copies.now)) before
         reached.old }
     ensures made { IsMadeFor joint.now reached.new }
     ensures front { take (length laying.old.laid) laying.new.laid ≡ laying.old.laid }
-    ensures each { All (IsLaid joint.now.slots) laying.new.laid }
+    ensures each { All (IsLaid joint.now) laying.new.laid }
     ensures runs { RunsOn joint.now order.now.openings.now order.now.copies.now
         laying.new.laid }
     ensures more { OnOk result (length laying.new.laid ≡ to) }
     ensures past { OnOk result (IsPast order.now.openings.now laying.new) }
     ensures answer { MatchResult result
         (λ _. IsLaying joint.now order.now.openings.now order.now.copies.now laying.new)
-        (λ e. OnStuck e (λ slot item. FillRun is_reached joint.now order.now.openings.now
+        (λ e. OnStuck e (λ slot item. FillRun joint.now order.now.openings.now
         order.now.copies.now [] (stuck slot item))) }
     ensures none { IfErr result (λ e. OnStuck e (λ slot item. FindsNone joint.now
         order.now.openings.now (drop (length laying.new.laid) order.now.copies.now)
@@ -126,18 +129,20 @@ fn place_second<R: Ruling, L: Ledger>(
 {
     // Reading the joint makes known what its type keeps.
     let _ = &joint.slots;
-    if laying.is_sure(order, to, reached) {
-        return laying.put_next(joint, order, reached);
+    if let Some(opening) = laying.sure_location(order, to, reached) {
+        return laying.put_next(alloc, joint, order, Some(opening));
     }
     laying.find_from(alloc, joint, rules, order, from, reached, steps)?;
     place_range(alloc, joint, rules, order, to, laying, reached, steps)
 }
 
-/// Puts the copies up to this one, which isn't put, each by the least list with the copies after it in hand. `reached` has
-/// the list with the copies from there on in hand and with those that were put.
+/// Puts the copies up to this one, which isn't put, each by the least list with the copies after it
+/// in hand. `reached` has the list with the copies from there on in hand and with those that were
+/// put.
 ///
-/// The first half begins with the second half in hand as well, and the second half with the first half where it was put. So
-/// each list goes on from a smaller one, and a rule is asked but a few times for each halving.
+/// The first half begins with the second half in hand as well, and the second half with the first
+/// half where it was put. So each list goes on from a smaller one, and a rule is asked but a few
+/// times for each halving.
 #[cycle(place_range)]
 fn place_range<R: Ruling, L: Ledger>(
     alloc: Global,
@@ -150,7 +155,7 @@ fn place_range<R: Ruling, L: Ledger>(
     steps: &mut Steps<L>,
 ) -> Result<(), FillError>
     requires rules { R.stands_for rules.now (rule_list joint.now) }
-    requires order { AreOrdered joint.now.slots order.now.copies.now order.now.numbers.now
+    requires order { AreOrdered joint.now order.now.copies.now order.now.numbers.now
         order.now.begins.now order.now.openings.now }
     requires range { (length laying.old.laid ≤ to) × (to ≤ length order.now.copies.now) }
     requires laid { IsLaying joint.now order.now.openings.now order.now.copies.now laying.old }
@@ -160,14 +165,14 @@ fn place_range<R: Ruling, L: Ledger>(
         laying.old.placed reached.old }
     ensures made { IsMadeFor joint.now reached.new }
     ensures front { take (length laying.old.laid) laying.new.laid ≡ laying.old.laid }
-    ensures each { All (IsLaid joint.now.slots) laying.new.laid }
+    ensures each { All (IsLaid joint.now) laying.new.laid }
     ensures runs { RunsOn joint.now order.now.openings.now order.now.copies.now
         laying.new.laid }
     ensures more { OnOk result (length laying.new.laid ≡ to) }
     ensures past { OnOk result (IsPast order.now.openings.now laying.new) }
     ensures answer { MatchResult result
         (λ _. IsLaying joint.now order.now.openings.now order.now.copies.now laying.new)
-        (λ e. OnStuck e (λ slot item. FillRun is_reached joint.now order.now.openings.now
+        (λ e. OnStuck e (λ slot item. FillRun joint.now order.now.openings.now
         order.now.copies.now [] (stuck slot item))) }
     ensures none { IfErr result (λ e. OnStuck e (λ slot item. FindsNone joint.now
         order.now.openings.now (drop (length laying.new.laid) order.now.copies.now)
@@ -182,7 +187,8 @@ fn place_range<R: Ruling, L: Ledger>(
         return Ok(());
     }
     if to - from == 1 {
-        return laying.put_next(joint, order, reached);
+        let found = laying.find_next(joint, rules, order, reached, steps);
+        return laying.put_next(alloc, joint, order, found);
     }
     let middle = from + (to - from) / 2;
     place_first(
@@ -191,8 +197,9 @@ fn place_range<R: Ruling, L: Ledger>(
     place_second(alloc, joint, rules, order, from, to, laying, reached, steps)
 }
 
-/// Puts each copy in order at the first of the locations that is free, accepts it and can be reached with the starting items
-/// and the later copies, and gives for each place what stands there.
+/// Puts each copy in order at the first of the locations that is free and allowed for it: one that
+/// accepts it and can be reached with the starting items and the later copies, or where it may be
+/// missed. It gives for each place what stands there.
 pub(crate) fn place_asked<R: Ruling, L: Ledger>(
     alloc: Global,
     joint: &Joint,
@@ -203,15 +210,16 @@ pub(crate) fn place_asked<R: Ruling, L: Ledger>(
     steps: &mut Steps<L>,
 ) -> Result<Vec<Option<Put>>, FillError>
     requires rules { R.stands_for rules.now (rule_list joint.now) }
-    requires copies { All (CopyKept joint.now.slots) copies.now }
+    requires copies { All (CopyKept joint.now) copies.now }
     requires few { length copies.now ≤ 10240000 }
-    requires openings { All (OpeningKept joint.now.slots) openings.now }
+    requires few_numbers { length (all_numbers joint.now copies.now) ≤ 10240000 }
+    requires openings { All (OpeningKept joint.now) openings.now }
     requires reached { IsMadeFor joint.now reached.old }
     ensures kept { IsMadeFor joint.now reached.new }
     ensures answer { MatchResult result
         (λ held. (puts : List plain.Put) × IsHeldFor joint.now puts held.items
-        × FillRun is_reached joint.now openings.now copies.now [] (filled puts))
-        (λ e. OnStuck e (λ slot item. FillRun is_reached joint.now openings.now copies.now []
+        × FillRun joint.now openings.now copies.now [] (filled puts))
+        (λ e. OnStuck e (λ slot item. FillRun joint.now openings.now copies.now []
         (stuck slot item))) }
     ensures steps { AsksWithin joint.now openings.now copies.now result steps.old steps.new }
 {

@@ -24,8 +24,8 @@ impl Model for Words {
 }
 
 impl Words {
-    /// The words of ChaCha20 with the key that is the seed, least byte first, and 24 zero bytes; the first word is that at
-    /// place 0 of the stream. It takes no memory.
+    /// The words of ChaCha20 with the key that is the seed, least byte first, and 24 zero bytes;
+    /// the first word is that at place 0 of the stream. It takes no memory.
     pub fn new(seed: u64, stream: u64) -> Words
         ensures { result ≡ start_of seed stream }
     {
@@ -45,7 +45,8 @@ impl Words {
     }
 }
 
-/// A number below `k` from a word: the product of both without its lowest 32 bits. `k` is at least 1.
+/// A number below `k` from a word: the product of both without its lowest 32 bits. `k` is at least
+/// 1.
 pub fn draw(word: u32, k: u32) -> u32
     requires { 1 ≤ k }
     ensures value { result ≡ drawn word k }
@@ -54,8 +55,9 @@ pub fn draw(word: u32, k: u32) -> u32
     ((u64::from(word) * u64::from(k)) >> 32) as u32
 }
 
-/// Puts fewer than 2^32 entries into the order that the next words give. From the last entry down to the second, each
-/// changes places with the one at a number drawn at or below its own. It takes no memory.
+/// Puts fewer than 2^32 entries into the order that the next words give. From the last entry down
+/// to the second, each changes places with the one at a number drawn at or below its own. It takes
+/// no memory.
 pub(crate) fn shuffle_entries<T>(words: &mut Words, entries: &mut [T])
     requires { length entries.old < 2 ^ 32 }
     ensures entries { entries.new ≡ shuffled (words_of words.old) words.old.word_pos entries.old }
@@ -72,8 +74,9 @@ pub(crate) fn shuffle_entries<T>(words: &mut Words, entries: &mut [T])
     }
 }
 
-/// Puts fewer than 2^32 numbers into the order that the next words give. From the last one down to the second, each changes
-/// places with the one at a number drawn at or below its own. It takes no memory.
+/// Puts fewer than 2^32 numbers into the order that the next words give. From the last one down to
+/// the second, each changes places with the one at a number drawn at or below its own. It takes no
+/// memory.
 pub fn shuffle(words: &mut Words, numbers: &mut [u32])
     requires { length numbers.old < 2 ^ 32 }
     ensures numbers { numbers.new ≡ shuffled (words_of words.old) words.old.word_pos numbers.old }

@@ -9,7 +9,7 @@ pub enum FillError {
     /// An item finds no location.
     #[error("no location for item {item} of slot {slot}")]
     Stuck {
-        /// The receiver's number, from 1.
+        /// The receiver's number, from 1; that of a link comes after those of all slots.
         slot: u16,
         /// The item's index in the receiver's world, from 0.
         item: u32,

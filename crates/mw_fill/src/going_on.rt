@@ -1,5 +1,5 @@
 ghost use Rattle.std.specs.Prelude.{◌≡◌, ◌≤◌, ◌+◌, List, IfOk, drop, length, map, take};
-ghost use Rattle.mw_multi.specs.Joint.{Slot};
+ghost use Rattle.mw_multi.specs.Joint as plain_joint;
 ghost use Rattle.mw_multi.specs.Placement.{put_numbers};
 ghost use Rattle.mw_reach.specs.Reached.{places_in};
 ghost use Rattle.mw_fill.specs.Copies.{copy_numbers};
@@ -14,7 +14,8 @@ use mw_rules::{Ruling, Steps};
 use std::alloc::Global;
 use std::sync::ledger::Ledger;
 
-/// The numbers of those of the copies that lie at places of the list. They are the copies of the order from one on.
+/// The numbers of those of the copies that lie at places of the list. They are the copies of the
+/// order from one on.
 fn numbers_found(
     alloc: Global,
     order: &Order,
@@ -22,15 +23,15 @@ fn numbers_found(
     laid: &[Put],
     reached: &Reached,
 ) -> Result<Vec<u32>, Memory>
-    requires order { (slots : List Slot) × AreOrdered slots order.now.copies.now
+    requires order { (joint : plain_joint.Joint) × AreOrdered joint order.now.copies.now
         order.now.numbers.now order.now.begins.now order.now.openings.now }
     requires within { from + length laid.now ≤ length order.now.copies.now }
-    ensures { IfOk result (λ found. (slots : List Slot)
-        → AreOrdered slots order.now.copies.now order.now.numbers.now order.now.begins.now
+    ensures { IfOk result (λ found. (joint : plain_joint.Joint)
+        → AreOrdered joint order.now.copies.now order.now.numbers.now order.now.begins.now
         order.now.openings.now
-        → map (put_numbers slots) laid.now
-        ≡ map (copy_numbers slots) (take (length laid.now) (drop from order.now.copies.now))
-        → found.items ≡ found_numbers slots (places_in reached.now) laid.now) }
+        → map (put_numbers joint) laid.now
+        ≡ map (copy_numbers joint) (take (length laid.now) (drop from order.now.copies.now))
+        → found.items ≡ found_numbers joint (places_in reached.now) laid.now) }
 {
     let mut found = Vec::new(alloc);
     for (index, put) in laid.iter().enumerate() {
@@ -66,11 +67,11 @@ impl Laying {
         steps: &mut Steps<L>,
     )
         requires rules { R.stands_for rules.now (rule_list joint.now) }
-        requires order { AreOrdered joint.now.slots order.now.copies.now order.now.numbers.now
+        requires order { AreOrdered joint.now order.now.copies.now order.now.numbers.now
             order.now.begins.now order.now.openings.now }
         requires range { (middle ≤ to) × (to ≤ length order.now.copies.now) }
         requires placed { IsPlacedFor joint.now self.now.placed }
-        requires few { (i : ℕ) → bag_of (counts_in reached.old) i + length order.now.copies.now
+        requires few { (i : ℕ) → bag_of (counts_in reached.old) i + length order.now.numbers.now
             + sum_by length self.now.placed < 2 ^ 32 }
         requires made { IsMadeFor joint.now reached.old }
         requires least { HasLeast joint.now (in_hand joint.now (drop to order.now.copies.now))
@@ -79,14 +80,15 @@ impl Laying {
         ensures least { HasLeast joint.now (in_hand joint.now (drop middle order.now.copies.now))
             self.now.placed reached.new }
         ensures steps { steps.new ≤ steps.old + asks_more joint.now self.now.placed
-            (plain_between joint.now.slots order.now.copies.now middle to) (flags_in reached.old)
+            (plain_between joint.now order.now.copies.now middle to) (flags_in reached.old)
             (flags_in reached.new) }
     {
         let more = numbers_between(order, middle, to);
         go_on_by(joint, rules, more, &self.placed, reached, steps);
     }
 
-    /// Goes on with the copies that were put from this one on, where they were put. After `Memory` the list is as before.
+    /// Goes on with the copies that were put from this one on, where they were put. After `Memory`
+    /// the list is as before.
     pub(crate) fn find_from<R: Ruling, L: Ledger>(
         &self,
         alloc: Global,
@@ -98,23 +100,23 @@ impl Laying {
         steps: &mut Steps<L>,
     ) -> Result<(), Memory>
         requires rules { R.stands_for rules.now (rule_list joint.now) }
-        requires order { AreOrdered joint.now.slots order.now.copies.now order.now.numbers.now
+        requires order { AreOrdered joint.now order.now.copies.now order.now.numbers.now
             order.now.begins.now order.now.openings.now }
         requires from { from ≤ length self.now.laid }
-        requires first { AreFirst joint.now.slots order.now.copies.now self.now.laid }
-        requires laid { All (IsLaid joint.now.slots) self.now.laid }
+        requires first { AreFirst joint.now order.now.copies.now self.now.laid }
+        requires laid { All (IsLaid joint.now) self.now.laid }
         requires placed { IsPlacedFor joint.now self.now.placed }
-        requires few { (i : ℕ) → bag_of (counts_in reached.old) i + length self.now.laid
+        requires few { (i : ℕ) → bag_of (counts_in reached.old) i + length order.now.numbers.now
             + sum_by length self.now.placed < 2 ^ 32 }
         requires made { IsMadeFor joint.now reached.old }
         ensures made { IsMadeFor joint.now reached.new }
         ensures least { OnOk result ((base : holding.Bag) (puts : List plain.Put)
-            (before : reach.Placed) → IsPlaced joint.now.slots puts before
-            → IsPlaced joint.now.slots (puts ++ drop from self.now.laid) self.now.placed
+            (before : reach.Placed) → IsPlaced joint.now puts before
+            → IsPlaced joint.now (puts ++ drop from self.now.laid) self.now.placed
             → HasLeast joint.now base before reached.old
             → HasLeast joint.now base self.now.placed reached.new) }
         ensures steps { OnOk result (steps.new ≤ steps.old + asks_more joint.now self.now.placed
-            (plain_between joint.now.slots order.now.copies.now from (length self.now.laid))
+            (plain_between joint.now order.now.copies.now from (length self.now.laid))
             (flags_in reached.old) (flags_in reached.new)) }
         ensures unasked { OnErr result (steps.new ≡ steps.old) }
     {

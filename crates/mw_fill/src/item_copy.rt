@@ -4,7 +4,7 @@ use crate::opening::Opening;
 use mw_multi::Put;
 use std::marker::Model;
 
-/// A copy of an item of a pool.
+/// A copy of an item of a pool or of a link.
 #[derive(Clone, Copy)]
 pub(crate) struct ItemCopy {
     /// The receiver's number, from 1.

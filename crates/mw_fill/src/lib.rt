@@ -1,6 +1,7 @@
 //! Draws from a stream of words, and the assumed fill.
 #![tactic(auto)]
 
+mod allowed;
 mod anywhere;
 mod assumed;
 mod copies;
@@ -14,6 +15,7 @@ mod laws;
 mod laying;
 mod lists;
 mod locality;
+mod missable;
 mod one_try;
 mod opening;
 mod openings;

@@ -1,5 +1,5 @@
 ghost use Rattle.std.specs.Prelude.{◌≡◌, ◌<◌, ◌^◌, List, IfOk, OnOk, length};
-ghost use Rattle.mw_multi.specs.Joint.{Slot};
+ghost use Rattle.mw_multi.specs.Joint as plain_joint;
 ghost use Rattle.mw_fill.specs.ListsKept.{AreKept, AreShort};
 ghost use Rattle.mw_fill.specs.Draws.{start_of, words_of, at_place, shuffled, place_after};
 ghost use Rattle.mw_fill.specs.Try as plain;
@@ -42,10 +42,11 @@ impl Model for Lists {
     } };
 }
 
-/// The copies and the locations of a joint, in the order of its tables; `Memory` where memory ran out.
+/// The copies and the locations of a joint, in the order of its tables; `Memory` where memory ran
+/// out.
 pub(crate) fn stock_of(alloc: Global, joint: &Joint) -> Result<Lists, Memory>
     ensures lists { IfOk result (λ stock. stock ≡ plain.stock_of joint.now) }
-    ensures kept { IfOk result (AreKept joint.now.slots) }
+    ensures kept { IfOk result (AreKept joint.now) }
     ensures short { IfOk result AreShort }
 {
     let asked = copies_of(alloc, joint, Group::Asked)?;
@@ -77,7 +78,8 @@ fn shuffled_copy<T: Copy>(
     Ok(List::from_vec(copy))
 }
 
-/// The lists of a try: those of the stock, in the order that the stream's words give; `Memory` where memory ran out.
+/// The lists of a try: those of the stock, in the order that the stream's words give; `Memory`
+/// where memory ran out.
 pub(crate) fn lists_of(
     alloc: Global,
     stock: &Lists,
@@ -87,8 +89,8 @@ pub(crate) fn lists_of(
     requires { AreShort stock.now }
     ensures lists { IfOk result (λ lists. lists
         ≡ shuffled_lists stock.now (words_of (start_of seed stream))) }
-    ensures kept { IfOk result (λ lists. (slots : List Slot) → AreKept slots stock.now
-        → AreKept slots lists) }
+    ensures kept { IfOk result (λ lists. (joint : plain_joint.Joint) → AreKept joint stock.now
+        → AreKept joint lists) }
 {
     let mut words = Words::new(seed, stream);
     let asked = shuffled_copy(alloc, &mut words, stock.asked.as_slice())?;

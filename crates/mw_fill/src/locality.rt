@@ -14,8 +14,8 @@ pub enum Locality {
 }
 
 impl Locality {
-    /// That of an item which is among the local ones or not, and among the non-local ones or not; `many` says whether there
-    /// is more than one slot.
+    /// That of an item which is among the local ones or not, and among the non-local ones or not;
+    /// `many` says whether there is more than one slot.
     pub(crate) fn of(many: bool, local: bool, non_local: bool) -> Locality
         ensures { result ≡ locality_of many local non_local }
     {

@@ -26,7 +26,8 @@ use std::alloc::Global;
 use std::marker::Brand;
 use std::sync::ledger::{Blank, Ledger};
 
-/// Puts the copies of the lists that no rule asks for. `places` are the locations that useful ones may stand at.
+/// Puts the copies of the lists that no rule asks for. `places` are the locations that useful ones
+/// may stand at.
 fn place_rest(
     alloc: Global,
     joint: &Joint,
@@ -34,7 +35,7 @@ fn place_rest(
     places: &[Opening],
     held: &mut [Option<Put>],
 ) -> Result<(), FillError>
-    requires lists { AreKept joint.now.slots lists.now }
+    requires lists { AreKept joint.now lists.now }
     requires places { places.now ≡ regular_of lists.now.openings }
     requires held { (puts : List plain.Put) × IsHeldFor joint.now puts held.old }
     ensures { (puts : List plain.Put) → IsHeldFor joint.now puts held.old → MatchResult result
@@ -59,7 +60,7 @@ fn place_all<R: Ruling, L: Ledger>(
     steps: &mut Steps<L>,
 ) -> Result<Vec<Option<Put>>, FillError>
     requires rules { R.stands_for rules.now (rule_list joint.now) }
-    requires lists { AreKept joint.now.slots lists.now }
+    requires lists { AreKept joint.now lists.now }
     requires reached { IsMadeFor joint.now reached.old }
     ensures kept { IsMadeFor joint.now reached.new }
     ensures answer { MatchResult result
@@ -89,7 +90,7 @@ fn place_lists<R: Ruling, L: Ledger>(
 ) -> Result<Placement, FillError>
     requires openings { openings.now ≡ openings_of joint.now }
     requires rules { R.stands_for rules.now (rule_list joint.now) }
-    requires lists { AreKept joint.now.slots lists.now }
+    requires lists { AreKept joint.now lists.now }
     requires reached { IsMadeFor joint.now reached.old }
     ensures kept { IsMadeFor joint.now reached.new }
     ensures answer { MatchResult result
@@ -120,7 +121,7 @@ pub(crate) fn try_from_stock<R: Ruling, L: Ledger>(
 ) -> Result<Placement, FillError>
     requires rules { R.stands_for rules.now (rule_list joint.now) }
     requires stock { stock.now ≡ stock_of joint.now }
-    requires kept { AreKept joint.now.slots stock.now }
+    requires kept { AreKept joint.now stock.now }
     requires short { AreShort stock.now }
     requires reached { IsMadeFor joint.now reached.old }
     ensures kept { IsMadeFor joint.now reached.new }
@@ -134,9 +135,10 @@ pub(crate) fn try_from_stock<R: Ruling, L: Ledger>(
     place_lists(alloc, joint, rules, openings, &lists, reached, steps)
 }
 
-/// The placement of the try with this number of a seed: something at each location with an id. It is Stuck exactly where a
-/// copy of a pool finds no location; the first such copy's slot and item are told. `Memory` where memory ran out. The
-/// joint's rules are asked of `rules`, and the asks are counted in `steps`.
+/// The placement of the try with this number of a seed: something at each location with an id. It
+/// is Stuck exactly where a copy of a pool finds no location; the first such copy's slot and item
+/// are told. `Memory` where memory ran out. The joint's rules are asked of `rules`, and the asks
+/// are counted in `steps`.
 pub fn fill_try_counted<R: Ruling, L: Ledger>(
     alloc: Global,
     joint: &Joint,
@@ -185,9 +187,9 @@ fn count_and_try<R: Ruling, L: Ledger>(
     fill_try_counted(alloc, joint, rules, seed, stream, &mut steps)
 }
 
-/// The placement of the try with this number of a seed: something at each location with an id. It is Stuck exactly where a
-/// copy of a pool finds no location; the first such copy's slot and item are told. `Memory` where memory ran out. The
-/// joint's rules are asked of `rules`.
+/// The placement of the try with this number of a seed: something at each location with an id. It
+/// is Stuck exactly where a copy of a pool finds no location; the first such copy's slot and item
+/// are told. `Memory` where memory ran out. The joint's rules are asked of `rules`.
 pub fn fill_try_by<R: Ruling>(
     alloc: Global,
     joint: &Joint,
@@ -203,8 +205,9 @@ pub fn fill_try_by<R: Ruling>(
     count_and_try::<R, Brand>(Blank::new(1), alloc, joint, rules, seed, stream)
 }
 
-/// The placement of the try with this number of a seed: something at each location with an id. It is Stuck exactly where a
-/// copy of a pool finds no location; the first such copy's slot and item are told. `Memory` where memory ran out.
+/// The placement of the try with this number of a seed: something at each location with an id. It
+/// is Stuck exactly where a copy of a pool finds no location; the first such copy's slot and item
+/// are told. `Memory` where memory ran out.
 pub fn fill_try(
     alloc: Global,
     joint: &Joint,

@@ -10,7 +10,8 @@ use mw_base::{List, Memory};
 use mw_multi::{Joint, LocKind, Location, Slot};
 use std::alloc::Global;
 
-/// The kind of a location that an option excludes or not and gives priority or not, and that is of this kind in its table.
+/// The kind of a location that an option excludes or not and gives priority or not, and that is of
+/// this kind in its table.
 fn kind_of(exclude: bool, priority: bool, table: LocKind) -> LocKind
     ensures { result ≡ plain.kind_of exclude priority table }
 {
@@ -75,7 +76,7 @@ fn push_slot(openings: &mut List<Opening>, number: u16, slot: &Slot) -> Result<(
 pub(crate) fn openings_of(alloc: Global, joint: &Joint) -> Result<List<Opening>, Memory>
     ensures openings { IfOk result (λ openings. openings ≡ plain.openings_of joint.now) }
     ensures few { IfOk result (λ openings. length openings ≤ 200000) }
-    ensures kept { IfOk result (All (OpeningKept joint.now.slots)) }
+    ensures kept { IfOk result (All (OpeningKept joint.now)) }
 {
     let mut openings = List::new(alloc);
     for (index, slot) in joint.slots.as_slice().iter().enumerate() {
@@ -106,7 +107,8 @@ pub(crate) fn regular(alloc: Global, openings: &[Opening]) -> Result<List<Openin
     Ok(found)
 }
 
-/// The excluded ones, then those with priority, then the default ones; `Memory` where memory ran out.
+/// The excluded ones, then those with priority, then the default ones; `Memory` where memory ran
+/// out.
 pub(crate) fn all_kinds(alloc: Global, openings: &[Opening]) -> Result<List<Opening>, Memory>
     ensures { IfOk result (λ found. found ≡ plain.all_kinds openings.now) }
 {

@@ -1,5 +1,5 @@
 ghost use Rattle.std.specs.Prelude.{◌≡◌, ◌≤◌, ◌-◌, List, drop, length, take};
-ghost use Rattle.mw_multi.specs.Joint.{Slot};
+ghost use Rattle.mw_multi.specs.Joint as plain_joint;
 ghost use Rattle.mw_fill.specs.Laying.{AreOrdered, numbers_between as plain_between};
 
 use crate::item_copy::ItemCopy;
@@ -27,12 +27,12 @@ fn part(numbers: &[u32], begin: usize, end: usize) -> &[u32]
 
 /// The numbers over all slots of the copies from one to another, one for each owner of each.
 pub(crate) fn numbers_between<'a>(order: &Order<'a>, from: usize, to: usize) -> &'a [u32]
-    requires order { (slots : List Slot) × AreOrdered slots order.now.copies.now
+    requires order { (joint : plain_joint.Joint) × AreOrdered joint order.now.copies.now
         order.now.numbers.now order.now.begins.now order.now.openings.now }
     requires range { (from ≤ to) × (to ≤ length order.now.copies.now) }
-    ensures { (slots : List Slot) → AreOrdered slots order.now.copies.now order.now.numbers.now
+    ensures { (joint : plain_joint.Joint) → AreOrdered joint order.now.copies.now order.now.numbers.now
         order.now.begins.now order.now.openings.now
-        → result.now ≡ plain_between slots order.now.copies.now from to }
+        → result.now ≡ plain_between joint order.now.copies.now from to }
 {
     part(order.numbers, order.begins[from], order.begins[to])
 }

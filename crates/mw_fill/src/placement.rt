@@ -21,7 +21,8 @@ fn put_or_filler(opening: &Opening, held: Option<Put>) -> Put
     }
 }
 
-/// Something at each of the locations: what is held there, or else the filler; `Memory` where memory ran out.
+/// Something at each of the locations: what is held there, or else the filler; `Memory` where
+/// memory ran out.
 pub(crate) fn placement_from(
     alloc: Global,
     openings: &[Opening],

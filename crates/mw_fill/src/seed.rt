@@ -22,10 +22,19 @@ pub enum GenerateError {
         /// The first such slot, from 1.
         slot: u16,
     },
-    /// The pools have more copies than there are locations with an id.
+    /// With everything in hand a location isn't reached, and its slot wants all of them to be
+    /// reachable.
+    #[error("location {place} of slot {slot} is out of reach")]
+    NotFull {
+        /// The first such slot, from 1.
+        slot: u16,
+        /// The first such location's index in its world's table, from 0.
+        place: u32,
+    },
+    /// The pools and links have more copies than there are locations with an id.
     #[error("{have} items for {room} locations")]
     TooManyItems {
-        /// How many copies the pools have.
+        /// How many copies the pools and links have.
         have: u64,
         /// How many locations have an id.
         room: u64,

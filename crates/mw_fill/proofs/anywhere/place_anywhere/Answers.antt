@@ -40,7 +40,7 @@ loop-copy-preserved c =
           let before = c.loop-copy.invariant.so_far joint puts copies openings first in
           let found : first_fit (accepts copy) before.0 a.openings.now ≡ Some opening =
           sym (held_first (accepts copy) before.0 held a.openings.now before.1.entries) ∙ sym c.first_accepting.ensures ∙ c.in-Some.is in
-          let kept : CopyKept joint.slots copy = subst (CopyKept joint.slots) (sym c.copy-item.is) (copies c.loop-copy.copy-index copy c.loop-copy-test.true) in (
+          let kept : CopyKept joint copy = subst (CopyKept joint) (sym c.copy-item.is) (copies c.loop-copy.copy-index copy c.loop-copy-test.true) in (
             before.0 ++ put_of copy opening ∷ [],
             subst (IsHeldFor joint (before.0 ++ put_of copy opening ∷ [])) (sym entry) (held_next joint copy (accepts copy) before.0 a.openings.now opening held kept openings before.1 found),
             before.2 ∙ anywhere_next a.copies.now c.loop-copy.copy-index copy c.loop-copy-test.true c.copy-item.is a.openings.now before.0 opening found,

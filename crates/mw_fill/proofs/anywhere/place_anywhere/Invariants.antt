@@ -12,6 +12,6 @@ invariant-loop-copy l = record {
   from : l.from ≤ length l.openings;
   taken : AreTaken l.held l.openings l.from;
   within : All (λ s. s.place < length l.held) l.openings;
-  so_far : (joint : Joint) (puts : List Put) → All (CopyKept joint.slots) l.copies → All (OpeningKept joint.slots) l.openings → IsHeldFor joint puts l.initial.held
+  so_far : (joint : Joint) (puts : List Put) → All (CopyKept joint) l.copies → All (OpeningKept joint) l.openings → IsHeldFor joint puts l.initial.held
       → (more : List Put) × IsHeldFor joint more l.held × (placed_anywhere l.openings l.copies puts ≡ placed_anywhere l.openings (drop l.copy-index l.copies) more);
 }

@@ -16,4 +16,4 @@ loop-stream-preserved g c =
 pub returns-in-Ok-clause-beatable : goal.returns-in-Ok-clause-beatable
 returns-in-Ok-clause-beatable g c = λ table placed.
     let joint = c.args.joint.now in
-    filled_beatable joint (subst IsJoint c.joint.view_is c.joint.invariant) c.args.seed c.loop-stream.stream c.in-Ok.placement c.requires.tried.goals c.in-Ok.ensures.answer table placed
+    filled_beatable joint (subst IsJoint c.joint.view_is c.joint.invariant) c.args.seed c.loop-stream.stream c.in-Ok.placement c.requires.tried.nothing c.in-Ok.ensures.answer table placed

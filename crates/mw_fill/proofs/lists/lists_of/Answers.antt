@@ -6,6 +6,7 @@ use Rattle.mw_fill.specs.Openings.{Opening}
 use Rattle.mw_fill.specs.Try.{Lists, shuffled_lists, openings_begin, helping_begin, filling_begin}
 use Rattle.mw_fill.specs.Kept.{CopyKept, OpeningKept}
 use Rattle.mw_fill.specs.ListsKept.{AreKept}
+use Rattle.mw_fill.proofs.Permuting.{words_small, shuffled_numbers}
 use Rattle.mw_fill.proofs.Shuffling.{shuffled_all, shuffled_length, shuffled_wraps, moved_on}
 use Rattle.mw_fill.proofs.lists.lists_of.Goals as goal
 
@@ -36,14 +37,16 @@ returns-clause-lists c =
     (c.in_ok-filling.ensures.list ∙ ap₂ (λ (w : ChaCha) (xs : List ItemCopy). shuffled (words_of w) w.word_pos xs) third filling ∙ shuffled_wraps start (filling_begin stock) stock.filling)
 
 pub returns-clause-kept : goal.returns-clause-kept
-returns-clause-kept c = λ slots kept.
+returns-clause-kept c = λ joint kept.
     let stock = c.args.stock.now in
     let same = returns-clause-lists c in
-    let words = words_of (start_of c.args.seed c.args.stream) in
-    subst (AreKept slots) (sym same) record {
-      asked = shuffled_all (CopyKept slots) words 0 stock.asked kept.asked;
+    let start = start_of c.args.seed c.args.stream in
+    let words = words_of start in
+    subst (AreKept joint) (sym same) record {
+      asked = shuffled_all (CopyKept joint) words 0 stock.asked kept.asked;
       few = omega (arith, shuffled_length words 0 stock.asked, kept.few);
-      openings = shuffled_all (OpeningKept slots) words (openings_begin stock) stock.openings kept.openings;
-      helping = shuffled_all (CopyKept slots) words (helping_begin stock) stock.helping kept.helping;
-      filling = shuffled_all (CopyKept slots) words (filling_begin stock) stock.filling kept.filling;
+      few_numbers = omega (arith, shuffled_numbers joint words (words_small start) 0 stock.asked, kept.few_numbers);
+      openings = shuffled_all (OpeningKept joint) words (openings_begin stock) stock.openings kept.openings;
+      helping = shuffled_all (CopyKept joint) words (helping_begin stock) stock.helping kept.helping;
+      filling = shuffled_all (CopyKept joint) words (filling_begin stock) stock.filling kept.filling;
     }

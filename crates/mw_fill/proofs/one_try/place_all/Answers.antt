@@ -1,7 +1,7 @@
 use Rattle.std.proofs.Common.{◌≡◌, [], All, sym, ap, subst, ◌∙◌}
 use Rattle.std.proofs.lemmas.List.{take_at}
 use Rattle.mw_fill.specs.Openings.{regular}
-use Rattle.mw_fill.specs.Fill.{filled, stuck, is_reached, FillRun}
+use Rattle.mw_fill.specs.Fill.{filled, stuck, FillRun}
 use Rattle.mw_fill.specs.Try.{Lists, the_rest, IsOutcome}
 use Rattle.mw_fill.specs.Kept.{OpeningKept, IsHeldFor}
 use Rattle.mw_fill.specs.Answer.{OnStuck}
@@ -11,10 +11,10 @@ use Rattle.mw_fill.proofs.one_try.place_all.Goals as goal
 
 pub place_asked-requires-clause-openings : goal.place_asked-requires-clause-openings
 place_asked-requires-clause-openings g c =
-    let slots = c.args.joint.now.slots in
+    let joint = c.args.joint.now in
     let lists = c.args.lists.now in
     let places : c.as_slice-places.result.now ≡ regular lists.openings = c.as_slice-places.ensures ∙ c.in_ok-places.ensures ∙ ap regular (c.as_slice.ensures ∙ ap (λ (l : Lists). l.openings) c.lists.view_is) in
-    subst (All (OpeningKept slots)) (sym places) (regular_all (OpeningKept slots) lists.openings c.requires.lists.openings)
+    subst (All (OpeningKept joint)) (sym places) (regular_all (OpeningKept joint) lists.openings c.requires.lists.openings)
 
 pub returns-in_err-held-clause-answer : goal.returns-in_err-held-clause-answer
 returns-in_err-held-clause-answer g c =
@@ -23,7 +23,7 @@ returns-in_err-held-clause-answer g c =
     let places : c.as_slice-places.result.now ≡ regular lists.openings = c.as_slice-places.ensures ∙ c.in_ok-places.ensures ∙ ap regular (c.as_slice.ensures ∙ ap (λ (l : Lists). l.openings) c.lists.view_is) in
     let asked : c.as_slice-asked.result.now ≡ lists.asked = c.as_slice-asked.ensures ∙ ap (λ (l : Lists). l.asked) c.lists.view_is in
     passed_on c.from_residual-in_err-held.result _ (λ e. OnStuck e (λ slot item. IsOutcome joint lists (stuck slot item))) _
-    (on_stuck _ (λ slot item. FillRun is_reached joint c.as_slice-places.result.now c.as_slice-asked.result.now [] (stuck slot item)) (λ slot item. IsOutcome joint lists (stuck slot item))
+    (on_stuck _ (λ slot item. FillRun joint c.as_slice-places.result.now c.as_slice-asked.result.now [] (stuck slot item)) (λ slot item. IsOutcome joint lists (stuck slot item))
     (λ slot item run. stuck_first joint lists slot item (run_same joint c.as_slice-places.result.now (regular lists.openings) c.as_slice-asked.result.now lists.asked (stuck slot item) places asked run)) c.in_err-held.ensures.answer)
     c.from_residual-in_err-held.ensures.1
 

@@ -15,8 +15,8 @@ placement_from-requires g c =
     let joint = c.args.joint.now in
     let end = c.in_ok-held.ensures.answer in
     let held = subst (IsHeldFor joint end.0) (sym c.as_slice.ensures.value) end.1 in
-    let there : All (OpeningKept joint.slots) c.args.openings.now =
-    subst (All (OpeningKept joint.slots)) (sym c.requires.openings) (openings_kept joint (subst IsJoint c.joint.view_is c.joint.invariant)) in
+    let there : All (OpeningKept joint) c.args.openings.now =
+    subst (All (OpeningKept joint)) (sym c.requires.openings) (openings_kept joint (subst IsJoint c.joint.view_is c.joint.invariant)) in
     record { within = places_within joint end.0 c.as_slice.result.now c.args.openings.now held there }
 
 pub returns-clause-answer : goal.returns-clause-answer

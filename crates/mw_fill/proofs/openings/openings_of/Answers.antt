@@ -37,4 +37,4 @@ returns-clause-kept c =
     let slots : c.as_slice-slot-items.result.now ≡ c.args.joint.now.slots = c.as_slice-slot-items.ensures ∙ ap (λ (j : Joint). j.slots) c.joint.view_is in
     let whole : c.loop-index.openings ≡ plain_openings c.args.joint.now =
     c.loop-index.invariant ∙ ap (each_numbered slot_openings 1) (take_all c.loop-index.index c.as_slice-slot-items.result.now c.loop-index-test.false ∙ slots) in
-    subst (All (OpeningKept c.args.joint.now.slots)) (sym whole) (openings_kept c.args.joint.now (subst IsJoint c.joint.view_is c.joint.invariant))
+    subst (All (OpeningKept c.args.joint.now)) (sym whole) (openings_kept c.args.joint.now (subst IsJoint c.joint.view_is c.joint.invariant))
