@@ -1,5 +1,6 @@
 -- Elements of lists.
-use Rattle.std.proofs.Common.{◌≡◌, ◌<◌, ◌+◌, ℕ, zero, suc, List, [], ◌∷◌, Some, length, map, option_map, get_or, slice_get, refl, sym, subst, arith}
+use Rattle.std.proofs.Common.{◌≡◌, ◌<◌, ◌+◌, ◌++◌, ℕ, zero, suc, List, [], ◌∷◌, Bool, false, Some, length, map, option_map, get_or, slice_get, refl, sym, subst, arith}
+use Rattle.std.specs.List.{IsDistinct, AllByRecursion}
 use Rattle.std.specs.Prelude.{All, Contains}
 use Rattle.std.proofs.lemmas.List.Elements.{Contains-append_left, Contains-append_right}
 use Rattle.mw_multi.specs.Numbered.{each_numbered}
@@ -38,3 +39,14 @@ pub unmapped : {A B : Type 0} (f : A → B) (xs : List A) (k : ℕ) (y : B) → 
 unmapped f [] k y e = cc
 unmapped f (x ∷ xs) zero y e = let same : f x ≡ y = cc in (x, refl, same)
 unmapped f (x ∷ xs) (suc k) y e = unmapped f xs k y e
+
+-- ---- what is distinct
+
+each_front : {X : Type 0} (P : X → Type 0) (xs ys : List X) → AllByRecursion P (xs ++ ys) → AllByRecursion P xs
+each_front P [] ys h = tt
+each_front P (x ∷ xs) ys h = (h.0, each_front P xs ys h.1)
+
+pub distinct_front : {X : Type 0} (e : X → X → Bool) (xs ys : List X) → IsDistinct e (xs ++ ys) → IsDistinct e xs
+unfolding IsDistinct
+distinct_front e [] ys h = tt
+distinct_front e (x ∷ xs) ys h = (each_front (λ y. e x y ≡ false) xs ys h.0, distinct_front e xs ys h.1)

@@ -20,11 +20,12 @@ use Rattle.mw_fill.specs.Try.{end_put, placement_of}
 use Rattle.mw_multi.proofs.Numbered.{numbered_all}
 use Rattle.mw_fill.proofs.Ascending.{Rises, place_of, map_same, slots_rise, end_place, placement_kept}
 use Rattle.mw_seeds.specs.SeedFile.{class_flags, held_with, held_item, held_put}
-use Rattle.mw_seeds.specs.Agreeing.{has_location, has_flags, where_flags, index_among, slot_items, held_index}
-use Rattle.mw_seeds.specs.FilePuts.{catalog_at, own_put, put_or_own, file_put, put_where, location_put, slot_puts, file_puts}
+use Rattle.mw_seeds.specs.Agreeing.{has_location, has_flags, where_flags, index_among, slot_items, first_owner, held_index}
+use Rattle.mw_seeds.specs.FilePuts.{catalog_at, receiver_items, own_put, put_or_own, file_put, put_where, location_put, slot_puts, file_puts}
 use Rattle.mw_seeds.proofs.Ids.{id_found, first_id, some_id}
 use Rattle.mw_seeds.proofs.Apart.{among_is}
 use Rattle.mw_seeds.proofs.Elements.{holds_at, get_mapped, unmapped, in_numbered, here}
+use Rattle.mw_seeds.proofs.Receivers.{owner_holds, owner_is, catalog_is}
 
 -- ---- locations
 
@@ -62,9 +63,9 @@ has_it slots number id h =
 -- ---- items
 
 -- the item with this index in its receiver's world is the entry's, with its flags
-pub record IsItemOf (slots : List Slot) (h : Held) (index : ℕ) : Type 0 where
+pub record IsItemOf (joint : Joint) (h : Held) (index : ℕ) : Type 0 where
   pub owner : Slot
-  pub receiver : slot_at slots h.receiver ≡ Some owner
+  pub receiver : first_owner joint h.receiver ≡ Some owner
   pub what : Item
   pub there : slice_get owner.world.items index ≡ Some what
   pub named : what.id ≡ Some h.item
@@ -80,9 +81,9 @@ flagged : (b : Bool) (k index : ℕ) → (if b then Some k else None) ≡ Some i
 flagged true k index e = let same : k ≡ index = cc in (refl, same)
 flagged false k index e = cc
 
-fits_at : (slots : List Slot) (h : Held) (index : ℕ) (s : Slot) (o : Option ℕ) → slot_at slots h.receiver ≡ Some s → index_of_id (map item_id s.world.items) h.item ≡ o → where_flags h.flags s.world.items o ≡ Some index → IsItemOf slots h index
-fits_at slots h index s None at found e = cc
-fits_at slots h index s (Some k) at found e =
+fits_at : (joint : Joint) (h : Held) (index : ℕ) (s : Slot) (o : Option ℕ) → first_owner joint h.receiver ≡ Some s → index_of_id (map item_id s.world.items) h.item ≡ o → where_flags h.flags s.world.items o ≡ Some index → IsItemOf joint h index
+fits_at joint h index s None at found e = cc
+fits_at joint h index s (Some k) at found e =
     let right = flagged (has_flags h.flags (slice_get s.world.items k)) k index e in
     let i = unmapped item_id s.world.items k (Some h.item) (id_found (map item_id s.world.items) h.item k found) in
     record {
@@ -94,26 +95,25 @@ fits_at slots h index s (Some k) at found e =
       flags = flags_are h.flags (slice_get s.world.items k) i.0 i.1 right.0;
     }
 
-fits_in : (slots : List Slot) (h : Held) (index : ℕ) (o : Option Slot) → slot_at slots h.receiver ≡ o → index_among h (option_map slot_items o) ≡ Some index → IsItemOf slots h index
-fits_in slots h index None at e = cc
-fits_in slots h index (Some s) at e = fits_at slots h index s (index_of_id (map item_id s.world.items) h.item) at refl e
+fits_in : (joint : Joint) (h : Held) (index : ℕ) (o : Option Slot) → first_owner joint h.receiver ≡ o → index_among h (option_map slot_items o) ≡ Some index → IsItemOf joint h index
+fits_in joint h index None at e = cc
+fits_in joint h index (Some s) at e = fits_at joint h index s (index_of_id (map item_id s.world.items) h.item) at refl e
 
-pub fits : (slots : List Slot) (h : Held) (index : ℕ) → held_index slots h ≡ Some index → IsItemOf slots h index
-fits slots h index e = fits_in slots h index (slot_at slots h.receiver) refl e
+pub fits : (joint : Joint) (h : Held) (index : ℕ) → held_index joint h ≡ Some index → IsItemOf joint h index
+fits joint h index e = fits_in joint h index (first_owner joint h.receiver) refl e
 
-slot_kept : (joint : Joint) (number : ℕ) (s : Slot) → IsJoint joint → slot_at joint.slots number ≡ Some s → SlotKept s
-slot_kept joint zero s kept e = cc
-slot_kept joint (suc before) s kept e = holds_at SlotKept joint.slots before s kept.each e
+owner_kept : (joint : Joint) (number : ℕ) (s : Slot) → IsJoint joint → first_owner joint number ≡ Some s → SlotKept s
+owner_kept joint number s kept e = owner_holds SlotKept joint number s kept.each e
 
 has_them : (flags : ℕ) (i : Item) → flags ≡ class_flags i.class → has_flags flags (Some i) ≡ true
 has_them flags i e = (Decides-eqb flags (class_flags i.class)).1 e
 
-pub is_fit : (joint : Joint) (h : Held) (index : ℕ) → IsJoint joint → IsItemOf joint.slots h index → held_index joint.slots h ≡ Some index
+pub is_fit : (joint : Joint) (h : Held) (index : ℕ) → IsJoint joint → IsItemOf joint h index → held_index joint h ≡ Some index
 is_fit joint h index kept is =
     let items = is.owner.world.items in
     let ids = map item_id items in
     let named : slice_get ids index ≡ Some (Some h.item) = get_mapped item_id items index ∙ ap (option_map item_id) is.there ∙ ap Some is.named in
-    let first = first_id ids h.item index (slot_kept joint h.receiver is.owner kept is.receiver).world.items.ids named in
+    let first = first_id ids h.item index (owner_kept joint h.receiver is.owner kept is.receiver).world.items.ids named in
     ap (λ o. index_among h (option_map slot_items o)) is.receiver ∙ ap (where_flags h.flags items) first
     ∙ ap (λ o. if has_flags h.flags o then Some index else None) is.there ∙ ap (λ b. if b then Some index else None) (has_them h.flags is.what is.flags)
 
@@ -122,27 +122,23 @@ is_fit joint h index kept is =
 abbrev pub entry_of : ℕ → ℤ → ℕ → ℤ → Class → Held
 entry_of number id receiver item class = record { slot = number; location = id; item = item; receiver = receiver; flags = class_flags class }
 
-put_entry : (slots : List Slot) (number : ℕ) (id : ℤ) (place receiver index : ℕ) (owner : Slot) (what : Item) (item : ℤ) → slot_at slots receiver ≡ Some owner → slice_get owner.world.items index ≡ Some what → what.id ≡ Some item
-    → held_put slots number id (Some record { place = place; receiver = receiver; item = index }) ≡ entry_of number id receiver item what.class ∷ []
-put_entry slots number id place receiver index owner what item at there named =
+put_entry : (joint : Joint) (number : ℕ) (id : ℤ) (place receiver index : ℕ) (owner : Slot) (what : Item) (item : ℤ) → first_owner joint receiver ≡ Some owner → slice_get owner.world.items index ≡ Some what → what.id ≡ Some item
+    → held_put joint number id (Some record { place = place; receiver = receiver; item = index }) ≡ entry_of number id receiver item what.class ∷ []
+put_entry joint number id place receiver index owner what item at there named =
     ap (λ o. held_item number id receiver (option_and_then (item_in index) o)) at ∙ ap (held_item number id receiver) there ∙ ap (λ o. held_with number id receiver o what.class) named
 
 -- the entry for what is put: an item of its receiver, and just the file's where that fits
-pub record IsPutFor (slots : List Slot) (number : ℕ) (id : ℤ) (found : Option Held) (put : Put) : Type 0 where
+pub record IsPutFor (joint : Joint) (number : ℕ) (id : ℤ) (found : Option Held) (put : Put) : Type 0 where
   pub entry : Held
-  pub is : held_put slots number id (Some put) ≡ entry ∷ []
+  pub is : held_put joint number id (Some put) ≡ entry ∷ []
   pub slot : entry.slot ≡ number
   pub location : entry.location ≡ id
-  pub fits : is_some (held_index slots entry) ≡ true
-  pub same : (h : Held) → found ≡ Some h → h.slot ≡ number → h.location ≡ id → is_some (held_index slots h) ≡ true → entry ≡ h
-  pub item : is_some (item_at slots put.receiver put.item) ≡ true
+  pub fits : is_some (held_index joint entry) ≡ true
+  pub same : (h : Held) → found ≡ Some h → h.slot ≡ number → h.location ≡ id → is_some (held_index joint h) ≡ true → entry ≡ h
+  pub item : is_some (item_at joint put.receiver put.item) ≡ true
 
-pub catalog_is : (slots : List Slot) (receiver : ℕ) → catalog_at (map slot_items slots) receiver ≡ option_map slot_items (slot_at slots receiver)
-catalog_is slots zero = refl
-catalog_is slots (suc before) = get_mapped slot_items slots before
-
-there_at : (slots : List Slot) (receiver index : ℕ) (owner : Slot) (what : Item) → slot_at slots receiver ≡ Some owner → slice_get owner.world.items index ≡ Some what → is_some (item_at slots receiver index) ≡ true
-there_at slots receiver index owner what at there = ap (λ o. is_some (option_and_then (item_in index) o)) at ∙ ap is_some there
+there_at : (joint : Joint) (receiver index : ℕ) (owner : Slot) (what : Item) → first_owner joint receiver ≡ Some owner → slice_get owner.world.items index ≡ Some what → is_some (item_at joint receiver index) ≡ true
+there_at joint receiver index owner what at there = ap (λ o. is_some (option_and_then (item_in index) o)) at ∙ ap is_some there
 
 same_entry_of : (number : ℕ) (id : ℤ) (class : Class) (h : Held) → h.slot ≡ number → h.location ≡ id → h.flags ≡ class_flags class → entry_of number id h.receiver h.item class ≡ h
 same_entry_of number id class h slot location flags =
@@ -159,49 +155,52 @@ filler_id None e = cc
 filler_id (Some i) e = let named = named_id i i.id refl e in (i, named.0, refl, named.1)
 
 module _ (joint : Joint) (kept : IsJoint joint) (before : ℕ) (s : Slot) (at : slice_get joint.slots before ≡ Some s) (id : ℤ) (place : ℕ) where
+  own : first_owner joint (suc before) ≡ Some s
+  own = owner_is joint (suc before) s at
+
   -- the own filler
-  own_for : (found : Option Held) → ((h : Held) → found ≡ Some h → is_some (held_index joint.slots h) ≡ true → ⊥) → IsPutFor joint.slots (suc before) id found (own_put (suc before) s place)
+  own_for : (found : Option Held) → ((h : Held) → found ≡ Some h → is_some (held_index joint h) ≡ true → ⊥) → IsPutFor joint (suc before) id found (own_put (suc before) s place)
   own_for found never =
-      let world = (slot_kept joint (suc before) s kept at).world in
+      let world = (holds_at SlotKept joint.slots before s kept.each at).world in
       let filler = filler_id (slice_get s.world.items s.world.filler) world.filler.id in
       let what = filler.0 in
       let item = filler.1 in
       let entry = entry_of (suc before) id (suc before) item what.class in
-      let is : IsItemOf joint.slots entry s.world.filler = record { owner = s; receiver = at; what = what; there = filler.2; named = filler.3; flags = refl } in
+      let is : IsItemOf joint entry s.world.filler = record { owner = s; receiver = own; what = what; there = filler.2; named = filler.3; flags = refl } in
       record {
         entry = entry;
-        is = put_entry joint.slots (suc before) id place (suc before) s.world.filler s what item at filler.2 filler.3;
+        is = put_entry joint (suc before) id place (suc before) s.world.filler s what item own filler.2 filler.3;
         slot = refl;
         location = refl;
         fits = ap is_some (is_fit joint entry s.world.filler kept is);
         same = λ h e number location fit. absurd (never h e fit);
-        item = there_at joint.slots (suc before) s.world.filler s what at filler.2;
+        item = there_at joint (suc before) s.world.filler s what own filler.2;
       }
 
-  held_for : (h : Held) (index : ℕ) → held_index joint.slots h ≡ Some index → h.slot ≡ suc before → h.location ≡ id → IsPutFor joint.slots (suc before) id (Some h) record { place = place; receiver = h.receiver; item = index }
+  held_for : (h : Held) (index : ℕ) → held_index joint h ≡ Some index → h.slot ≡ suc before → h.location ≡ id → IsPutFor joint (suc before) id (Some h) record { place = place; receiver = h.receiver; item = index }
   held_for h index e slot location =
-      let is = fits joint.slots h index e in
+      let is = fits joint h index e in
       let same : entry_of (suc before) id h.receiver h.item is.what.class ≡ h = same_entry_of (suc before) id is.what.class h slot location is.flags in
       record {
         entry = h;
-        is = put_entry joint.slots (suc before) id place h.receiver index is.owner is.what h.item is.receiver is.there is.named ∙ ap (λ x. x ∷ []) same;
+        is = put_entry joint (suc before) id place h.receiver index is.owner is.what h.item is.receiver is.there is.named ∙ ap (λ x. x ∷ []) same;
         slot = slot;
         location = location;
         fits = ap is_some e;
         same = λ g found number there fit. let one : h ≡ g = cc in one;
-        item = there_at joint.slots h.receiver index is.owner is.what is.receiver is.there;
+        item = there_at joint h.receiver index is.owner is.what is.receiver is.there;
       }
 
-  by_index : (h : Held) (o : Option ℕ) → held_index joint.slots h ≡ o → h.slot ≡ suc before → h.location ≡ id → IsPutFor joint.slots (suc before) id (Some h) (put_or_own (suc before) s place h o)
-  by_index h None e slot location = own_for (Some h) (λ g found fit. let same : h ≡ g = cc in let none : is_some (held_index joint.slots g) ≡ false = ap (λ x. is_some (held_index joint.slots x)) (sym same) ∙ ap is_some e in cc)
+  by_index : (h : Held) (o : Option ℕ) → held_index joint h ≡ o → h.slot ≡ suc before → h.location ≡ id → IsPutFor joint (suc before) id (Some h) (put_or_own (suc before) s place h o)
+  by_index h None e slot location = own_for (Some h) (λ g found fit. let same : h ≡ g = cc in let none : is_some (held_index joint g) ≡ false = ap (λ x. is_some (held_index joint x)) (sym same) ∙ ap is_some e in cc)
   by_index h (Some index) e slot location = held_for h index e slot location
 
-  put_is : (found : Option Held) → ((h : Held) → found ≡ Some h → (h.slot ≡ suc before) × (h.location ≡ id)) → IsPutFor joint.slots (suc before) id found (file_put (map slot_items joint.slots) (suc before) s place found)
+  put_is : (found : Option Held) → ((h : Held) → found ≡ Some h → (h.slot ≡ suc before) × (h.location ≡ id)) → IsPutFor joint (suc before) id found (file_put (receiver_items joint) (suc before) s place found)
   put_is None key = own_for None (λ h e fit. cc)
   put_is (Some h) key =
       let where_it_is = key h refl in
-      let index : index_among h (catalog_at (map slot_items joint.slots) h.receiver) ≡ held_index joint.slots h = ap (index_among h) (catalog_is joint.slots h.receiver) in
-      subst (λ o. IsPutFor joint.slots (suc before) id (Some h) (put_or_own (suc before) s place h o)) (sym index) (by_index h (held_index joint.slots h) refl where_it_is.0 where_it_is.1)
+      let index : index_among h (catalog_at (receiver_items joint) h.receiver) ≡ held_index joint h = ap (index_among h) (catalog_is joint kept h.receiver) in
+      subst (λ o. IsPutFor joint (suc before) id (Some h) (put_or_own (suc before) s place h o)) (sym index) (by_index h (held_index joint h) refl where_it_is.0 where_it_is.1)
 
 -- ---- places
 
@@ -224,10 +223,10 @@ one_place catalogs held number s index l (Some id) e = ap (λ p. p ∷ []) (put_
 
 module _ (joint : Joint) (kept : IsJoint joint) (held : List Held) where
   abbrev catalogs : List (List Item)
-  catalogs = map slot_items joint.slots
+  catalogs = receiver_items joint
 
   abbrev pub puts : List Put
-  puts = file_puts joint.slots held
+  puts = file_puts joint held
 
   places_alike : map put_place puts ≡ map place_of (openings_of joint)
   places_alike = each_alike put_place place_of (slot_puts catalogs held) slot_openings 1 joint.slots (λ n s. each_alike put_place place_of (location_put catalogs held n s) (opening_at n s) 0 s.world.locations (λ i l. one_place catalogs held n s i l l.id refl))
@@ -242,7 +241,7 @@ module _ (joint : Joint) (kept : IsJoint joint) (held : List Held) where
   ascend : IsStrictlyIncreasing (map put_place puts)
   ascend =
       let fillers : map put_place (placement_of joint []) ≡ map place_of (openings_of joint) = map_map put_place (end_put []) (openings_of joint) ∙ map_same (λ o. put_place (end_put [] o)) place_of (openings_of joint) (end_place []) in
-      subst IsStrictlyIncreasing (fillers ∙ sym places_alike) (placement_kept joint kept [] (All-nil (PutKept joint.slots))).ascend
+      subst IsStrictlyIncreasing (fillers ∙ sym places_alike) (placement_kept joint kept [] (All-nil (PutKept joint))).ascend
 
   -- ---- at each location with an id
 
@@ -254,7 +253,7 @@ module _ (joint : Joint) (kept : IsJoint joint) (held : List Held) where
   put_at number s index id = file_put catalogs number s (location_place s index) (held_among held number id)
 
   module _ (before : ℕ) (s : Slot) (at : slice_get joint.slots before ≡ Some s) (index : ℕ) (l : Location) (listed : slice_get s.world.locations index ≡ Some l) (id : ℤ) (named : l.id ≡ Some id) where
-    pub what_is_put : IsPutFor joint.slots (suc before) id (held_among held (suc before) id) (put_at (suc before) s index id)
+    pub what_is_put : IsPutFor joint (suc before) id (held_among held (suc before) id) (put_at (suc before) s index id)
     what_is_put = put_is joint kept before s at id (location_place s index) (held_among held (suc before) id) (key_of (suc before) id)
 
     pub where_it_is : (put_at (suc before) s index id).place ≡ location_place s index
@@ -265,7 +264,7 @@ module _ (joint : Joint) (kept : IsJoint joint) (held : List Held) where
     no_event (Some i) None e h = refl
     no_event (Some i) (Some event) e h = cc
 
-    one_kept : PutKept joint.slots (put_at (suc before) s index id)
+    one_kept : PutKept joint (put_at (suc before) s index id)
     one_kept =
         let put = put_at (suc before) s index id in
         let world = (holds_at SlotKept joint.slots before s kept.each at).world in
@@ -278,18 +277,18 @@ module _ (joint : Joint) (kept : IsJoint joint) (held : List Held) where
         }
 
   where_kept : (before : ℕ) (s : Slot) (index : ℕ) (l : Location) (o : Option ℤ) → slice_get joint.slots before ≡ Some s → slice_get s.world.locations index ≡ Some l → l.id ≡ o
-      → All (PutKept joint.slots) (put_where catalogs held (suc before) s (location_place s index) o)
-  where_kept before s index l None at listed e = All-nil (PutKept joint.slots)
-  where_kept before s index l (Some id) at listed e = All-cons (PutKept joint.slots) (put_at (suc before) s index id) [] (one_kept before s at index l listed id e) (All-nil (PutKept joint.slots))
+      → All (PutKept joint) (put_where catalogs held (suc before) s (location_place s index) o)
+  where_kept before s index l None at listed e = All-nil (PutKept joint)
+  where_kept before s index l (Some id) at listed e = All-cons (PutKept joint) (put_at (suc before) s index id) [] (one_kept before s at index l listed id e) (All-nil (PutKept joint))
 
-  each_kept : All (PutKept joint.slots) puts
+  each_kept : All (PutKept joint) puts
   each_kept =
-      numbered_all (PutKept joint.slots) (slot_puts catalogs held) 1 joint.slots
+      numbered_all (PutKept joint) (slot_puts catalogs held) 1 joint.slots
       (λ k s inside e. let number : suc k ≡ 1 + k = omega arith in
-      subst (λ n. All (PutKept joint.slots) (slot_puts catalogs held n s)) number
-      (numbered_all (PutKept joint.slots) (location_put catalogs held (suc k) s) 0 s.world.locations
+      subst (λ n. All (PutKept joint) (slot_puts catalogs held n s)) number
+      (numbered_all (PutKept joint) (location_put catalogs held (suc k) s) 0 s.world.locations
       (λ i l there is. let index : i ≡ 0 + i = omega arith in
-      subst (λ n. All (PutKept joint.slots) (location_put catalogs held (suc k) s n l)) index
+      subst (λ n. All (PutKept joint) (location_put catalogs held (suc k) s n l)) index
       (where_kept k s i l l.id (get_some joint.slots k s inside ∙ ap Some (sym e)) (get_some s.world.locations i l there ∙ ap Some (sym is)) refl))))
 
   pub is_placement : IsPlacement joint puts

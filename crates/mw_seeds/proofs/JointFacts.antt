@@ -8,19 +8,21 @@ use Rattle.std.proofs.lemmas.Result.{IfOk-at_ok, IfOk-weaker}
 use Rattle.std.proofs.lemmas.Slice.Eq.{bytes_eq-Decides}
 use Rattle.mw_multi.specs.World.{World, place_count}
 use Rattle.mw_multi.specs.Names.{IsName, NamesDiffer}
-use Rattle.mw_multi.specs.Players.{Player, Players}
-use Rattle.mw_multi.specs.PlayersKept.{PlayerKept, player_names, IsPlayers}
+use Rattle.mw_multi.specs.Players.{Player, ItemLink, Players}
+use Rattle.mw_multi.specs.PlayersKept.{PlayerKept, ItemLinkKept, player_names, link_name, IsPlayers}
 use Rattle.mw_multi.specs.Files.{world_files, no_world, world_at, world_named}
 use Rattle.mw_multi.specs.Joint as joined
-use Rattle.mw_multi.specs.Joint.{Joint, SlotKept, IsJoint, place_total}
-use Rattle.mw_multi.specs.JointOf.{◌>>=◌, has_game, games_differ, flags_option, start_option, slot_of, slots_from, few_places, world_text, few_text, joint_of}
+use Rattle.mw_multi.specs.Joint.{Joint, Link, SlotKept, IsJoint, place_total}
+use Rattle.mw_multi.specs.Links.{Sharing, left_by, left_by_items, links_of, pool_rows, with_left, each_with_left, slots_after}
+use Rattle.mw_multi.specs.JointOf.{◌>>=◌, has_game, games_differ, flags_option, start_option, slot_of, slots_from, links_play, shared_items, sharing_of, sharings_from, few_places, world_text, few_text, joint_of}
+use Rattle.mw_multi.specs.Joint.{world_of, first_slot}
 use Rattle.mw_multi.specs.Labels.{item_labels, location_labels}
 use Rattle.mw_multi.specs.declared.refusal.OptionName.TheVariants.{LocalItems, NonLocalItems, ExcludeLocations, PriorityLocations}
 use Rattle.mw_multi.specs.declared.refusal.JointRefusal.{JointRefusal}
 use Rattle.mw_multi.specs.declared.refusal.JointRefusal.TheVariants.{GameTwice}
 use Rattle.mw_multidata.specs.Names.{all_names}
 use Rattle.mw_seeds.specs.SeedFile.{file_slot}
-use Rattle.mw_seeds.proofs.Elements.{holds_in}
+use Rattle.mw_seeds.proofs.Elements.{holds_in, distinct_front}
 use Rattle.mw_seeds.proofs.SeedPlays.{HasNames, OneWorldEach}
 
 -- ---- step by step
@@ -60,6 +62,43 @@ slots_are named slot place first [] = refl
 slots_are named slot place first (p ∷ ps) =
     after (IsSlotOf p (named p.world)) (AreSlotsOf named (p ∷ ps)) (slot_of slot p (named p.world) place first) _ (slot_is slot p (named p.world) place first) (λ s h.
     after (AreSlotsOf named ps) (AreSlotsOf named (p ∷ ps)) (slots_from named (slot + 1) (place + place_count (named p.world)) (first + length (named p.world).items) ps) _ (slots_are named (slot + 1) (place + place_count (named p.world)) (first + length (named p.world).items) ps) (λ others k. (s, others, refl, h, k)))
+
+-- what links leave is of the same players
+each_left : (named : List ℕ → World) (ps : List Player) (rows : List (List ℕ)) (ss : List joined.Slot) → AreSlotsOf named ps ss → AreSlotsOf named ps (each_with_left rows ss)
+each_left named [] [] ss h = ap (each_with_left []) h
+each_left named [] (row ∷ rows) ss h = ap (each_with_left (row ∷ rows)) h
+each_left named (p ∷ ps) [] ss (s, others, is, here, later) = (s, others, ap (each_with_left []) is, here, later)
+each_left named (p ∷ ps) (row ∷ rows) ss (s, others, is, here, later) =
+    (with_left row s, each_with_left rows others, ap (each_with_left (row ∷ rows)) is, record { names = here.names; world = here.world }, each_left named ps rows others later)
+
+all_left : (named : List ℕ → World) (ps : List Player) (ss : List joined.Slot) (ls : List Sharing) → AreSlotsOf named ps ss → AreSlotsOf named ps (slots_after ss ls)
+all_left named ps ss [] h = h
+all_left named ps ss (l ∷ ls) h = each_left named ps (left_by (pool_rows ss) (l ∷ ls)) ss h
+
+-- ---- links
+
+abbrev sharing_name : Sharing → List ℕ
+sharing_name l = l.name
+
+abbrev pub joined_name : Link → List ℕ
+joined_name l = l.name
+
+sharing_named : (slots : List joined.Slot) (n : ℕ) (l : ItemLink) → IfOk (sharing_of slots n l) (λ s. s.name ≡ l.name)
+unfolding sharing_of
+sharing_named slots n l = past (λ (s : Sharing). s.name ≡ l.name) (shared_items n (item_labels (world_of (first_slot slots l.members)).items) 0 l.items) _ (λ items. refl)
+
+abbrev AreNamed : List ItemLink → List Sharing → Type 0
+AreNamed links ls = map sharing_name ls ≡ map link_name links
+
+sharings_named : (slots : List joined.Slot) (n : ℕ) (links : List ItemLink) → IfOk (sharings_from slots n links) (AreNamed links)
+sharings_named slots n [] = refl
+sharings_named slots n (l ∷ links) =
+    after (λ (s : Sharing). s.name ≡ l.name) (AreNamed (l ∷ links)) (sharing_of slots n l) _ (sharing_named slots n l) (λ s h.
+    after (AreNamed links) (AreNamed (l ∷ links)) (sharings_from slots (n + 1) links) _ (sharings_named slots (n + 1) links) (λ others k. ap₂ (λ (x : List ℕ) (xs : List (List ℕ)). x ∷ xs) h k))
+
+links_named : (left : List (List ℕ)) (ls : List Sharing) → map joined_name (links_of left ls) ≡ map sharing_name ls
+links_named left [] = refl
+links_named left (l ∷ ls) = ap (λ xs. l.name ∷ xs) (links_named (left_by_items left l.members l.items) ls)
 
 -- ---- games
 
@@ -167,6 +206,14 @@ slots_named_well named teams (p ∷ ps) ss kept (s, others, is, here, later) =
     subst (All (HasNames teams)) (sym is) (All-cons (HasNames teams) s others (record { count = ap length here.names ∙ first.count; names = subst (All (IsName 16)) (sym here.names) first.names })
     (slots_named_well named teams ps others (All-tail (PlayerKept teams) p ps kept) later))
 
+named_so : (links : List Link) (ls : List ItemLink) (slots : ℕ) → map joined_name links ≡ map link_name ls → All (ItemLinkKept slots) ls → All (λ (l : Link). IsName 16 l.name) links
+named_so [] ls slots e h = All-nil (λ (l : Link). IsName 16 l.name)
+named_so (k ∷ links) [] slots e h = cc
+named_so (k ∷ links) (l ∷ ls) slots e h =
+    let first : l.name ≡ k.name = cc in
+    let others : map joined_name links ≡ map link_name ls = cc in
+    All-cons (λ (l : Link). IsName 16 l.name) k links (subst (IsName 16) first (All-head (ItemLinkKept slots) l ls h).name) (named_so links ls slots others (All-tail (ItemLinkKept slots) l ls h))
+
 -- ---- the whole
 
 record IsJoined (worlds : List World) (players : Players) (joint : Joint) : Type 0 where
@@ -174,6 +221,7 @@ record IsJoined (worlds : List World) (players : Players) (joint : Joint) : Type
   room : joint.room ≡ players.room
   slots : AreSlotsOf (world_named (world_files players) worlds) players.players joint.slots
   games : NamesDiffer (map world_game worlds)
+  links : map joined_name joint.links ≡ map link_name players.links
 
 joined_so : (worlds : List World) (players : Players) → IfOk (joint_of worlds players) (IsJoined worlds players)
 unfolding joint_of
@@ -181,7 +229,15 @@ joined_so worlds players =
     let Q : Joint → Type 0 = IsJoined worlds players in
     after (λ _. GamesApart [] worlds) Q (games_differ [] 0 worlds) _ (games_apart [] 0 worlds) (λ games a.
     after (AreSlotsOf (world_named (world_files players) worlds) players.players) Q (slots_from (world_named (world_files players) worlds) 1 0 0 players.players) _ (slots_are (world_named (world_files players) worlds) 1 0 0 players.players) (λ slots b.
-    past Q (few_places (place_total slots)) _ (λ places. past Q (few_text (sum_by world_text worlds)) _ (λ text. record { teams = refl; room = refl; slots = b; games = a.differ }))))
+    past Q (links_play slots 0 players.links) _ (λ play.
+    after (AreNamed players.links) Q (sharings_from slots 0 players.links) _ (sharings_named slots 0 players.links) (λ sharings n.
+    past Q (few_places (place_total slots)) _ (λ places. past Q (few_text (sum_by world_text worlds)) _ (λ text. record {
+      teams = refl;
+      room = refl;
+      slots = all_left (world_named (world_files players) worlds) players.players slots sharings b;
+      games = a.differ;
+      links = links_named (pool_rows slots) sharings ∙ n;
+    }))))))
 
 module _ (worlds : List World) (players : Players) (joint : Joint) (is : joint_of worlds players ≡ Ok joint) where
   known : IsJoined worlds players joint
@@ -193,8 +249,16 @@ module _ (worlds : List World) (players : Players) (joint : Joint) (is : joint_o
   pub joint_room : joint.room ≡ players.room
   joint_room = known.room
 
+  -- no two slots and links have one name
+  pub all_differ : IsPlayers players → NamesDiffer (all_names (map file_slot joint.slots) ++ map joined_name joint.links)
+  all_differ kept =
+      subst NamesDiffer (sym (ap₂ (λ (a b : List (List ℕ)). a ++ b) (slot_names (world_named (world_files players) worlds) players.players joint.slots known.slots) known.links)) kept.differ
+
   pub names_differ_all : IsPlayers players → NamesDiffer (all_names (map file_slot joint.slots))
-  names_differ_all kept = subst NamesDiffer (sym (slot_names (world_named (world_files players) worlds) players.players joint.slots known.slots)) kept.differ
+  names_differ_all kept = distinct_front bytes_eq (all_names (map file_slot joint.slots)) (map joined_name joint.links) (all_differ kept)
+
+  pub links_good : IsPlayers players → All (λ l. IsName 16 l.name) joint.links
+  links_good kept = named_so joint.links players.links (length players.players) known.links kept.links
 
   pub names_good : IsPlayers players → All (HasNames joint.teams) joint.slots
   names_good kept = subst (λ n. All (HasNames n) joint.slots) (sym known.teams) (slots_named_well (world_named (world_files players) worlds) players.teams players.players joint.slots kept.each known.slots)

@@ -4,7 +4,7 @@ use Rattle.std.specs.Prelude.{OnOk}
 use Rattle.mw_model.specs.Seed.{Seed, Spot}
 use Rattle.mw_multi.specs.Joint.{Joint}
 use Rattle.mw_multi.specs.Placement.{Put}
-use Rattle.mw_reach.proofs.Beating.{beatable_by_least}
+use Rattle.mw_reach.proofs.Requiring.{beatable_by_least}
 use Rattle.mw_spheres.specs.Spots.{placement_table}
 use Rattle.mw_spheres.specs.Spheres.{IsSpheres}
 use Rattle.mw_spheres.specs.Check.{Check, IsChecked}
@@ -13,18 +13,21 @@ use Rattle.mw_spheres.specs.declared.refusal.CheckRefusal.TheVariants as found
 use Rattle.mw_seeds.specs.Refusals.{refusal_of}
 use Rattle.mw_seeds.specs.Judging.{IsPlacementIn, IsOther, IsRight, IsFound, IsNotRight}
 use Rattle.mw_seeds.specs.declared.refusal.SeedRefusal.{SeedRefusal}
-use Rattle.mw_seeds.specs.declared.refusal.SeedRefusal.TheVariants.{OtherTables, GoalMissed, Wrong, Missing, Memory}
+use Rattle.mw_seeds.specs.declared.refusal.SeedRefusal.TheVariants.{OtherLinks, OtherTables, GoalMissed, LocationMissed, Wrong, Missing, Memory}
 
 -- a file of other tables isn't right
 pub not_placed : (joint : Joint) (seed : Seed) (refusal : SeedRefusal) → IsOther joint seed refusal → IsNotRight joint seed refusal
+not_placed joint seed OtherLinks h = h
 not_placed joint seed (OtherTables slot location) h = h
 not_placed joint seed (GoalMissed slot) h = absurd h
+not_placed joint seed (LocationMissed slot place) h = absurd h
 not_placed joint seed (Wrong sphere place) h = absurd h
 not_placed joint seed (Missing sphere place) h = absurd h
 not_placed joint seed Memory h = tt
 
 found_so : (joint : Joint) (seed : Seed) (refusal : CheckRefusal) → IsFound joint seed refusal → IsNotRight joint seed (refusal_of refusal)
 found_so joint seed (found.GoalMissed slot) h = h
+found_so joint seed (found.LocationMissed slot place) h = h
 found_so joint seed (found.Wrong sphere place) h = h
 found_so joint seed (found.Missing sphere place) h = h
 found_so joint seed found.Memory h = tt
@@ -36,7 +39,7 @@ not_right joint seed refusal named h is = subst (IsNotRight joint seed) (sym is)
 right_by : (joint : Joint) (seed : Seed) (puts : List Put) → IsPlacementIn joint seed puts → IsChecked joint puts seed.spheres (Ok tt) → IsSpheres joint puts seed.spheres → IsRight joint seed puts
 right_by joint seed puts placed checked spheres = record {
   placed = placed;
-  beatable = beatable_by_least joint (placement_table joint puts) checked.goals.reached checked.goals.least (sym checked.goals.unmet);
+  beatable = beatable_by_least joint (placement_table joint puts) checked.nothing.reached checked.nothing.least (sym checked.nothing.is);
   spheres = spheres;
 }
 

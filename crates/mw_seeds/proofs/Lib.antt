@@ -1,9 +1,11 @@
 pub mod Elements
+pub mod Receivers
 pub mod Sorting
 pub mod SeedTables
 pub mod SeedHeld
 pub mod SeedPlays
 pub mod JointFacts
+pub mod SeedGroups
 pub mod SeedGames
 pub mod Pushed
 pub mod SeedLocations

@@ -1,5 +1,5 @@
 -- What is made of the first try's placement.
-use Rattle.std.proofs.Common.{◌≡◌, ◌≤◌, ◌<◌, ◌==◌, ℕ, List, [], ◌∷◌, Bool, true, false, All, filter, flat_map, map, get_or, inl, inr, refl, sym, ap, subst, ◌∙◌, arith}
+use Rattle.std.proofs.Common.{◌≡◌, ◌≤◌, ◌<◌, ◌==◌, ℕ, List, [], ◌∷◌, Bool, true, false, All, filter, flat_map, map, get_or, inl, inr, refl, sym, ap, ◌∙◌, arith}
 use Rattle.std.specs.List.{range_with_len}
 use Rattle.std.proofs.lemmas.Bool.{cases_lt}
 use Rattle.std.proofs.lemmas.Bool.Decides.{Decides-eqb}
@@ -10,7 +10,7 @@ use Rattle.mw_multi.specs.Joint.{Joint, IsJoint, place_total}
 use Rattle.mw_multi.specs.Placement.{Put, stands_at, put_numbers, standing, IsPlacement, IsPlaced}
 use Rattle.mw_multi.specs.Events.{with_events}
 use Rattle.mw_multi.proofs.Standing.{site_within}
-use Rattle.mw_reach.specs.Goals.{IsBeatable}
+use Rattle.mw_reach.specs.Required.{IsBeatable}
 use Rattle.mw_fill.specs.Generated.{CanBeTried, IsFirst}
 use Rattle.mw_spheres.specs.Spots.{placement_table}
 use Rattle.mw_spheres.proofs.Reaching.{with_events_kept}
@@ -30,12 +30,12 @@ none_past place most [] past h = refl
 none_past place most (p ∷ puts) past h =
     kept_where place most p puts (p.place == place) refl past (All-head (IsWithin most) p puts h) (none_past place most puts past (All-tail (IsWithin most) p puts h))
 
-placed_table : (joint : Joint) (puts : List Put) → IsJoint joint → IsPlacement joint puts → IsPlaced joint.slots (with_events joint puts) (placement_table joint puts)
+placed_table : (joint : Joint) (puts : List Put) → IsJoint joint → IsPlacement joint puts → IsPlaced joint (with_events joint puts) (placement_table joint puts)
 placed_table joint puts kept placement =
     let slots = joint.slots in
     let all = with_events joint puts in
     let total = place_total slots in
-    let f = standing slots all in
+    let f = standing joint all in
     let within : All (IsWithin total) all = λ k d l. site_within 1 slots (get_or all k d).place (with_events_kept joint puts kept placement k d l).place in
     record {
       size = length-map-range_with_len f 0 total;
@@ -43,11 +43,11 @@ placed_table joint puts kept placement =
         | inl inside ↦ get_or-map-range_with_len f 0 total place place [] inside (omega arith)
         | inr past ↦
             get_or_past (map f (range_with_len 0 total)) place [] (omega (arith, past, length-map-range_with_len f 0 total))
-            ∙ sym (ap (flat_map (put_numbers slots)) (none_past place total all past within))
+            ∙ sym (ap (flat_map (put_numbers joint)) (none_past place total all past within))
       ];
     }
 
-pub beatable_table : (joint : Joint) (puts : List Put) → IsJoint joint → IsPlacement joint puts → ((table : List (List ℕ)) → IsPlaced joint.slots (with_events joint puts) table → IsBeatable joint table)
+pub beatable_table : (joint : Joint) (puts : List Put) → IsJoint joint → IsPlacement joint puts → ((table : List (List ℕ)) → IsPlaced joint (with_events joint puts) table → IsBeatable joint table)
     → IsBeatable joint (placement_table joint puts)
 beatable_table joint puts kept placement h = h (placement_table joint puts) (placed_table joint puts kept placement)
 

@@ -101,8 +101,8 @@ as_it_is : {X : Type 0} (xs : List X) → map (λ x. x) xs ≡ xs
 as_it_is [] = refl
 as_it_is (x ∷ xs) = ap (λ ys. x ∷ ys) (as_it_is xs)
 
-one_order : (slots : List joined.Slot) (puts : List Put) (a b : List Held) → AreLocations slots puts a → AreLocations slots puts b → a ≡ b
-one_order slots puts a b p q =
+one_order : (joint : joined.Joint) (puts : List Put) (a b : List Held) → AreLocations joint puts a → AreLocations joint puts b → a ≡ b
+one_order joint puts a b p q =
     same_orders held_cmp held_total (λ (h : Held). h) _ a b p.same q.same (subst (Ascend held_cmp) (sym (as_it_is a)) p.ascend) (subst (Ascend held_cmp) (sym (as_it_is b)) q.ascend)
 
 pub one_file : (joint : joined.Joint) (number : ℕ) (puts : List Put) (spheres : List (List Spot)) (a b : Seed) → OneWorldEach joint.slots → SeedFile joint number puts spheres a → SeedFile joint number puts spheres b → a ≡ b
@@ -113,6 +113,6 @@ one_file joint number puts spheres a b one p q =
     let games : a.games ≡ b.games = one_games joint.slots one a.games b.games p.games q.games in
     let slots : a.slots ≡ b.slots = p.slots ∙ sym q.slots in
     let groups : a.groups ≡ b.groups = p.groups ∙ sym q.groups in
-    let locations : a.locations ≡ b.locations = one_order joint.slots puts a.locations b.locations p.locations q.locations in
+    let locations : a.locations ≡ b.locations = one_order joint puts a.locations b.locations p.locations q.locations in
     let same : a.spheres ≡ b.spheres = p.spheres ∙ sym q.spheres in
     λ i. record { seed_name = name i; teams = teams i; server = server i; games = games i; slots = slots i; groups = groups i; locations = locations i; spheres = same i }

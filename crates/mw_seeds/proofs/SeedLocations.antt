@@ -11,11 +11,11 @@ use Rattle.mw_seeds.proofs.Sorting.{same_held, held_ascends}
 use Rattle.mw_seeds.proofs.SeedHeld.{all_apart}
 
 module _ (joint : Joint) (puts : List Put) (stands : List (Option Put)) (kept : IsJoint joint) (told : AreStanding puts stands) where
-  pub locations_are : (entries sorted : List Held) → entries ≡ all_held joint.slots (λ p. slice_index_or stands p None) → IsPermutation entries sorted → IsSortedBy (λ a b. is_lt (held_cmp a b)) sorted
-      → AreLocations joint.slots puts sorted
+  pub locations_are : (entries sorted : List Held) → entries ≡ all_held joint (λ p. slice_index_or stands p None) → IsPermutation entries sorted → IsSortedBy (λ a b. is_lt (held_cmp a b)) sorted
+      → AreLocations joint puts sorted
   locations_are entries sorted is p s =
-      let same : entries ≡ all_held joint.slots (what_stands puts) = is ∙ ap (all_held joint.slots) (fun_ext told) in
-      let apart_all : IsDistinct same_held (all_held joint.slots (what_stands puts)) = all_apart joint.slots (what_stands puts) 1 joint.slots (λ k d l. (kept.each k d l).world.locations.ids) in
+      let same : entries ≡ all_held joint (what_stands puts) = is ∙ ap (all_held joint) (fun_ext told) in
+      let apart_all : IsDistinct same_held (all_held joint (what_stands puts)) = all_apart joint (what_stands puts) 1 joint.slots (λ k d l. (kept.each k d l).world.locations.ids) in
       record {
         same = subst (λ xs. IsPermutation xs sorted) same p;
         ascend = held_ascends entries sorted p s (subst (IsDistinct same_held) (sym same) apart_all);

@@ -1,9 +1,9 @@
 -- The seed that is made of a joint and a placement keeps the rules of a seed.
-use Rattle.std.proofs.Common.{◌≡◌, ◌≤◌, ◌<◌, ◌^◌, ◌+◌, ◌++◌, ℕ, zero, suc, List, [], ◌∷◌, true, Some, Ok, IsUtf8, decimal, chars, length, map, refl, sym, ap, subst, ◌∙◌, append-nil, arith}
+use Rattle.std.proofs.Common.{◌≡◌, ◌≤◌, ◌<◌, ◌^◌, ◌+◌, ◌++◌, ℕ, zero, suc, List, [], ◌∷◌, true, Some, Ok, IsUtf8, decimal, chars, length, map, refl, sym, ap, subst, ◌∙◌, arith}
 use Rattle.std.specs.Prelude.{All, slice_index_or}
 use Rattle.std.proofs.lemmas.Fmt.{IsAscii-decimal, decimal_nonempty, length-decimal-le}
 use Rattle.std.proofs.lemmas.List.{length-map}
-use Rattle.std.proofs.lemmas.List.Elements.{All-nil, All-cons}
+use Rattle.std.proofs.lemmas.List.Elements.{All-cons}
 use Rattle.std.proofs.lemmas.List.Sorted.{All-permutation, length_permutation}
 use Rattle.std.proofs.lemmas.Str.{IsUtf8-from_ascii, encodes-chars, length-le-encodes}
 use Rattle.mw_base.specs.Permissions.{permission_number}
@@ -18,14 +18,15 @@ use Rattle.mw_multi.specs.Joint.{Slot, Joint, IsJoint}
 use Rattle.mw_multi.specs.JointOf.{joint_of}
 use Rattle.mw_multi.specs.Placement.{Put, slot_at, what_stands}
 use Rattle.mw_multi.specs.Names.{NamesDiffer}
-use Rattle.mw_multidata.specs.Names.{all_names, names_with}
+use Rattle.mw_multidata.specs.Names.{all_names, group_name, names_with}
 use Rattle.mw_multidata.specs.SeedKept.{is_permission, is_remaining, ServerKept, GameKept, SlotKept, GroupKept, SpotKept, SphereKept, IsSeed}
 use Rattle.mw_spheres.specs.Spots.{IsSpot, placement_table}
 use Rattle.mw_spheres.specs.Spheres.{AreSpheres, IsSpheres}
 use Rattle.mw_spheres.proofs.Playing.{spheres_are_spots}
-use Rattle.mw_seeds.specs.SeedFile.{AreGames, IsPlayed, file_slot, all_held, AreLocations, SeedFile}
+use Rattle.mw_seeds.specs.SeedFile.{AreGames, IsPlayed, file_slot, file_group, file_groups, all_held, AreLocations, SeedFile}
 use Rattle.mw_seeds.proofs.Elements.{holds_in, within}
-use Rattle.mw_seeds.proofs.JointFacts.{joint_teams, joint_room, names_differ_all, names_good, one_world_each}
+use Rattle.mw_seeds.proofs.JointFacts.{joint_teams, joint_room, joined_name, all_differ, names_differ_all, names_good, links_good, one_world_each}
+use Rattle.mw_seeds.proofs.SeedGroups.{groups_good, group_names}
 use Rattle.mw_seeds.proofs.SeedHeld.{all_of, few_in_all, IsOfSlot}
 use Rattle.mw_seeds.proofs.SeedPlays.{IsFound, all_found, slots_good, held_good}
 use Rattle.mw_seeds.proofs.SeedTables.{good_game}
@@ -75,15 +76,15 @@ module _ (joint : Joint) (kept : IsJoint joint) where
 -- the parts make the seed
 pub made : (worlds : List World) (players : Players) (joint : Joint) (joined : joint_of worlds players ≡ Ok joint) (number : ℕ) (puts : List Put) (list : List (List Spot)) (name : List ℕ) (teams : ℕ) (server : RoomOptions)
     (games : List Game) (slots : List FileSlot) (groups : List Group) (held : List Held) (spheres : List (List Spot)) → name ≡ decimal number → teams ≡ players.teams → server ≡ players.room → AreGames joint.slots games
-    → slots ≡ map file_slot joint.slots → groups ≡ [] → AreLocations joint.slots puts held → spheres ≡ list
+    → slots ≡ map file_slot joint.slots → groups ≡ file_groups joint → AreLocations joint puts held → spheres ≡ list
     → SeedFile joint number puts list record { seed_name = name; teams = teams; server = server; games = games; slots = slots; groups = groups; locations = held; spheres = spheres }
-made worlds players joint joined number puts list name teams server games slots groups held spheres is_name are_teams is_room are_games are_slots no_groups are_held are_spheres = record {
+made worlds players joint joined number puts list name teams server games slots groups held spheres is_name are_teams is_room are_games are_slots are_groups are_held are_spheres = record {
   seed_name = is_name;
   teams = are_teams ∙ sym (joint_teams worlds players joint joined);
   server = is_room ∙ sym (joint_room worlds players joint joined);
   games = are_games;
   slots = are_slots;
-  groups = no_groups;
+  groups = are_groups;
   locations = are_held;
   spheres = are_spheres;
 }
@@ -95,10 +96,12 @@ module _ (worlds : List World) (players : Players) (joint : Joint) (joined : joi
       let slots = joint.slots in
       let teams : seed.teams ≡ players.teams = file.teams ∙ joint_teams worlds players joint joined in
       let names : NamesDiffer (all_names seed.slots) = subst (λ ss. NamesDiffer (all_names ss)) (sym file.slots) (names_differ_all worlds players joint joined p) in
+      let shared_names : NamesDiffer (all_names seed.slots ++ map group_name (file_groups joint)) =
+      subst (λ ns. NamesDiffer (all_names seed.slots ++ ns)) (sym (group_names slots joint.links)) (subst (λ ss. NamesDiffer (all_names ss ++ map joined_name joint.links)) (sym file.slots) (all_differ worlds players joint joined p)) in
       let many : length seed.slots ≡ length slots = ap length file.slots ∙ length-map slots file_slot in
       let found : All (IsFound seed.games) slots = all_found slots seed.games file.games (one_world_each worlds players joint joined kept) in
-      let held = all_held slots (what_stands puts) in
-      let of : All (IsOfSlot slots 1 slots) seed.locations = All-permutation (IsOfSlot slots 1 slots) held seed.locations file.locations.same (all_of slots (what_stands puts) 1 slots) in
+      let held = all_held joint (what_stands puts) in
+      let of : All (IsOfSlot joint 1 slots) seed.locations = All-permutation (IsOfSlot joint 1 slots) held seed.locations file.locations.same (all_of joint (what_stands puts) 1 slots) in
       let spots : All (All (IsSpot slots)) spheres = spheres_are_spots joint (placement_table joint puts) [] spheres are in
       let some : All (λ s. 1 ≤ length s) spheres = sphere_some joint kept (placement_table joint puts) [] spheres are in
       let kept_spheres : All (SphereKept (length slots)) spheres = λ k d l. record {
@@ -123,13 +126,13 @@ module _ (worlds : List World) (players : Players) (joint : Joint) (joined : joi
           differ = names;
         };
         groups = record {
-          few = subst (λ (gs : List Group). length seed.slots + length gs ≤ 1024) (sym file.groups) (omega (arith, many, kept.few));
-          each = subst (All (GroupKept seed)) (sym file.groups) (All-nil (GroupKept seed));
-          differ = subst (λ (gs : List Group). NamesDiffer (names_with seed gs)) (sym file.groups) (subst NamesDiffer (sym (append-nil (all_names seed.slots))) names);
+          few = subst (λ (gs : List Group). length seed.slots + length gs ≤ 1024) (sym file.groups) (omega (arith, many, length-map joint.links (file_group slots), kept.few_receivers));
+          each = subst (All (GroupKept seed)) (sym file.groups) (groups_good seed joint file.slots found joint.links kept.links (links_good worlds players joint joined p));
+          differ = subst (λ (gs : List Group). NamesDiffer (names_with seed gs)) (sym file.groups) shared_names;
         };
         locations = record {
-          few = omega (arith, length_permutation held seed.locations file.locations.same, few_in_all slots (what_stands puts) 1 slots, kept.places);
-          each = λ k d l. held_good seed slots file.slots found kept.each (slice_index_or seed.locations k d) (of k d l);
+          few = omega (arith, length_permutation held seed.locations file.locations.same, few_in_all joint (what_stands puts) 1 slots, kept.places);
+          each = λ k d l. held_good seed joint file.slots file.groups found kept.each (slice_index_or seed.locations k d) (of k d l);
           ascend = file.locations.ascend;
         };
         spheres = subst (λ n. All (SphereKept n) seed.spheres) (sym many) (subst (All (SphereKept (length slots))) (sym file.spheres) kept_spheres);

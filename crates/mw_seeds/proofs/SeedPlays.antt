@@ -1,7 +1,8 @@
 -- The games that the slots of a joint play, and what of them the slots and locations name.
-use Rattle.std.proofs.Common.{◌≡◌, ◌≤◌, ◌<◌, ◌+◌, ℕ, ℤ, zero, suc, List, [], ◌∷◌, Bool, true, false, Option, Some, None, length, map, flat_map, replicate, bytes_eq, option_map, slice_get, get_or, sum_by, refl, sym, ap, subst, ◌∙◌, arith}
+use Rattle.std.proofs.Common.{◌≡◌, ◌≤◌, ◌<◌, ◌+◌, ℕ, ℤ, zero, suc, List, [], ◌∷◌, Bool, true, false, Option, Some, None, length, map, flat_map, replicate, bytes_eq, option_map, slice_get, get_or, sum_by, refl, sym, ap, subst, ◌∙◌, arith, ◌-◌, inl, inr}
 use Rattle.std.specs.Prelude.{All, Contains, is_some, nat_le}
-use Rattle.std.proofs.lemmas.List.{length-append}
+use Rattle.std.proofs.lemmas.Bool.{cases_lt}
+use Rattle.std.proofs.lemmas.List.{length-append, length-map}
 use Rattle.std.proofs.lemmas.List.Elements.{All-nil, All-cons, All-head, All-tail, All-append, Contains-get_or}
 use Rattle.std.proofs.lemmas.List.Sums.{sum_by-cons}
 use Rattle.std.proofs.lemmas.Slice.Eq.{bytes_eq-Decides}
@@ -10,15 +11,16 @@ use Rattle.mw_multi.specs.World.{World, Item, PoolEntry}
 use Rattle.mw_multi.specs.WorldKept.{IsWorld, copies}
 use Rattle.mw_multi.specs.Names.{IsName}
 use Rattle.mw_multi.specs.Joint as joined
-use Rattle.mw_multi.specs.Placement.{slot_at}
+use Rattle.mw_multi.specs.Placement.{slot_at, members_of}
 use Rattle.mw_multi.specs.declared.item.Class.{Class}
 use Rattle.mw_multi.specs.declared.item.Class.TheVariants.{Progression, Useful, Filler, Trap}
 use Rattle.mw_multidata.specs.Names.{has_id, find_game}
-use Rattle.mw_multidata.specs.SeedKept.{is_class, has_item, has_location, game_of, played, received, game_name, StartKept, SlotKept, HeldKept}
-use Rattle.mw_multidata.proofs.Plays.{number_within}
-use Rattle.mw_seeds.specs.SeedFile.{class_flags, IsGameOf, IsPlayed, HasGameOf, AreGames, start_with, start_of, start_copies, file_slot}
+use Rattle.mw_multidata.specs.SeedKept.{is_class, has_item, has_location, game_of, game_of_group, played, received, game_name, StartKept, SlotKept, HeldKept}
+use Rattle.mw_seeds.specs.SeedFile.{class_flags, IsGameOf, IsPlayed, HasGameOf, AreGames, start_with, start_of, start_copies, file_slot, file_group, file_groups}
+use Rattle.mw_seeds.specs.Agreeing.{first_owner}
 use Rattle.mw_seeds.proofs.Elements.{holds_at, holds_in, get_mapped}
 use Rattle.mw_seeds.proofs.SeedTables.{name_kept, item_there, location_there}
+use Rattle.mw_seeds.proofs.Receivers.{owners_past, owner_holds, own_owner}
 use Rattle.mw_seeds.proofs.SeedHeld.{IsOfSlot}
 
 class_is : (c : Class) → is_class (class_flags c) ≡ true
@@ -125,30 +127,53 @@ module _ (teams : ℕ) (games : List Game) where
 
 -- ---- the locations
 
-module _ (seed : Seed) (slots : List joined.Slot) (same : seed.slots ≡ map file_slot slots) (found : All (IsFound seed.games) slots) (kept : All joined.SlotKept slots) where
-  game_at : (n : ℕ) (s : joined.Slot) → slot_at slots n ≡ Some s → played seed n ≡ find_game seed.games s.world.game
+module _ (seed : Seed) (joint : joined.Joint) (same : seed.slots ≡ map file_slot joint.slots) (groups : seed.groups ≡ file_groups joint) (found : All (IsFound seed.games) joint.slots) (kept : All joined.SlotKept joint.slots) where
+  many : length seed.slots ≡ length joint.slots
+  many = ap length same ∙ length-map joint.slots file_slot
+
+  game_at : (n : ℕ) (s : joined.Slot) → slot_at joint.slots n ≡ Some s → played seed n ≡ find_game seed.games s.world.game
   game_at zero s e = cc
-  game_at (suc k) s e = ap (λ ss. game_of seed.games (slice_get ss k)) same ∙ ap (game_of seed.games) (get_mapped file_slot slots k ∙ ap (option_map file_slot) e)
+  game_at (suc k) s e = ap (λ ss. game_of seed.games (slice_get ss k)) same ∙ ap (game_of seed.games) (get_mapped file_slot joint.slots k ∙ ap (option_map file_slot) e)
 
-  receives : (n : ℕ) (g : Game) → played seed n ≡ Some g → received seed n ≡ Some g
-  receives n g e =
-      let there = number_within seed n (ap is_some e) in
-      let own : nat_le n (length seed.slots) ≡ true = grind (arith, there.1) in
-      rw own e
+  -- a link's group plays the game of its first member
+  of_link : (o : Option joined.Link) (s : joined.Slot) → joined.first_slot joint.slots (members_of o) ≡ Some s → game_of_group seed.games (option_map (file_group joint.slots) o) ≡ find_game seed.games s.world.game
+  of_link None s e = cc
+  of_link (Some l) s e = ap (λ t. find_game seed.games (joined.world_of t).game) e
 
-  slot_found : (n : ℕ) (s : joined.Slot) → slot_at slots n ≡ Some s → IsFound seed.games s × IsWorld s.world
+  of_group : (n : ℕ) (s : joined.Slot) → length joint.slots < n → first_owner joint n ≡ Some s → received seed n ≡ find_game seed.games s.world.game
+  of_group n s past e =
+      let k = n - suc (length joint.slots) in
+      let shared : joined.first_slot joint.slots (members_of (slice_get joint.links k)) ≡ Some s = sym (ap (joined.first_slot joint.slots) (owners_past joint n past)) ∙ e in
+      let no_slot : nat_le n (length seed.slots) ≡ false = grind (arith, past, many) in
+      let there : slice_get seed.groups (n - suc (length seed.slots)) ≡ option_map (file_group joint.slots) (slice_get joint.links k) =
+      ap (λ m. slice_get seed.groups (n - suc m)) many ∙ ap (λ gs. slice_get gs k) groups ∙ get_mapped (file_group joint.slots) joint.links k in
+      let game : game_of_group seed.games (slice_get seed.groups (n - suc (length seed.slots))) ≡ find_game seed.games s.world.game = ap (game_of_group seed.games) there ∙ of_link (slice_get joint.links k) s shared in
+      rw no_slot game
+
+  of_slot : (n : ℕ) (s : joined.Slot) → n ≤ length joint.slots → first_owner joint n ≡ Some s → received seed n ≡ find_game seed.games s.world.game
+  of_slot n s inside e =
+      let own : nat_le n (length seed.slots) ≡ true = grind (arith, inside, many) in
+      let game : played seed n ≡ find_game seed.games s.world.game = game_at n s (sym (own_owner joint n inside) ∙ e) in
+      rw own game
+
+  -- a receiver's game in the file is that of its first owner
+  game_for : (n : ℕ) (s : joined.Slot) → first_owner joint n ≡ Some s → received seed n ≡ find_game seed.games s.world.game
+  game_for n s e = elim (cases_lt (length joint.slots) n) [ inl past ↦ of_group n s past e | inr inside ↦ of_slot n s inside e ]
+
+  slot_found : (n : ℕ) (s : joined.Slot) → slot_at joint.slots n ≡ Some s → IsFound seed.games s × IsWorld s.world
   slot_found zero s e = cc
-  slot_found (suc k) s e = (holds_at (IsFound seed.games) slots k s found e, (holds_at joined.SlotKept slots k s kept e).world)
+  slot_found (suc k) s e = (holds_at (IsFound seed.games) joint.slots k s found e, (holds_at joined.SlotKept joint.slots k s kept e).world)
 
-  pub held_good : (h : Held) → IsOfSlot slots 1 slots h → HeldKept seed h
+  pub held_good : (h : Held) → IsOfSlot joint 1 joint.slots h → HeldKept seed h
   held_good h (k, s, at, (index, l, id, there, named, of)) =
       let number : 1 + k ≡ suc k = omega arith in
       let finder : IsFound seed.games s × IsWorld s.world = slot_found (suc k) s at in
-      let owner : IsFound seed.games of.owner × IsWorld of.owner.world = slot_found h.receiver of.owner of.receiver in
+      let owner : IsFound seed.games of.owner = owner_holds (IsFound seed.games) joint h.receiver of.owner found of.receiver in
+      let world : IsWorld of.owner.world = (owner_holds joined.SlotKept joint h.receiver of.owner kept of.receiver).world in
       let mine : played seed h.slot ≡ Some finder.0.0 = ap (played seed) (of.slot ∙ number) ∙ game_at (suc k) s at ∙ finder.0.1 in
-      let theirs : received seed h.receiver ≡ Some owner.0.0 = receives h.receiver owner.0.0 (game_at h.receiver of.owner of.receiver ∙ owner.0.1) in
+      let theirs : received seed h.receiver ≡ Some owner.0 = game_for h.receiver of.owner of.receiver ∙ owner.1 in
       record {
         location = ap (λ g. has_location g h.location) mine ∙ ap (has_id finder.0.0.location_name_to_id) of.location ∙ location_there s.world finder.0.0 finder.0.2 finder.1 index l id there named;
-        item = ap (λ g. has_item g h.item) theirs ∙ item_there of.owner.world owner.0.0 owner.0.2 owner.1 of.index of.what h.item of.there of.named;
+        item = ap (λ g. has_item g h.item) theirs ∙ item_there of.owner.world owner.0 owner.2 world of.index of.what h.item of.there of.named;
         class = ap is_class of.flags ∙ class_is of.what.class;
       }

@@ -1,13 +1,13 @@
--- Whether joined tables and a seed file agree on what stands where.
+-- Whether joined tables and a seed file agree on who shares what, and on what stands where.
 use Rattle.std.specs.Prelude.{◌≡◌, ◌==◌, ◌&&◌, ℕ, ℤ, List, Bool, true, false, Option, Some, None, is_some, length, map, nat_le, not, option_map, slice_get, if◌then◌else◌}
 use Rattle.std.specs.Ordering.{nat_cmp, int_cmp, ordering_then}
 use Rattle.std.specs.declared.cmp.Ordering.{Ordering}
 use Rattle.std.specs.declared.cmp.Ordering.TheVariants.{Less}
-use Rattle.mw_model.specs.Seed.{Seed, Held, held_at}
+use Rattle.mw_model.specs.Seed.{Seed, Group, Held, held_at}
 use Rattle.mw_multi.specs.World.{Item}
 use Rattle.mw_multi.specs.WorldKept.{item_id, location_id}
-use Rattle.mw_multi.specs.Joint.{Slot, Joint}
-use Rattle.mw_multi.specs.Placement.{slot_at}
+use Rattle.mw_multi.specs.Joint.{Slot, Link, Joint, first_slot}
+use Rattle.mw_multi.specs.Placement.{slot_at, owners}
 use Rattle.mw_multi.specs.Indexes.{index_of_id}
 use Rattle.mw_seeds.specs.SeedFile.{class_flags}
 
@@ -36,13 +36,24 @@ index_among h (Some items) = where_flags h.flags items (index_of_id (map item_id
 abbrev pub slot_items : Slot → List Item
 slot_items s = s.world.items
 
--- the same in its receiver's world
-abbrev pub held_index : List Slot → Held → Option ℕ
-held_index slots h = index_among h (option_map slot_items (slot_at slots h.receiver))
+-- the first of a receiver's owners, whose world is the receiver's
+abbrev pub first_owner : Joint → ℕ → Option Slot
+first_owner joint receiver = first_slot joint.slots (owners joint receiver)
 
--- the same, for one of the file's slots, of which there are so many, and not for a group
-abbrev pub fits_tables : List Slot → ℕ → Held → Bool
-fits_tables slots many h = nat_le h.receiver many && is_some (held_index slots h)
+-- the same in its receiver's world
+abbrev pub held_index : Joint → Held → Option ℕ
+held_index joint h = index_among h (option_map slot_items (first_owner joint h.receiver))
+
+-- a receiver's number is that of a slot in the tables, which have so many slots, and in the file, which has so many; or of
+-- a link and a group, which then are numbered on from as many slots
+abbrev pub is_in_both : ℕ → ℕ → ℕ → Bool
+is_in_both slots many receiver =
+    if nat_le receiver slots then nat_le receiver many else many == slots
+
+-- the same, for such a receiver
+abbrev pub fits_tables : Joint → ℕ → Held → Bool
+fits_tables joint many h =
+    is_in_both (length joint.slots) many h.receiver && is_some (held_index joint h)
 
 -- neither has an entry for the location, or both have one, and the file's fits
 abbrev pub agrees_with : (Held → Bool) → Bool → Option Held → Bool
@@ -52,20 +63,35 @@ agrees_with fits has (Some h) = has && fits h
 -- at a location of the slot of this number, by its id
 abbrev pub agrees_at : Joint → Seed → ℕ → ℤ → Bool
 agrees_at joint seed slot location =
-    agrees_with (fits_tables joint.slots (length seed.slots))
+    agrees_with (fits_tables joint (length seed.slots))
     (has_location location (slot_at joint.slots slot)) (held_at seed slot location)
 
 -- they agree everywhere
-abbrev pub TablesAgree : Joint → Seed → Type 0
-TablesAgree joint seed = (slot : ℕ) (location : ℤ) → agrees_at joint seed slot location ≡ true
+abbrev pub EntriesAgree : Joint → Seed → Type 0
+EntriesAgree joint seed = (slot : ℕ) (location : ℤ) → agrees_at joint seed slot location ≡ true
+
+abbrev pub link_members : Link → List ℕ
+link_members l = l.members
+
+abbrev pub group_members : Group → List ℕ
+group_members g = g.members
+
+-- the file's groups have the members of the tables' links, in order
+abbrev pub LinksAgree : Joint → Seed → Type 0
+LinksAgree joint seed = map group_members seed.groups ≡ map link_members joint.links
+
+pub record TablesAgree (joint : Joint) (seed : Seed) : Type 0 where
+  pub links : LinksAgree joint seed
+  pub entries : EntriesAgree joint seed
 
 -- by slot, then by id
 abbrev pub location_cmp : ℕ → ℤ → ℕ → ℤ → Ordering
 location_cmp slot location other_slot other =
     ordering_then (nat_cmp slot other_slot) (int_cmp location other)
 
--- they don't agree there, and do at each location before
+-- their links agree, and they don't agree there, and do at each location before
 pub record IsFirstDifference (joint : Joint) (seed : Seed) (slot : ℕ) (location : ℤ) : Type 0 where
+  pub links : LinksAgree joint seed
   pub differs : agrees_at joint seed slot location ≡ false
   pub earlier : (s : ℕ) (l : ℤ) → location_cmp s l slot location ≡ Less
       → agrees_at joint seed s l ≡ true

@@ -1,10 +1,10 @@
 -- For proofs alone: what the entries of a seed file put at the locations of joined tables, and
 -- where two lists of entries first differ.
-use Rattle.std.specs.Prelude.{ℕ, zero, suc, ℤ, List, map, slice_get, [], ◌∷◌, Option, Some, None, Bool, ◌==◌, ◌&&◌, if◌then◌else◌}
+use Rattle.std.specs.Prelude.{ℕ, zero, suc, ℤ, List, ◌++◌, map, slice_get, [], ◌∷◌, Option, Some, None, Bool, ◌==◌, ◌&&◌, if◌then◌else◌}
 use Rattle.std.specs.Ordering.{int_eq, is_lt}
 use Rattle.mw_model.specs.Seed.{Held, held_among}
 use Rattle.mw_multi.specs.World.{Item, Location}
-use Rattle.mw_multi.specs.Joint.{Slot}
+use Rattle.mw_multi.specs.Joint.{Slot, Link, Joint, world_of, first_slot}
 use Rattle.mw_multi.specs.Steps.{location_place}
 use Rattle.mw_multi.specs.Placement.{Put}
 use Rattle.mw_multi.specs.Numbered.{each_numbered}
@@ -15,6 +15,15 @@ use Rattle.mw_seeds.specs.Agreeing.{index_among, slot_items}
 abbrev pub catalog_at : List (List Item) → ℕ → Option (List Item)
 catalog_at catalogs zero = None
 catalog_at catalogs (suc before) = slice_get catalogs before
+
+-- the items of the world of a link's members
+abbrev pub link_items : List Slot → Link → List Item
+link_items slots l = (world_of (first_slot slots l.members)).items
+
+-- for each receiver the items of its world
+abbrev pub receiver_items : Joint → List (List Item)
+receiver_items joint =
+    map slot_items joint.slots ++ map (link_items joint.slots) joint.links
 
 -- a slot's own filler at a place, the slot having this number
 abbrev pub own_put : ℕ → Slot → ℕ → Put
@@ -50,8 +59,8 @@ slot_puts catalogs held number s =
     each_numbered (location_put catalogs held number s) 0 s.world.locations
 
 -- at each location with an id, by slot and table order
-abbrev pub file_puts : List Slot → List Held → List Put
-file_puts slots held = each_numbered (slot_puts (map slot_items slots) held) 1 slots
+abbrev pub file_puts : Joint → List Held → List Put
+file_puts joint held = each_numbered (slot_puts (receiver_items joint) held) 1 joint.slots
 
 -- ---- two lists of entries
 

@@ -1,6 +1,6 @@
 -- For proofs alone: the locations with an id of joined tables, in ascending order, beside the
 -- entries of a seed file.
-use Rattle.std.specs.Prelude.{◌==◌, ◌&&◌, ℕ, ℤ, pos, List, [], ◌∷◌, Bool, Option, Some, None, is_some, map, nat_le, option_map, if◌then◌else◌}
+use Rattle.std.specs.Prelude.{◌==◌, ◌&&◌, ℕ, ℤ, pos, List, [], ◌∷◌, Bool, Option, Some, None, is_some, map, option_map, if◌then◌else◌}
 use Rattle.std.specs.Ordering.{int_eq}
 use Rattle.std.specs.List.Sorted.{IsPermutation}
 use Rattle.mw_model.specs.Seed.{Held}
@@ -9,7 +9,7 @@ use Rattle.mw_multi.specs.Joint.{Slot}
 use Rattle.mw_multi.specs.Numbered.{each_numbered}
 use Rattle.mw_model.specs.Ascending.{Ascend}
 use Rattle.mw_multidata.specs.SeedKept.{held_cmp}
-use Rattle.mw_seeds.specs.Agreeing.{index_among}
+use Rattle.mw_seeds.specs.Agreeing.{index_among, is_in_both}
 use Rattle.mw_seeds.specs.FilePuts.{catalog_at, earlier_of}
 
 -- a location by its slot's number and its id
@@ -59,12 +59,14 @@ first_other fits (d ∷ ds) (h ∷ hs) =
 abbrev pub key_of : Held → Key
 key_of h = record { slot = h.slot; location = h.location }
 
--- the entry is for one of so many slots, and its item stands in these, with its flags
-abbrev pub fits_among : List (List Item) → ℕ → Held → Bool
-fits_among catalogs many h =
-    nat_le h.receiver many && is_some (index_among h (catalog_at catalogs h.receiver))
+-- the entry's receiver is one in tables of so many slots and in a file of so many, and its item stands in these, with its
+-- flags
+abbrev pub fits_among : List (List Item) → ℕ → ℕ → Held → Bool
+fits_among catalogs slots many h =
+    is_in_both slots many h.receiver
+    && is_some (index_among h (catalog_at catalogs h.receiver))
 
 -- the same by the keys
-abbrev pub first_other_key : List (List Item) → ℕ → List Key → List Held → Option Key
-first_other_key catalogs many keys held =
-    option_map key_of (first_other (fits_among catalogs many) (map as_held keys) held)
+abbrev pub first_other_key : List (List Item) → ℕ → ℕ → List Key → List Held → Option Key
+first_other_key catalogs slots many keys held =
+    option_map key_of (first_other (fits_among catalogs slots many) (map as_held keys) held)

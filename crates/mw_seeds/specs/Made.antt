@@ -4,7 +4,7 @@ use Rattle.mw_model.specs.Seed.{Seed, Spot}
 use Rattle.mw_multi.specs.Joint.{Joint, IsJoint}
 use Rattle.mw_multi.specs.Placement.{Put, what_stands}
 use Rattle.mw_multidata.specs.Written.{seed_text}
-use Rattle.mw_reach.specs.Goals.{IsBeatable}
+use Rattle.mw_reach.specs.Required.{IsBeatable}
 use Rattle.mw_fill.specs.Generated.{CanBeTried, IsFirst}
 use Rattle.mw_spheres.specs.Spots.{placement_table}
 use Rattle.mw_spheres.specs.Spheres.{IsSpheres, Shows}
@@ -34,7 +34,7 @@ pub record IsMade (joint : Joint) (seed stream : ℕ) (placement : List Put) (by
   pub is_file : SeedFile joint seed placement spheres file
   pub written : bytes ≡ seed_text file
   pub printed : text ≡ generated_line seed stream (length spheres)
-      ++ played_lines joint.slots (what_stands placement) 1 played
+      ++ played_lines joint (what_stands placement) 1 played
 
 -- each goal holds with everything in hand, there is room for all copies, and it is made of the
 -- first try's placement

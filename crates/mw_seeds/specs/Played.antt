@@ -1,8 +1,8 @@
 -- The lines of a playthrough.
-use Rattle.std.specs.Prelude.{ℕ, suc, ◌++◌, List, [], ◌∷◌, Option, Some, None, codes, decimal, flat_map, slice_get, slice_index_or}
+use Rattle.std.specs.Prelude.{ℕ, suc, ◌-◌, ◌++◌, List, [], ◌∷◌, Option, Some, None, codes, decimal, flat_map, length, nat_le, slice_get, slice_index_or, if◌then◌else◌}
 use Rattle.mw_model.specs.Seed.{Spot}
 use Rattle.mw_multi.specs.World.{Item, Location}
-use Rattle.mw_multi.specs.Joint.{Slot}
+use Rattle.mw_multi.specs.Joint.{Slot, Link, Joint}
 use Rattle.mw_multi.specs.Steps.{location_place}
 use Rattle.mw_multi.specs.Placement.{Put, slot_at, item_at}
 
@@ -23,14 +23,24 @@ abbrev pub name_of_location : Option Location → List ℕ
 name_of_location None = []
 name_of_location (Some l) = l.name
 
--- the receiver of a put, and the item
-abbrev pub receiver_name : List Slot → Option Put → List ℕ
-receiver_name slots None = []
-receiver_name slots (Some put) = slot_name (slot_at slots put.receiver)
+abbrev pub link_name : Option Link → List ℕ
+link_name None = []
+link_name (Some l) = l.name
 
-abbrev pub put_name : List Slot → Option Put → List ℕ
-put_name slots None = []
-put_name slots (Some put) = name_of_item (item_at slots put.receiver put.item)
+-- a slot's name in the first team, or a link's; links are numbered after the slots
+abbrev pub receiver_named : Joint → ℕ → List ℕ
+receiver_named joint receiver =
+    if nat_le receiver (length joint.slots) then slot_name (slot_at joint.slots receiver)
+    else link_name (slice_get joint.links (receiver - suc (length joint.slots)))
+
+-- the receiver of a put, and the item
+abbrev pub receiver_name : Joint → Option Put → List ℕ
+receiver_name joint None = []
+receiver_name joint (Some put) = receiver_named joint put.receiver
+
+abbrev pub put_name : Joint → Option Put → List ℕ
+put_name joint None = []
+put_name joint (Some put) = name_of_item (item_at joint put.receiver put.item)
 
 -- an event location's own event, or else what stands at its place
 abbrev pub stands_with : (ℕ → Option Put) → ℕ → ℕ → Option ℕ → Option Put
@@ -52,27 +62,28 @@ entry_line number finder location receiver what =
     decimal number ++ codes " " ++ finder ++ codes ": " ++ location ++ codes " -> " ++ receiver
     ++ codes ": " ++ what ++ codes "\n"
 
-abbrev pub put_line : List Slot → ℕ → Slot → Option Location → Option Put → List ℕ
-put_line slots number s location put =
-    entry_line number (first_name s) (name_of_location location) (receiver_name slots put)
-    (put_name slots put)
+abbrev pub put_line : Joint → ℕ → Slot → Option Location → Option Put → List ℕ
+put_line joint number s location put =
+    entry_line number (first_name s) (name_of_location location) (receiver_name joint put)
+    (put_name joint put)
 
 -- the line of a slot's location in the sphere of a number
-abbrev pub found_line : List Slot → (ℕ → Option Put) → ℕ → ℕ → ℕ → Slot → List ℕ
-found_line slots stands number finder index s =
-    put_line slots number s (slice_get s.world.locations index)
+abbrev pub found_line : Joint → (ℕ → Option Put) → ℕ → ℕ → ℕ → Slot → List ℕ
+found_line joint stands number finder index s =
+    put_line joint number s (slice_get s.world.locations index)
     (stands_in stands finder s index (slice_get s.world.locations index))
 
-abbrev pub line_of : List Slot → (ℕ → Option Put) → ℕ → Spot → Option Slot → List ℕ
-line_of slots stands number spot None = []
-line_of slots stands number spot (Some s) = found_line slots stands number spot.slot spot.index s
+abbrev pub line_of : Joint → (ℕ → Option Put) → ℕ → Spot → Option Slot → List ℕ
+line_of joint stands number spot None = []
+line_of joint stands number spot (Some s) = found_line joint stands number spot.slot spot.index s
 
-abbrev pub spot_line : List Slot → (ℕ → Option Put) → ℕ → Spot → List ℕ
-spot_line slots stands number spot = line_of slots stands number spot (slot_at slots spot.slot)
+abbrev pub spot_line : Joint → (ℕ → Option Put) → ℕ → Spot → List ℕ
+spot_line joint stands number spot =
+    line_of joint stands number spot (slot_at joint.slots spot.slot)
 
 -- a line for each entry of the spheres, the first of which has this number
-abbrev pub played_lines : List Slot → (ℕ → Option Put) → ℕ → List (List Spot) → List ℕ
-played_lines slots stands number [] = []
-played_lines slots stands number (sphere ∷ spheres) =
-    flat_map (spot_line slots stands number) sphere
-    ++ played_lines slots stands (suc number) spheres
+abbrev pub played_lines : Joint → (ℕ → Option Put) → ℕ → List (List Spot) → List ℕ
+played_lines joint stands number [] = []
+played_lines joint stands number (sphere ∷ spheres) =
+    flat_map (spot_line joint stands number) sphere
+    ++ played_lines joint stands (suc number) spheres

@@ -3,7 +3,7 @@ use Rattle.std.specs.Prelude.{◌≡◌, ℕ, ℤ, List, [], ◌∷◌, Option, 
 use Rattle.std.specs.Ordering.{nat_cmp, int_cmp, ordering_then}
 use Rattle.std.specs.declared.cmp.Ordering.{Ordering}
 use Rattle.std.specs.List.Sorted.{IsPermutation}
-use Rattle.mw_model.specs.Seed.{Seed, Slot, StartItem, Game, NamedId, Held, Spot}
+use Rattle.mw_model.specs.Seed.{Seed, Slot, Group, StartItem, Game, NamedId, Held, Spot}
 use Rattle.mw_multi.specs.World.{World, Item, Location, PoolEntry}
 use Rattle.mw_multi.specs.Joint as joined
 use Rattle.mw_multi.specs.Steps.{location_place}
@@ -89,6 +89,19 @@ start_items s = flat_map (start_copies s.world.items) s.start
 abbrev pub file_slot : joined.Slot → Slot
 file_slot s = record { names = s.names; game = s.world.game; start = start_items s }
 
+-- ---- groups
+
+-- a link is a group of the game that its members play
+abbrev pub file_group : List joined.Slot → joined.Link → Group
+file_group slots l = record {
+  name = l.name;
+  game = (joined.world_of (joined.first_slot slots l.members)).game;
+  members = l.members;
+}
+
+abbrev pub file_groups : joined.Joint → List Group
+file_groups joint = map (file_group joint.slots) joint.links
+
 -- ---- locations
 
 -- an item with an id, for its receiver, at a location of the slot of this number
@@ -106,39 +119,39 @@ abbrev pub held_item : ℕ → ℤ → ℕ → Option Item → List Held
 held_item number location receiver None = []
 held_item number location receiver (Some i) = held_with number location receiver i.id i.class
 
-abbrev pub held_put : List joined.Slot → ℕ → ℤ → Option Put → List Held
-held_put slots number location None = []
-held_put slots number location (Some put) =
-    held_item number location put.receiver (item_at slots put.receiver put.item)
+abbrev pub held_put : joined.Joint → ℕ → ℤ → Option Put → List Held
+held_put joint number location None = []
+held_put joint number location (Some put) =
+    held_item number location put.receiver (item_at joint put.receiver put.item)
 
 -- what stands at a location with an id
-abbrev pub held_where : List joined.Slot → ℕ → Option ℤ → Option Put → List Held
-held_where slots number None put = []
-held_where slots number (Some id) put = held_put slots number id put
+abbrev pub held_where : joined.Joint → ℕ → Option ℤ → Option Put → List Held
+held_where joint number None put = []
+held_where joint number (Some id) put = held_put joint number id put
 
 -- what stands at the location with this index of the slot of this number, where this tells what
 -- stands at each place
-abbrev pub location_held : List joined.Slot → (ℕ → Option Put) → ℕ → joined.Slot → ℕ
+abbrev pub location_held : joined.Joint → (ℕ → Option Put) → ℕ → joined.Slot → ℕ
     → Location → List Held
-location_held slots stands number s index l =
-    held_where slots number l.id (stands (location_place s index))
+location_held joint stands number s index l =
+    held_where joint number l.id (stands (location_place s index))
 
-abbrev pub slot_held : List joined.Slot → (ℕ → Option Put) → ℕ → joined.Slot → List Held
-slot_held slots stands number s =
-    each_numbered (location_held slots stands number s) 0 s.world.locations
+abbrev pub slot_held : joined.Joint → (ℕ → Option Put) → ℕ → joined.Slot → List Held
+slot_held joint stands number s =
+    each_numbered (location_held joint stands number s) 0 s.world.locations
 
 -- what stands at the locations with an id, by slot and table order
-abbrev pub all_held : List joined.Slot → (ℕ → Option Put) → List Held
-all_held slots stands = each_numbered (slot_held slots stands) 1 slots
+abbrev pub all_held : joined.Joint → (ℕ → Option Put) → List Held
+all_held joint stands = each_numbered (slot_held joint stands) 1 joint.slots
 
 -- by slot, then by location
 abbrev pub held_cmp : Held → Held → Ordering
 held_cmp a b = ordering_then (nat_cmp a.slot b.slot) (int_cmp a.location b.location)
 
 -- the same entries, ascending by slot and then by location
-pub record AreLocations (slots : List joined.Slot) (puts : List Put) (held : List Held)
+pub record AreLocations (joint : joined.Joint) (puts : List Put) (held : List Held)
     : Type 0 where
-  pub same : IsPermutation (all_held slots (what_stands puts)) held
+  pub same : IsPermutation (all_held joint (what_stands puts)) held
   pub ascend : Ascend held_cmp held
 
 -- ---- the whole
@@ -150,6 +163,6 @@ pub record SeedFile (joint : joined.Joint) (number : ℕ) (puts : List Put)
   pub server : seed.server ≡ joint.room
   pub games : AreGames joint.slots seed.games
   pub slots : seed.slots ≡ map file_slot joint.slots
-  pub groups : seed.groups ≡ []
-  pub locations : AreLocations joint.slots puts seed.locations
+  pub groups : seed.groups ≡ file_groups joint
+  pub locations : AreLocations joint puts seed.locations
   pub spheres : seed.spheres ≡ listed

@@ -1,12 +1,15 @@
-//! The items of worlds by their ids: one index for a world, however many slots play it.
-ghost use Rattle.std.specs.Prelude.{◌≡◌, ◌≤◌, ℤ, IfOk, Some, length, map, true};
+//! The items of receivers' worlds by their ids: one index for a world, however many slots and links
+//! are of it.
+ghost use Rattle.std.specs.Prelude.{◌≡◌, ◌≤◌, ◌++◌, ℤ, IfOk, OnOk, Some, length, map, true};
 ghost use Rattle.mw_multi.specs.Indexes.{index_of_id};
+ghost use Rattle.mw_multi.specs.Joint.{LinkKept};
 ghost use Rattle.mw_multi.specs.WorldKept.{item_id};
+ghost use Rattle.mw_seeds.specs.FilePuts.{link_items, receiver_items};
 ghost use Rattle.mw_seeds.specs.Agreeing.{has_flags as plain_has_flags, where_flags, slot_items};
 
 use crate::seed_slots::class_flags;
 use mw_base::{ItemId, List, Memory};
-use mw_multi::{HasId, IdIndex, Item, Slot, World, index_ids};
+use mw_multi::{HasId, IdIndex, Item, Joint, Link, Slot, World, index_ids};
 use std::alloc::Global;
 use std::marker::Model;
 use std::rc::Rc;
@@ -115,15 +118,37 @@ fn catalog_for<'a>(
 }
 
 /// The catalogs of all slots. An index is made once for each world.
-pub(crate) fn catalogs_of<'a>(
-    alloc: Global,
-    slots: &[Slot<'a>],
-) -> Result<List<Catalog<'a>>, Memory>
+fn catalogs_of_slots<'a>(alloc: Global, slots: &[Slot<'a>]) -> Result<List<Catalog<'a>>, Memory>
     ensures { IfOk result (λ cs. cs ≡ map slot_items slots.now) }
 {
     let mut catalogs = List::new(alloc);
     for slot in slots {
         let catalog = catalog_for(alloc, catalogs.as_slice(), slot.world)?;
+        catalogs.push(catalog)?;
+    }
+    Ok(catalogs)
+}
+
+/// The world of a link's members.
+fn world_of_link<'a>(slots: &[Slot<'a>], shared: &Link<'a>) -> &'a World
+    requires { LinkKept slots.now shared.now }
+    ensures { result.now.items ≡ link_items slots.now shared.now }
+{
+    let link = shared.link;
+    let members = link.members.as_slice();
+    let slot = &slots[members[0].get() as usize - 1];
+    slot.world
+}
+
+/// The catalogs of all slots, then those of all links.
+pub(crate) fn catalogs_of<'a>(alloc: Global, joint: &Joint<'a>) -> Result<List<Catalog<'a>>, Memory>
+    ensures { IfOk result (λ cs. cs ≡ receiver_items joint.now) }
+{
+    let slots = joint.slots.as_slice();
+    let mut catalogs = catalogs_of_slots(alloc, slots)?;
+    for link in joint.links.as_slice() {
+        let world = world_of_link(slots, link);
+        let catalog = catalog_for(alloc, catalogs.as_slice(), world)?;
         catalogs.push(catalog)?;
     }
     Ok(catalogs)

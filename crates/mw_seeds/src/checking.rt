@@ -9,12 +9,14 @@ use mw_multidata::Multidata;
 use mw_spheres::check_spheres;
 use std::alloc::Global;
 
-/// The placement of a seed file that is right for joined tables: its entries agree with the tables,
-/// each goal is reached, and its spheres are those of the placement.
+/// The placement of a seed file that is right for joined tables: its groups and entries agree with the
+/// tables, each goal is reached and each location of a slot that wants to reach all of its world, and
+/// its spheres are those of the placement.
 ///
-/// `OtherTables` at the first location where file and tables differ, by slot and then by id;
-/// `GoalMissed`, `Wrong` and `Missing` where the file's spheres aren't right; `Memory` where memory
-/// ran out.
+/// `OtherLinks` where the file's groups aren't the tables' links; `OtherTables` at the first location
+/// where file and tables differ, by slot and then by id; `GoalMissed` and `LocationMissed` where not
+/// all is reached that has to be; `Wrong` and `Missing` where the file's spheres aren't right;
+/// `Memory` where memory ran out.
 #[tactic(auto, using(crate::proofs::Judged::not_right, crate::proofs::Judged::not_placed))]
 pub fn check_seed(alloc: Global, joint: &Joint, file: &Multidata) -> Result<Placement, SeedRefusal>
     ensures ok { IfOk result (IsRight joint.now file.now) }

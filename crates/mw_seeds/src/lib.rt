@@ -9,9 +9,11 @@ mod file_puts;
 mod keys;
 mod made_seed;
 mod making;
+mod owners;
 mod played_lines;
 mod refusal;
 mod seed_games;
+mod seed_groups;
 mod seed_locations;
 mod seed_slots;
 

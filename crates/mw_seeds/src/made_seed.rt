@@ -6,7 +6,7 @@ ghost use Rattle.mw_multi.specs.JointOf.{joint_of};
 ghost use Rattle.mw_multi.specs.Steps.{rule_list};
 ghost use Rattle.mw_multi.specs.Placement.{IsPlacement, IsPlaced, what_stands};
 ghost use Rattle.mw_multi.specs.Events.{with_events};
-ghost use Rattle.mw_reach.specs.Goals.{IsBeatable};
+ghost use Rattle.mw_reach.specs.Required.{IsBeatable};
 ghost use Rattle.mw_fill.specs.Generated.{IsRefused};
 ghost use Rattle.mw_seeds.specs.Played.{played_lines};
 ghost use Rattle.mw_seeds.specs.Made.{generated_line, IsMade, Generates};
@@ -48,7 +48,7 @@ fn text_of(
 ) -> Result<String, Memory>
     requires { IsPlacement joint.now found.now.placement }
     ensures { IfOk result (λ t. string_bytes t ≡ generated_line seed found.now.stream many
-        ++ played_lines joint.now.slots (what_stands found.now.placement) 1 played.now) }
+        ++ played_lines joint.now (what_stands found.now.placement) 1 played.now) }
 {
     let text = first_line(alloc, seed, found.stream, many as u64)?;
     with_played(alloc, text, joint, &found.placement, played)
@@ -65,7 +65,7 @@ fn made_of(
     requires joined { (worlds : List PlainWorld) × (joint_of worlds players.now ≡ Ok joint.now) }
     requires placement { IsPlacement joint.now found.now.placement }
     requires beatable { (table : List (List ℕ))
-        → IsPlaced joint.now.slots (with_events joint.now found.now.placement) table
+        → IsPlaced joint.now (with_events joint.now found.now.placement) table
         → IsBeatable joint.now table }
     ensures { IfOk result (λ m. IsMade joint.now seed found.now.stream found.now.placement m.bytes
         (string_bytes m.text)) }

@@ -8,6 +8,7 @@ ghost use Rattle.mw_spheres.specs.Spheres.{IsSpheres};
 ghost use Rattle.mw_seeds.specs.SeedFile.{SeedFile};
 
 use crate::seed_games::games_of;
+use crate::seed_groups::groups_of;
 use crate::seed_locations::locations_of;
 use crate::seed_slots::slots_of;
 use mw_base::{List, Memory, RoomOptions, SphereList, Spot, Text};
@@ -65,8 +66,8 @@ fn copy_spheres(alloc: Global, spheres: &[List<Spot>]) -> Result<SphereList, Mem
 /// seed's name is the number in decimal; the teams and the settings are those of the players file;
 /// the games are the different games of the slots' worlds in byte order, each with the names of its
 /// items and of its locations with an id in byte order; each slot has its items to begin with,
-/// copies one after the other; there are no groups; the locations with an id hold what the placement
-/// puts there.
+/// copies one after the other; each link is a group of the game that its members play; the locations
+/// with an id hold what the placement puts there.
 /// `Memory` where memory ran out.
 pub fn seed_file(
     alloc: Global,
@@ -87,6 +88,7 @@ pub fn seed_file(
     let server = server_of(alloc, players)?;
     let games = games_of(alloc, joint)?;
     let slots = slots_of(alloc, joint)?;
+    let groups = groups_of(alloc, joint)?;
     let locations = locations_of(alloc, joint, placement)?;
     let spheres = copy_spheres(alloc, spheres.as_slice())?;
     Ok(Multidata {
@@ -95,7 +97,7 @@ pub fn seed_file(
         server,
         games,
         slots,
-        groups: List::new(alloc),
+        groups,
         locations,
         spheres,
     })

@@ -2,8 +2,9 @@
 ghost use Rattle.std.specs.Prelude.{◌≡◌, ◌++◌, ◌+◌, ◌<◌, ◌≤◌, ◌^◌, IfOk, None, OnOk, Some, flat_map, length, slice_get, slice_index_or, string_bytes};
 ghost use Rattle.mw_multi.specs.Joint.{slot_places, place_total};
 ghost use Rattle.mw_multi.specs.Placement.{slot_at, item_at, IsPlacement, what_stands};
-ghost use Rattle.mw_seeds.specs.Played.{first_name as plain_first_name, slot_name as plain_slot_name, name_of_item, name_of_location, receiver_name, put_name, stands_in, entry_line, found_line, spot_line, played_lines as plain_lines};
+ghost use Rattle.mw_seeds.specs.Played.{first_name as plain_first_name, slot_name as plain_slot_name, receiver_named, name_of_item, name_of_location, receiver_name as plain_receiver_name, put_name, stands_in, entry_line, found_line, spot_line, played_lines as plain_lines};
 
+use crate::owners::first_owner;
 use mw_base::{List, Memory, SphereList, Spot};
 use mw_multi::{Joint, Placement, Put, Slot, slot_of, stands_of};
 use std::alloc::Global;
@@ -30,6 +31,25 @@ fn slot_name<'a>(slots: &[Slot<'a>], number: u16) -> &'a str
     }
 }
 
+/// The name of a receiver: a slot's in the first team, or a link's; empty where there is no such
+/// receiver.
+fn receiver_name<'a>(joint: &'a Joint, receiver: u16) -> &'a str
+    ensures { result.now ≡ receiver_named joint.now receiver }
+{
+    let slots = joint.slots.as_slice();
+    let number = receiver as usize;
+    if number <= slots.len() {
+        return slot_name(slots, receiver);
+    }
+    match joint.links.get(number - slots.len() - 1) {
+        Some(shared) => {
+            let link = shared.link;
+            link.name.as_str()
+        }
+        None => "",
+    }
+}
+
 /// The name of an item of a slot's world; empty where there is none.
 fn item_name<'a>(owner: &Slot<'a>, item: u32) -> &'a str
     ensures { result.now ≡ name_of_item (slice_get owner.now.world.items item) }
@@ -41,11 +61,11 @@ fn item_name<'a>(owner: &Slot<'a>, item: u32) -> &'a str
     }
 }
 
-/// The name of an item of the world of the slot of a number; empty where there is none.
-fn item_of<'a>(slots: &[Slot<'a>], number: u16, item: u32) -> &'a str
-    ensures { result.now ≡ name_of_item (item_at slots.now number item) }
+/// The name of an item of a receiver's world; empty where there is none.
+fn item_of<'a>(joint: &'a Joint, receiver: u16, item: u32) -> &'a str
+    ensures { result.now ≡ name_of_item (item_at joint.now receiver item) }
 {
-    match slot_of(slots, number) {
+    match first_owner(joint, receiver) {
         Some(owner) => item_name(owner, item),
         None => "",
     }
@@ -102,20 +122,20 @@ fn add_entry(
 /// Adds the line of what is put at a location.
 fn add_put(
     out: &mut String,
-    slots: &[Slot],
+    joint: &Joint,
     number: u64,
     finder: &str,
     location: &str,
     put: Option<Put>,
 ) -> Result<(), Memory>
     ensures { OnOk result (string_bytes out.new ≡ string_bytes out.old
-        ++ entry_line number finder.now location.now (receiver_name slots.now put)
-        (put_name slots.now put)) }
+        ++ entry_line number finder.now location.now (plain_receiver_name joint.now put)
+        (put_name joint.now put)) }
 {
     match put {
         Some(put) => {
-            let receiver = slot_name(slots, put.receiver);
-            let item = item_of(slots, put.receiver, put.item);
+            let receiver = receiver_name(joint, put.receiver);
+            let item = item_of(joint, put.receiver, put.item);
             add_entry(out, number, finder, location, receiver, item)
         }
         None => add_entry(out, number, finder, location, "", ""),
@@ -126,7 +146,7 @@ fn add_put(
 /// number.
 fn add_found(
     out: &mut String,
-    slots: &[Slot],
+    joint: &Joint,
     stands: &[Option<Put>],
     number: u64,
     finder: u16,
@@ -136,13 +156,13 @@ fn add_found(
     requires fits { slot.now.first_place + slot_places slot.now < 2 ^ 32 }
     requires within { slot.now.first_place + slot_places slot.now ≤ length stands.now }
     ensures { OnOk result (string_bytes out.new ≡ string_bytes out.old
-        ++ found_line slots.now
+        ++ found_line joint.now
         (λ p. slice_index_or stands.now p None) number finder index slot.now) }
 {
     let name = first_name(slot);
     let location = location_name(slot, index);
     let put = standing_at(stands, finder, slot, index);
-    add_put(out, slots, number, name, location, put)
+    add_put(out, joint, number, name, location, put)
 }
 
 /// Adds the line of a location in the sphere of a number.
@@ -155,11 +175,10 @@ fn add_spot(
 ) -> Result<(), Memory>
     requires { length stands.now ≡ place_total joint.now.slots }
     ensures { OnOk result (string_bytes out.new ≡ string_bytes out.old
-        ++ spot_line joint.now.slots (λ p. slice_index_or stands.now p None) number spot) }
+        ++ spot_line joint.now (λ p. slice_index_or stands.now p None) number spot) }
 {
-    let slots = joint.slots.as_slice();
-    match slot_of(slots, spot.slot) {
-        Some(slot) => add_found(out, slots, stands, number, spot.slot, spot.index, slot),
+    match slot_of(joint.slots.as_slice(), spot.slot) {
+        Some(slot) => add_found(out, joint, stands, number, spot.slot, spot.index, slot),
         None => Ok(()),
     }
 }
@@ -174,7 +193,7 @@ fn add_sphere(
 ) -> Result<(), Memory>
     requires { length stands.now ≡ place_total joint.now.slots }
     ensures { OnOk result (string_bytes out.new ≡ string_bytes out.old
-        ++ flat_map (spot_line joint.now.slots (λ p. slice_index_or stands.now p None) number)
+        ++ flat_map (spot_line joint.now (λ p. slice_index_or stands.now p None) number)
         sphere.now) }
 {
     for &spot in sphere {
@@ -192,7 +211,7 @@ fn add_lines(
 ) -> Result<(), Memory>
     requires { length stands.now ≡ place_total joint.now.slots }
     ensures { OnOk result (string_bytes out.new ≡ string_bytes out.old
-        ++ plain_lines joint.now.slots (λ p. slice_index_or stands.now p None) 1 spheres.now) }
+        ++ plain_lines joint.now (λ p. slice_index_or stands.now p None) 1 spheres.now) }
 {
     for (index, sphere) in spheres.iter().enumerate() {
         add_sphere(out, joint, stands, index as u64 + 1, sphere.as_slice())?;
@@ -211,7 +230,7 @@ pub fn with_played(
 ) -> Result<String, Memory>
     requires { IsPlacement joint.now placement.now }
     ensures { IfOk result (λ t. string_bytes t ≡ string_bytes text
-        ++ plain_lines joint.now.slots (what_stands placement.now) 1 played.now) }
+        ++ plain_lines joint.now (what_stands placement.now) 1 played.now) }
 {
     let mut text = text;
     let stands = stands_of(alloc, joint, placement)?;

@@ -7,6 +7,9 @@ use thiserror::Error;
 /// Why a seed file isn't right for joined tables, in the order of judging.
 #[derive(Clone, Copy, Debug, PartialEq, Eq, Error)]
 pub enum SeedRefusal {
+    /// Its groups don't have the members of the tables' links.
+    #[error("other links")]
+    OtherLinks,
     /// It is of other tables.
     #[error("other tables")]
     OtherTables {
@@ -20,6 +23,14 @@ pub enum SeedRefusal {
     GoalMissed {
         /// The first such slot, from 1.
         slot: u16,
+    },
+    /// Its placement doesn't reach a location of a slot that wants to reach all of its world.
+    #[error("location {place} of slot {slot}")]
+    LocationMissed {
+        /// The first such slot, from 1.
+        slot: u16,
+        /// The location's index in its world's table.
+        place: u32,
     },
     /// A location stands in a sphere where another one is due, or none.
     #[error("wrong in sphere {sphere}")]
@@ -60,6 +71,9 @@ impl From<CheckRefusal> for SeedRefusal {
     fn from(found: CheckRefusal) -> Self {
         match found {
             CheckRefusal::GoalMissed { slot } => SeedRefusal::GoalMissed { slot },
+            CheckRefusal::LocationMissed { slot, place } => {
+                SeedRefusal::LocationMissed { slot, place }
+            }
             CheckRefusal::Wrong { sphere, place } => SeedRefusal::Wrong { sphere, place },
             CheckRefusal::Missing { sphere, place } => SeedRefusal::Missing { sphere, place },
             CheckRefusal::Memory => SeedRefusal::Memory,

@@ -2,14 +2,15 @@
 ghost use Rattle.std.specs.Prelude.{◌≡◌, ◌≤◌, ◌<◌, ◌+◌, ◌^◌, ◌++◌, ℕ, IfOk, IfSome, OnOk, Some, None, length, option_copied, slice_get, slice_index_or, slice_set};
 ghost use Rattle.std.specs.Option.{option_to_list};
 ghost use Rattle.mw_multi.specs.Joint.{place_total, slot_places};
-ghost use Rattle.mw_multi.specs.Placement.{slot_at, IsPlacement, what_stands};
+ghost use Rattle.mw_multi.specs.Placement.{IsPlacement, what_stands};
 ghost use Rattle.mw_multi.specs.Steps.{location_place};
 ghost use Rattle.mw_multidata.specs.SeedKept.{held_cmp};
 ghost use Rattle.mw_seeds.specs.SeedFile.{held_item as plain_item, held_put as plain_held, held_where, location_held, slot_held, all_held, AreLocations};
 
+use crate::owners::first_owner;
 use crate::seed_slots::class_flags;
 use mw_base::{List, LocId, Memory, SlotId};
-use mw_multi::{Joint, Location, Placement, Put, Slot, slot_of, stands_of};
+use mw_multi::{Joint, Location, Placement, Put, Slot, stands_of};
 use mw_multidata::Held;
 use std::alloc::Global;
 use std::cmp::Ordering;
@@ -39,9 +40,9 @@ fn held_item(
 
 /// What a put is at a location of the slot of this number, where its item has an id.
 fn held_put(joint: &Joint, finder: SlotId, location: LocId, put: Put) -> Option<Held>
-    ensures { option_to_list result ≡ plain_held joint.now.slots finder location (Some put) }
+    ensures { option_to_list result ≡ plain_held joint.now finder location (Some put) }
 {
-    match slot_of(joint.slots.as_slice(), put.receiver) {
+    match first_owner(joint, put.receiver) {
         Some(owner) => held_item(finder, location, put.receiver, owner, put.item),
         None => None,
     }
@@ -56,7 +57,7 @@ fn push_held(
     put: Option<Put>,
 ) -> Result<(), Memory>
     ensures { OnOk result (held.new.items ≡ held.old.items
-        ++ plain_held joint.now.slots finder location put) }
+        ++ plain_held joint.now finder location put) }
 {
     let Some(put) = put else {
         return Ok(());
@@ -76,7 +77,7 @@ fn push_location(
     put: Option<Put>,
 ) -> Result<(), Memory>
     ensures { OnOk result (held.new.items ≡ held.old.items
-        ++ held_where joint.now.slots finder location.now.id put) }
+        ++ held_where joint.now finder location.now.id put) }
 {
     match location.id {
         Some(id) => push_held(held, joint, finder, id, put),
@@ -95,7 +96,7 @@ fn push_slot(
     requires fits { slot.now.first_place + slot_places slot.now < 2 ^ 32 }
     requires within { slot.now.first_place + slot_places slot.now ≤ length stands.now }
     ensures { OnOk result (held.new.items ≡ held.old.items
-        ++ slot_held joint.now.slots (λ p. slice_index_or stands.now p None) finder slot.now) }
+        ++ slot_held joint.now (λ p. slice_index_or stands.now p None) finder slot.now) }
 {
     let world = slot.world;
     for (index, location) in world.locations.as_slice().iter().enumerate() {
@@ -117,7 +118,7 @@ pub(crate) fn slot_id(index: usize) -> SlotId
 fn table_order(alloc: Global, joint: &Joint, stands: &[Option<Put>]) -> Result<Vec<Held>, Memory>
     requires { length stands.now ≡ place_total joint.now.slots }
     ensures { IfOk result
-        (λ held. held.items ≡ all_held joint.now.slots (λ p. slice_index_or stands.now p None)) }
+        (λ held. held.items ≡ all_held joint.now (λ p. slice_index_or stands.now p None)) }
 {
     let mut held = Vec::new(alloc);
     for (index, slot) in joint.slots.as_slice().iter().enumerate() {
@@ -143,7 +144,7 @@ pub(crate) fn locations_of(
     placement: &Placement,
 ) -> Result<List<Held>, Memory>
     requires { IsPlacement joint.now placement.now }
-    ensures { IfOk result (AreLocations joint.now.slots placement.now) }
+    ensures { IfOk result (AreLocations joint.now placement.now) }
 {
     // Reading the joint makes known what its type keeps.
     let _ = &joint.slots;

@@ -6,5 +6,5 @@ use Rattle.mw_seeds.proofs.agreeing.first_other.Given as goal
 abbrev pub invariant-loop-index : goal.invariant-loop-index
 invariant-loop-index l = record {
   within : l.index ≤ length l.held;
-  same : first_other_key l.catalogs l.many (drop l.index l.keys) (drop l.index l.held) ≡ first_other_key l.catalogs l.many l.keys l.held;
+  same : first_other_key l.catalogs l.slots l.many (drop l.index l.keys) (drop l.index l.held) ≡ first_other_key l.catalogs l.slots l.many l.keys l.held;
 }

@@ -1,4 +1,4 @@
-use Rattle.std.proofs.Common.{◌++◌, ◌+◌, take, ap, ◌∙◌, append_assoc, sym}
+use Rattle.std.proofs.Common.{◌++◌, take, ap, ◌∙◌, append_assoc, sym}
 use Rattle.mw_multi.specs.Numbered.{each_numbered}
 use Rattle.mw_multi.proofs.Numbered.{numbered_more}
 use Rattle.mw_seeds.specs.Keys.{key_where, location_key}

@@ -25,5 +25,5 @@ returns c =
       file = c.in_ok-file.file;
       is_file = c.in_ok-file.ensures;
       written = c.in_ok-bytes.ensures.text;
-      printed = c.in_ok-text.ensures ∙ ap (λ n. generated_line c.args.seed c.args.found.now.stream n ++ played_lines joint.slots (what_stands puts) 1 c.in_ok-played.played) c.len.ensures;
+      printed = c.in_ok-text.ensures ∙ ap (λ n. generated_line c.args.seed c.args.found.now.stream n ++ played_lines joint (what_stands puts) 1 c.in_ok-played.played) c.len.ensures;
     }

@@ -11,7 +11,7 @@ pub returns : goal.returns
 returns c =
     let joint = c.args.joint.now in
     let stands = c.in_ok-stands.stands.items in
-    let held : c.in_ok-held.held.items ≡ all_held joint.slots (λ p. slice_index_or stands p None) = c.in_ok-held.ensures ∙ ap (λ xs. all_held joint.slots (λ p. slice_index_or xs p None)) c.as_slice.ensures.value in
-    subst (AreLocations joint.slots c.args.placement.now) (sym c.from_vec.ensures)
+    let held : c.in_ok-held.held.items ≡ all_held joint (λ p. slice_index_or stands p None) = c.in_ok-held.ensures ∙ ap (λ xs. all_held joint (λ p. slice_index_or xs p None)) c.as_slice.ensures.value in
+    subst (AreLocations joint c.args.placement.now) (sym c.from_vec.ensures)
     (locations_are joint c.args.placement.now stands (subst IsJoint c.joint.view_is c.joint.invariant) c.in_ok-stands.ensures.entries c.in_ok-held.held.items c.sort_unstable_by.new.self.items held
     c.sort_unstable_by.ensures.permutation (c.sort_unstable_by.ensures.sorted (λ a b. is_lt (held_cmp a b)) (ranks_by held_total (λ h. h)) (answers_always _ _ _ (λ f a r g h. search rules))))

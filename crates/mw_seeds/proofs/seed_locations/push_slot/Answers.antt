@@ -13,7 +13,7 @@ loop-index-preserved c =
     let a = c.args in
     let i = c.loop-index.index in
     let items = c.as_slice-location-items.result.now in
-    let f = location_held a.joint.now.slots (λ p. slice_index_or a.stands.now p None) a.finder a.slot.now in
+    let f = location_held a.joint.now (λ p. slice_index_or a.stands.now p None) a.finder a.slot.now in
     let front = each_numbered f 0 (take i items) in
     let l = c.location-item.result in
     let put = c.index-stands-location_place.result in
@@ -23,6 +23,6 @@ loop-index-preserved c =
     get_or_read a.stands.now c.location_place.result put inside c.index-stands-location_place.is None ∙ ap (λ k. get_or a.stands.now k None) c.location_place.ensures in
     let at : 0 + i ≡ i = omega arith in
     let more = numbered_more f 0 items i l c.loop-index-test.true c.location-item.is in
-    c.in_ok-push_location.ensures ∙ ap (λ held. held ++ held_where a.joint.now.slots a.finder l.id put) c.loop-index.invariant
-    ∙ append_assoc a.held.now.items front (held_where a.joint.now.slots a.finder l.id put)
-    ∙ ap (λ held. a.held.now.items ++ held) (ap (λ p. front ++ held_where a.joint.now.slots a.finder l.id p) put_is ∙ ap (λ n. front ++ f n l) (sym at) ∙ sym more)
+    c.in_ok-push_location.ensures ∙ ap (λ held. held ++ held_where a.joint.now a.finder l.id put) c.loop-index.invariant
+    ∙ append_assoc a.held.now.items front (held_where a.joint.now a.finder l.id put)
+    ∙ ap (λ held. a.held.now.items ++ held) (ap (λ p. front ++ held_where a.joint.now a.finder l.id p) put_is ∙ ap (λ n. front ++ f n l) (sym at) ∙ sym more)

@@ -31,7 +31,7 @@ pub loop-index-preserved : goal.loop-index-preserved
 loop-index-preserved c =
     let i = c.loop-index.index in
     let items = c.as_slice-slot-items.result.now in
-    let f = slot_held c.args.joint.now.slots (λ p. slice_index_or c.args.stands.now p None) in
+    let f = slot_held c.args.joint.now (λ p. slice_index_or c.args.stands.now p None) in
     let s = c.slot-item.result in
     let number : c.slot_id.result ≡ 1 + i = omega (arith, c.slot_id.ensures) in
     let more = numbered_more f 1 items i s c.loop-index-test.true c.slot-item.is in
