@@ -18,6 +18,8 @@ use Rattle.mw_causes.proofs.Endings.{passed_exit}
 pub joint_late : (refusal : JointRefusal) → joint_stop refusal ≡ Fault → ⊥
 joint_late (refused.GameTwice world) e = cc
 joint_late (refused.UnknownName slot option place) e = cc
+joint_late (refused.LinkGame link) e = cc
+joint_late (refused.LinkName link place) e = cc
 joint_late (refused.TooManyPlaces have) e = cc
 joint_late (refused.TooMuchText have) e = cc
 joint_late refused.Memory e = cc
@@ -26,6 +28,8 @@ joint_late refused.Memory e = cc
 unjoined_by : (worlds : List World) (players : Players) (refusal : JointRefusal) → (refusal ≢ refused.Memory → joint_of worlds players ≡ Err refusal) → AreUnjoined worlds players (joint_stop refusal)
 unjoined_by worlds players (refused.GameTwice world) h = h (λ e. cc)
 unjoined_by worlds players (refused.UnknownName slot option place) h = h (λ e. cc)
+unjoined_by worlds players (refused.LinkGame link) h = h (λ e. cc)
+unjoined_by worlds players (refused.LinkName link place) h = h (λ e. cc)
 unjoined_by worlds players (refused.TooManyPlaces have) h = h (λ e. cc)
 unjoined_by worlds players (refused.TooMuchText have) h = h (λ e. cc)
 unjoined_by worlds players refused.Memory h = tt

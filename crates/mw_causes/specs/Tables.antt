@@ -148,6 +148,8 @@ abbrev pub joint_stop : JointRefusal → Stop TableCause
 joint_stop (refused.GameTwice world) = Refused (Joined (refused.GameTwice world))
 joint_stop (refused.UnknownName slot option place) =
     Refused (Joined (refused.UnknownName slot option place))
+joint_stop (refused.LinkGame link) = Refused (Joined (refused.LinkGame link))
+joint_stop (refused.LinkName link place) = Refused (Joined (refused.LinkName link place))
 joint_stop (refused.TooManyPlaces have) = Refused (Joined (refused.TooManyPlaces have))
 joint_stop (refused.TooMuchText have) = Refused (Joined (refused.TooMuchText have))
 joint_stop refused.Memory = Memory
@@ -167,6 +169,9 @@ abbrev pub joint_text : JointRefusal → List ℕ
 joint_text (refused.GameTwice world) = codes "GameTwice " ++ decimal world
 joint_text (refused.UnknownName slot option place) =
     unknown_text slot option ++ (codes " " ++ decimal place)
+joint_text (refused.LinkGame link) = codes "LinkGame " ++ decimal link
+joint_text (refused.LinkName link place) =
+    codes "LinkName " ++ (decimal link ++ (codes " " ++ decimal place))
 joint_text (refused.TooManyPlaces have) = codes "TooManyPlaces " ++ decimal have
 joint_text (refused.TooMuchText have) = codes "TooMuchText " ++ decimal have
 joint_text refused.Memory = codes "no memory"

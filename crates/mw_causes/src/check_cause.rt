@@ -1,7 +1,7 @@
 //! Why `check` finds that something isn't right.
 ghost use Rattle.std.specs.Prelude.{◌≡◌, IfOk, string_bytes};
 ghost use Rattle.mw_causes.specs.CheckCauses.{check_line, place_text};
-ghost use Rattle.mw_causes.specs.declared.check_cause.CheckCause.TheVariants.{OtherTables, GoalMissed, Wrong, Missing};
+ghost use Rattle.mw_causes.specs.declared.check_cause.CheckCause.TheVariants.{OtherTables, GoalMissed, LocationMissed, Wrong, Missing};
 
 use crate::seed_cause::SeedCause;
 use crate::stop::{Cause, Stop};
@@ -23,6 +23,8 @@ pub enum CheckCause {
         /// The cause.
         cause: SeedCause,
     },
+    /// The seed file's groups aren't the links of the tables.
+    OtherLinks,
     /// The seed file is of other tables.
     OtherTables {
         /// The slot of the first location that shows it.
@@ -34,6 +36,13 @@ pub enum CheckCause {
     GoalMissed {
         /// The first such slot, from 1.
         slot: u16,
+    },
+    /// The seed file's placement doesn't reach a location of a slot that wants all of its world.
+    LocationMissed {
+        /// The first such slot, from 1.
+        slot: u16,
+        /// The first such location's index in its world's table.
+        place: u32,
     },
     /// A location stands in a sphere where another one is due, or none.
     Wrong {
@@ -66,6 +75,15 @@ fn missed_line(alloc: Global, slot: u16) -> Result<String, Memory>
 {
     let slot = u64::from(slot);
     Ok(format!(in alloc; "check failed: goal of slot {slot}\n")?)
+}
+
+/// The line where a location isn't reached.
+fn missed_location_line(alloc: Global, slot: u16, place: u32) -> Result<String, Memory>
+    ensures { IfOk result (λ t. string_bytes t ≡ check_line (LocationMissed slot place)) }
+{
+    let slot = u64::from(slot);
+    let place = u64::from(place);
+    Ok(format!(in alloc; "check failed: location {place} of slot {slot}\n")?)
 }
 
 /// A location in a sphere that is counted from 0.
@@ -115,8 +133,14 @@ impl Cause for CheckCause {
         match self {
             CheckCause::Tables { cause } => cause.line(alloc),
             CheckCause::SeedFile { cause } => cause.line(alloc),
+            CheckCause::OtherLinks => {
+                Ok(String::from_str(alloc, "check failed: other links\n")?)
+            }
             CheckCause::OtherTables { slot, location } => other_line(alloc, *slot, *location),
             CheckCause::GoalMissed { slot } => missed_line(alloc, *slot),
+            CheckCause::LocationMissed { slot, place } => {
+                missed_location_line(alloc, *slot, *place)
+            }
             CheckCause::Wrong { sphere, place } => wrong_line(alloc, *sphere, *place),
             CheckCause::Missing { sphere, place } => missing_line(alloc, *sphere, *place),
         }
@@ -164,10 +188,14 @@ impl From<SeedRefusal> for Stop<CheckCause> {
 
     fn from(refusal: SeedRefusal) -> Self {
         let cause = match refusal {
+            SeedRefusal::OtherLinks => CheckCause::OtherLinks,
             SeedRefusal::OtherTables { slot, location } => {
                 CheckCause::OtherTables { slot, location }
             }
             SeedRefusal::GoalMissed { slot } => CheckCause::GoalMissed { slot },
+            SeedRefusal::LocationMissed { slot, place } => {
+                CheckCause::LocationMissed { slot, place }
+            }
             SeedRefusal::Wrong { sphere, place } => CheckCause::Wrong { sphere, place },
             SeedRefusal::Missing { sphere, place } => CheckCause::Missing { sphere, place },
             SeedRefusal::Memory => return Stop::Memory,

@@ -1,7 +1,7 @@
 //! Why `generate` makes no seed file.
 ghost use Rattle.std.specs.Prelude.{◌≡◌, ◌++◌, IfOk, OnOk, string_bytes};
 ghost use Rattle.mw_causes.specs.GenerateCauses.{generate_line, generate_stop};
-ghost use Rattle.mw_causes.specs.declared.generate_cause.GenerateCause.TheVariants.{NotBeatable, TooManyItems, Exhausted};
+ghost use Rattle.mw_causes.specs.declared.generate_cause.GenerateCause.TheVariants.{NotBeatable, NotFull, TooManyItems, Exhausted};
 
 use crate::stop::{Cause, Stop};
 use crate::table_cause::TableCause;
@@ -23,9 +23,16 @@ pub enum GenerateCause {
         /// The first such slot, from 1.
         slot: u16,
     },
-    /// The pools have more copies than there are locations with an id.
+    /// A location of a slot that wants all of its world isn't reached with everything in hand.
+    NotFull {
+        /// The first such slot, from 1.
+        slot: u16,
+        /// The first such location's index in its world's table.
+        place: u32,
+    },
+    /// Pools and links have more copies than there are locations with an id.
     TooManyItems {
-        /// How many copies the pools have.
+        /// How many copies pools and links have.
         have: u64,
         /// How many locations have an id.
         room: u64,
@@ -43,6 +50,15 @@ fn goal_line(alloc: Global, slot: u16) -> Result<String, Memory>
 {
     let slot = u64::from(slot);
     Ok(format!(in alloc; "not beatable: slot {slot}\n")?)
+}
+
+/// The line where a location can't be reached.
+fn location_line(alloc: Global, slot: u16, place: u32) -> Result<String, Memory>
+    ensures { IfOk result (λ t. string_bytes t ≡ generate_line (NotFull slot place)) }
+{
+    let slot = u64::from(slot);
+    let place = u64::from(place);
+    Ok(format!(in alloc; "not full: slot {slot} location {place}\n")?)
 }
 
 /// Adds the line where there are too many items.
@@ -90,6 +106,7 @@ impl Cause for GenerateCause {
         match self {
             GenerateCause::Tables { cause } => cause.line(alloc),
             GenerateCause::NotBeatable { slot } => goal_line(alloc, *slot),
+            GenerateCause::NotFull { slot, place } => location_line(alloc, *slot, *place),
             GenerateCause::TooManyItems { have, room } => room_line(alloc, *have, *room),
             GenerateCause::Exhausted { tries } => tries_line(alloc, *tries),
         }
@@ -120,6 +137,7 @@ pub fn refusal_stop(error: GenerateError, tries: u32) -> Stop<GenerateCause>
 {
     let cause = match error {
         GenerateError::NotBeatable { slot } => GenerateCause::NotBeatable { slot },
+        GenerateError::NotFull { slot, place } => GenerateCause::NotFull { slot, place },
         GenerateError::TooManyItems { have, room } => GenerateCause::TooManyItems { have, room },
         GenerateError::Exhausted => GenerateCause::Exhausted { tries },
         GenerateError::Memory => return Stop::Memory,

@@ -83,6 +83,10 @@ fn joint_words(alloc: Global, refusal: &JointRefusal) -> Result<String, Memory>
             option,
             place,
         } => unknown_name_words(alloc, *slot, *option, *place),
+        JointRefusal::LinkGame { link } => Ok(format!(in alloc; "LinkGame {link}")?),
+        JointRefusal::LinkName { link, place } => {
+            Ok(format!(in alloc; "LinkName {link} {place}")?)
+        }
         JointRefusal::TooManyPlaces { have } => Ok(format!(in alloc; "TooManyPlaces {have}")?),
         JointRefusal::TooMuchText { have } => Ok(format!(in alloc; "TooMuchText {have}")?),
         JointRefusal::Memory => Ok(String::from_str(alloc, "no memory")?),

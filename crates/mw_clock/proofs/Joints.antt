@@ -7,8 +7,10 @@ use Rattle.mw_multi.specs.World.{World}
 use Rattle.mw_multi.specs.Files.{world_named, world_at}
 use Rattle.mw_multi.specs.Labels.{item_labels, location_labels, flags_of}
 use Rattle.mw_multi.specs.Joint.{Slot, Joint, place_total}
-use Rattle.mw_multi.specs.JointOf.{◌>>=◌, games_differ, flags_option, start_item, slot_of, few_places, few_text, world_text, joint_of}
+use Rattle.mw_multi.specs.JointOf.{◌>>=◌, games_differ, flags_option, start_item, slot_of, links_play, sharings_from, few_places, few_text, world_text, joint_of}
+use Rattle.mw_multi.specs.Links.{slots_after, links_among}
 use Rattle.mw_multi.specs.Steps.{rule_list}
+use Rattle.mw_multi.specs.declared.access.Access.TheVariants.{Items}
 use Rattle.mw_multi.specs.declared.refusal.JointRefusal.{JointRefusal}
 use Rattle.mw_clock.specs.Clockwork.{IsSize, clockwork, clock_rules, player, players}
 use Rattle.mw_clock.proofs.Twenty.{UpTo, each}
@@ -25,19 +27,28 @@ clock_slot gears = record {
   exclude_locations = flags_of (location_labels (clockwork gears).locations) [];
   priority_locations = flags_of (location_labels (clockwork gears).locations) [];
   start = [];
+  pool = (clockwork gears).pool;
+  access = Items;
 }
 
 abbrev pub clock_joint : ℕ → Joint
-clock_joint gears = record { teams = 1; room = (players []).room; slots = clock_slot gears ∷ [] }
+clock_joint gears = record { teams = 1; room = (players []).room; slots = clock_slot gears ∷ []; links = [] }
 
 -- the joint where the player's file has this world
 abbrev joint_with : ℕ → List ℕ → World → Result Joint JointRefusal
 joint_with gears file world = do
   games ← games_differ [] 0 (clockwork gears ∷ [])
   slots ← (slot_of 1 (player file) world 0 0 >>= (λ first. Ok (first ∷ [])))
+  games_shared ← links_play slots 0 []
+  sharings ← sharings_from slots 0 []
   places ← few_places (place_total slots)
   text ← few_text (sum_by world_text (clockwork gears ∷ []))
-  Ok record { teams = 1; room = (players file).room; slots = slots }
+  Ok record {
+    teams = 1;
+    room = (players file).room;
+    slots = slots_after slots sharings;
+    links = links_among slots sharings;
+  }
 
 abbrev Joins : ℕ → Type 0
 Joins gears = (file : List ℕ) → joint_with gears file (clockwork gears) ≡ Ok (clock_joint gears)

@@ -14,7 +14,7 @@ use Rattle.mw_causes.specs.GenerateCauses.{generate_stop}
 use Rattle.mw_clock.specs.Clockwork.{IsSize, clockwork, clock_rules, players}
 use Rattle.mw_clock.specs.Seeds.{IsClockSeed, IsSeedless}
 use Rattle.mw_clock.proofs.Joints.{clock_joint, joined, joint_rules}
-use Rattle.mw_clock.proofs.Unrefused.{beatable, roomy}
+use Rattle.mw_clock.proofs.Unrefused.{beatable, full, roomy}
 
 -- the tables are joined to the joint
 pub joint_is : (gears : ℕ) (file : List ℕ) (worlds : List World) (played : Players) (joint : Joint) → IsSize gears → worlds ≡ clockwork gears ∷ [] → played ≡ players file → joint_of worlds played ≡ Ok joint
@@ -33,6 +33,7 @@ clock_seed gears seed joint bytes text size is made = record { joint = clock_joi
 
 seedless_by : (gears seed : ℕ) (error : GenerateError) → IsSize gears → IsRefused (clock_joint gears) seed 100 error → IsSeedless gears seed (generate_stop 100 error)
 seedless_by gears seed (refused.NotBeatable slot) size h = absurd (beatable gears seed 100 slot size h)
+seedless_by gears seed (refused.NotFull slot place) size h = absurd (full gears seed 100 slot place size h)
 seedless_by gears seed (refused.TooManyItems have room) size h = absurd (roomy gears seed 100 have room size h)
 seedless_by gears seed refused.Exhausted size h = (refl, record { joint = clock_joint gears; is_joint = joined gears size; is = h })
 seedless_by gears seed refused.Memory size h = tt

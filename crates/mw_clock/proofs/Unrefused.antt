@@ -1,14 +1,17 @@
 -- The joint of `Clockwork` can be tried: its goal holds with everything in hand, and there is room for each gear.
 use Rattle.std.proofs.Common.{◌≡◌, ◌≤◌, ◌+◌, ◌*◌, ◌&&◌, ℕ, zero, suc, List, [], ◌∷◌, ◌++◌, Bool, true, false, nat_le, cond, refl, subst, arith}
-use Rattle.std.specs.Prelude.{Option, Some, None}
+use Rattle.std.specs.Prelude.{Some, None}
 use Rattle.std.proofs.lemmas.Grind.{common_steps}
 use Rattle.mw_rules.specs.Rule.{always, has}
 use Rattle.mw_rules.specs.Holds.{Bag, Places}
 use Rattle.mw_multi.specs.Bags.{everything}
 use Rattle.mw_multi.specs.Steps.{Step, location_steps, steps_of}
 use Rattle.mw_reach.specs.Reach.{Placed, bag_with, Closed}
-use Rattle.mw_fill.specs.Generated.{IsUnmet, pool_size, room_size, IsRefused}
-use Rattle.mw_fill.specs.declared.seed.GenerateError.TheVariants.{NotBeatable, TooManyItems}
+use Rattle.mw_reach.specs.Required.{or_location}
+use Rattle.mw_reach.specs.declared.lack.Lack.{Lack}
+use Rattle.mw_reach.specs.declared.lack.Lack.TheVariants.{Goal, Location as Spot}
+use Rattle.mw_fill.specs.Generated.{IsLacking, pool_size, room_size, IsRefused}
+use Rattle.mw_fill.specs.declared.seed.GenerateError.TheVariants.{NotBeatable, NotFull, TooManyItems}
 use Rattle.mw_clock.specs.Clockwork.{IsSize, boxes_below}
 use Rattle.mw_clock.proofs.Joints.{clock_slot, clock_joint}
 use Rattle.mw_clock.proofs.Twenty.{UpTo, each}
@@ -71,23 +74,23 @@ module _ (base : Bag) (placed : Placed) (w : Places) (most : ℕ) (held : most �
 -- ---- no refusal
 
 abbrev HasGears : ℕ → Type 0
-HasGears gears = everything (clock_slot gears ∷ []) 0 ≡ gears
+HasGears gears = everything (clock_joint gears) 0 ≡ gears
 
 all_in_hand : UpTo HasGears 20
 all_in_hand = ((((((((((((((((((((tt, refl), refl), refl), refl), refl), refl), refl), refl), refl), refl), refl), refl), refl), refl), refl), refl), refl), refl), refl), refl)
 
-no_slot : (b : Bool) (slot : ℕ) (found : Option ℕ) → b ≡ true → found ≡ None → Some slot ≡ cond b found (Some 1) → ⊥
-no_slot true slot found p q e = cc
-no_slot false slot found p q e = cc
+no_lack : (b : Bool) (lack : Lack) → b ≡ true → Some lack ≡ or_location (cond b None (Some 1)) None → ⊥
+no_lack true lack p e = cc
+no_lack false lack p e = cc
 
-all_met : (gears slot : ℕ) → IsSize gears → IsUnmet (clock_joint gears) (Some slot) → ⊥
-all_met gears slot size (table, w, placed, least, is) =
-    let base = everything (clock_slot gears ∷ []) in
+nothing_lacks : (gears : ℕ) (lack : Lack) → IsSize gears → IsLacking (clock_joint gears) (Some lack) → ⊥
+nothing_lacks gears lack size (table, w, placed, least, is) =
+    let base = everything (clock_joint gears) in
     let held : gears ≤ base 0 = omega (arith, each HasGears gears all_in_hand size) in
     let closed = subst (λ steps. Closed steps base table w) (each AreSteps gears all_steps size) least.closed in
     let same : 3 * gears + 1 ≡ 0 + (3 * gears + 1) = omega arith in
     let reached : w (0 + (3 * gears + 1)) ≡ true = subst (λ p. w p ≡ true) same (up_to_bell base table w gears held closed) in
-    no_slot (w (0 + (3 * gears + 1))) slot None reached refl is
+    no_lack (w (0 + (3 * gears + 1))) lack reached is
 
 abbrev HasRoom : ℕ → Type 0
 HasRoom gears = room_size (clock_joint gears) ≡ 2 * gears + 1
@@ -102,7 +105,10 @@ all_have_pool : UpTo HasPool 20
 all_have_pool = ((((((((((((((((((((tt, refl), refl), refl), refl), refl), refl), refl), refl), refl), refl), refl), refl), refl), refl), refl), refl), refl), refl), refl), refl)
 
 pub beatable : (gears seed tries slot : ℕ) → IsSize gears → IsRefused (clock_joint gears) seed tries (NotBeatable slot) → ⊥
-beatable gears seed tries slot size refused = all_met gears slot size refused
+beatable gears seed tries slot size refused = nothing_lacks gears (Goal slot) size refused
+
+pub full : (gears seed tries slot place : ℕ) → IsSize gears → IsRefused (clock_joint gears) seed tries (NotFull slot place) → ⊥
+full gears seed tries slot place size refused = nothing_lacks gears (Spot slot place) size refused
 
 pub roomy : (gears seed tries have room : ℕ) → IsSize gears → IsRefused (clock_joint gears) seed tries (TooManyItems have room) → ⊥
 roomy gears seed tries have room size (unmet, have_is, room_is, over) = omega (arith, each HasRoom gears all_have_room size, each HasPool gears all_have_pool size)

@@ -92,6 +92,6 @@ clock_rules gears = world_rules (clockwork gears)
 abbrev pub player : List ℕ → Player
 player file = record { names = codes "Player" ∷ []; world = file; options = no_options }
 
--- one team in the usual room
+-- one team in the usual room, with no links
 abbrev pub players : List ℕ → Players
-players file = record { teams = 1; room = usual_room; players = player file ∷ [] }
+players file = record { teams = 1; room = usual_room; players = player file ∷ []; links = [] }

@@ -13,7 +13,7 @@ use Rattle.mw_causes.specs.Wrote.{Wrote, SameBut, Untouched, HasFile, HasFailed}
 use Rattle.mw_causes.specs.declared.stop.Stop.{Stop}
 use Rattle.mw_causes.specs.declared.stop.Stop.TheVariants.{Fault, Memory, Refused}
 use Rattle.mw_causes.specs.declared.generate_cause.GenerateCause.{GenerateCause}
-use Rattle.mw_causes.specs.declared.generate_cause.GenerateCause.TheVariants.{Tables, NotBeatable, TooManyItems, Exhausted}
+use Rattle.mw_causes.specs.declared.generate_cause.GenerateCause.TheVariants.{Tables, NotBeatable, NotFull, TooManyItems, Exhausted}
 use Rattle.mw_clock.specs.Clockwork.{clockwork, players}
 use Rattle.mw_clock.specs.Words.{SeedWords}
 
@@ -42,6 +42,7 @@ IsSeedless gears seed Fault = ⊥
 IsSeedless gears seed Memory = ⊤
 IsSeedless gears seed (Refused (Tables cause)) = ⊥
 IsSeedless gears seed (Refused (NotBeatable slot)) = ⊥
+IsSeedless gears seed (Refused (NotFull slot place)) = ⊥
 IsSeedless gears seed (Refused (TooManyItems have room)) = ⊥
 IsSeedless gears seed (Refused (Exhausted tries)) = (tries ≡ 100) × IsStuck gears seed
 

@@ -11,7 +11,7 @@ use crate::world::world_of;
 use mw_base::{List, Memory, Permission, RoomOptions, Text};
 use mw_causes::{GenerateCause, Stop, end, put_file, put_text, refusal_stop};
 use mw_edges::{Folder, Sink};
-use mw_multi::{Joint, Options, Player, Players, World};
+use mw_multi::{Access, Joint, Options, Player, Players, World};
 use mw_rules::Ruling;
 use mw_seeds::{MadeSeed, make_seed_by};
 use std::alloc::Global;
@@ -43,6 +43,7 @@ fn player(alloc: Global) -> Result<Player, Memory>
         exclude_locations: List::new(alloc),
         priority_locations: List::new(alloc),
         start_inventory: List::new(alloc),
+        accessibility: Access::Items,
     };
     Ok(Player {
         names,
@@ -70,6 +71,7 @@ fn players_of(alloc: Global) -> Result<Players, Memory>
         teams: 1,
         room,
         players,
+        links: List::new(alloc),
     })
 }
 

@@ -21,7 +21,7 @@ use Rattle.mw_causes.specs.declared.stop.Stop.TheVariants.{Fault, Memory, Refuse
 use Rattle.mw_causes.specs.declared.table_cause.TableCause.{TableCause}
 use Rattle.mw_causes.specs.declared.seed_cause.SeedCause.{SeedCause}
 use Rattle.mw_causes.specs.declared.check_cause.CheckCause.{CheckCause}
-use Rattle.mw_causes.specs.declared.check_cause.CheckCause.TheVariants.{Tables, SeedFile, OtherTables, GoalMissed, Wrong, Missing}
+use Rattle.mw_causes.specs.declared.check_cause.CheckCause.TheVariants.{Tables, SeedFile, OtherLinks, OtherTables, GoalMissed, LocationMissed, Wrong, Missing}
 use Rattle.mw_causes.proofs.Endings.{passed_exit}
 use Rattle.mw_causes.specs.declared.seed_cause.SeedCause.TheVariants.{File, TooLong}
 use Rattle.mw_causes.proofs.TableCauses.{unjoined_cause, joint_in}
@@ -29,8 +29,10 @@ use Rattle.mw_causes.proofs.Unread.{unread_before}
 
 -- a seed file that isn't right is no fault
 pub wrong_late : (refusal : SeedRefusal) → wrong_stop refusal ≡ Fault → ⊥
+wrong_late found.OtherLinks e = cc
 wrong_late (found.OtherTables slot location) e = cc
 wrong_late (found.GoalMissed slot) e = cc
+wrong_late (found.LocationMissed slot place) e = cc
 wrong_late (found.Wrong sphere place) e = cc
 wrong_late (found.Missing sphere place) e = cc
 wrong_late found.Memory e = cc
@@ -58,8 +60,10 @@ module _ (joined : Joint → Type 0) (unjoined : Stop TableCause → Type 0) (fi
     module _ (seed : Seed) (seed_in : SeedIn file seed) where
       -- its seed isn't right
       wrong_by : (refusal : SeedRefusal) → IsNotRight joint seed refusal → IsUntextFor joined unjoined file may_fail (wrong_stop refusal)
+      wrong_by found.OtherLinks h = record { joint = joint; is_joined = is_joined; seed = seed; seed_in = seed_in; wrong = h }
       wrong_by (found.OtherTables slot location) h = record { joint = joint; is_joined = is_joined; seed = seed; seed_in = seed_in; wrong = h }
       wrong_by (found.GoalMissed slot) h = record { joint = joint; is_joined = is_joined; seed = seed; seed_in = seed_in; wrong = h }
+      wrong_by (found.LocationMissed slot place) h = record { joint = joint; is_joined = is_joined; seed = seed; seed_in = seed_in; wrong = h }
       wrong_by (found.Wrong sphere place) h = record { joint = joint; is_joined = is_joined; seed = seed; seed_in = seed_in; wrong = h }
       wrong_by (found.Missing sphere place) h = record { joint = joint; is_joined = is_joined; seed = seed; seed_in = seed_in; wrong = h }
       wrong_by found.Memory h = tt
@@ -113,8 +117,10 @@ module _ (files : Files) (asked : CheckWords) (players : Players) (worlds : List
     here_cause Memory h = tt
     here_cause (Refused (Tables cause)) h = unjoined_cause files asked.players players worlds t may_fail (Refused cause) h
     here_cause (Refused (SeedFile cause)) (joint, h, is) = (joint, joint_in files asked.players players worlds t joint h, refused_before (files asked.multidata) may_later may_fail cause is)
+    here_cause (Refused OtherLinks) h = wrong_there found.OtherLinks h
     here_cause (Refused (OtherTables slot location)) h = wrong_there (found.OtherTables slot location) h
     here_cause (Refused (GoalMissed slot)) h = wrong_there (found.GoalMissed slot) h
+    here_cause (Refused (LocationMissed slot place)) h = wrong_there (found.LocationMissed slot place) h
     here_cause (Refused (Wrong sphere place)) h = wrong_there (found.Wrong sphere place) h
     here_cause (Refused (Missing sphere place)) h = wrong_there (found.Missing sphere place) h
 

@@ -29,7 +29,7 @@ counted_more w first (suc n) =
 -- ---- the lines of what is counted
 
 pub lines_there : {L E : Type 0} (bytes : L → List ℕ) (joint : Joint) (counts : List ℕ) (some every : Places) (r : Result L E)
-    → Reaches joint (start_count joint.slots) some → Reaches joint (everything joint.slots) every
+    → Reaches joint (start_count joint.slots) some → Reaches joint (everything joint) every
     → counts ≡ map (λ s. reached_in s some) joint.slots
     → IfOk r (λ t. (p : Places) → counts ≡ map (λ s. reached_in s p) joint.slots → bytes t ≡ slot_lines 1 joint.slots p every)
     → IfOk r (λ t. ReachLines joint (bytes t))

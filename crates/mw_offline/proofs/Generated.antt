@@ -18,7 +18,7 @@ use Rattle.mw_causes.specs.declared.stop.Stop.{Stop}
 use Rattle.mw_causes.specs.declared.stop.Stop.TheVariants.{Fault, Memory, Refused}
 use Rattle.mw_causes.specs.declared.table_cause.TableCause.{TableCause}
 use Rattle.mw_causes.specs.declared.generate_cause.GenerateCause.{GenerateCause}
-use Rattle.mw_causes.specs.declared.generate_cause.GenerateCause.TheVariants.{Tables, NotBeatable, TooManyItems, Exhausted}
+use Rattle.mw_causes.specs.declared.generate_cause.GenerateCause.TheVariants.{Tables, NotBeatable, NotFull, TooManyItems, Exhausted}
 use Rattle.mw_causes.proofs.Endings.{passed_exit}
 use Rattle.mw_causes.proofs.TableCauses.{unjoined_cause, joint_in}
 
@@ -27,6 +27,7 @@ use Rattle.mw_causes.proofs.TableCauses.{unjoined_cause, joint_in}
 -- a refusal is no fault
 pub refused_late : (tries : ℕ) (error : GenerateError) → generate_stop tries error ≡ Fault → ⊥
 refused_late tries (refused.NotBeatable slot) e = cc
+refused_late tries (refused.NotFull slot place) e = cc
 refused_late tries (refused.TooManyItems have room) e = cc
 refused_late tries refused.Exhausted e = cc
 refused_late tries refused.Memory e = cc
@@ -45,6 +46,7 @@ module _ (joined : Joint → Type 0) (unjoined : Stop TableCause → Type 0) (wa
     -- it is refused
     refused_by : (error : GenerateError) → IsRefused joint wanted.seed wanted.tries error → IsUntextFor joined unjoined wanted (generate_stop wanted.tries error)
     refused_by (refused.NotBeatable slot) h = record { joint = joint; is_joined = is_joined; is = h }
+    refused_by (refused.NotFull slot place) h = record { joint = joint; is_joined = is_joined; is = h }
     refused_by (refused.TooManyItems have room) h = record { joint = joint; is_joined = is_joined; is = h }
     refused_by refused.Exhausted h = (refl, record { joint = joint; is_joined = is_joined; is = h })
     refused_by refused.Memory h = tt
@@ -76,5 +78,6 @@ module _ (files : Files) (wanted : GenerateWords) (players : Players) (worlds : 
   generate_cause may_fail Memory h = tt
   generate_cause may_fail (Refused (Tables cause)) h = unjoined_cause files wanted.players players worlds t may_fail (Refused cause) h
   generate_cause may_fail (Refused (NotBeatable slot)) h = refused_there (refused.NotBeatable slot) h
+  generate_cause may_fail (Refused (NotFull slot place)) h = refused_there (refused.NotFull slot place) h
   generate_cause may_fail (Refused (TooManyItems have room)) h = refused_there (refused.TooManyItems have room) h
   generate_cause may_fail (Refused (Exhausted tries)) h = (h.0, refused_there refused.Exhausted h.1)

@@ -91,7 +91,7 @@ one_of worlds players joint is seed stream puts bytes text others other p q =
     one_file joint seed puts p.spheres p.file q.file (one_world_each worlds players joint is p.kept) p.is_file (subst (λ ss. SeedFile joint seed puts ss q.file) (sym spheres) q.is_file) in (
       p.written ∙ ap seed_text file ∙ sym q.written,
       p.printed
-          ∙ ap₂ (λ (ss ps : List (List Spot)). generated_line seed stream (length ss) ++ played_lines joint.slots (what_stands puts) 1 ps) spheres played
+          ∙ ap₂ (λ (ss ps : List (List Spot)). generated_line seed stream (length ss) ++ played_lines joint (what_stands puts) 1 ps) spheres played
           ∙ sym q.printed,
     )
 

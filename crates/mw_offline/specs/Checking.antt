@@ -19,7 +19,7 @@ use Rattle.mw_causes.specs.declared.stop.Stop.{Stop}
 use Rattle.mw_causes.specs.declared.stop.Stop.TheVariants.{Fault, Memory, Refused}
 use Rattle.mw_causes.specs.declared.table_cause.TableCause.{TableCause}
 use Rattle.mw_causes.specs.declared.check_cause.CheckCause.{CheckCause}
-use Rattle.mw_causes.specs.declared.check_cause.CheckCause.TheVariants.{Tables, SeedFile, OtherTables, GoalMissed, Wrong, Missing}
+use Rattle.mw_causes.specs.declared.check_cause.CheckCause.TheVariants.{Tables, SeedFile, OtherLinks, OtherTables, GoalMissed, LocationMissed, Wrong, Missing}
 use Rattle.mw_words.specs.declared.command_line.CheckWords.{CheckWords}
 
 -- ---- the text
@@ -34,7 +34,7 @@ pub record HasPlaythrough (joint : Joint) (puts : List Put) (spheres : List (Lis
   pub is_playthrough : IsPlaythrough joint puts spheres played
   pub needed : NoneToSpare joint puts played
   pub printed : text ≡ right_line (length spheres)
-      ++ played_lines joint.slots (what_stands puts) 1 played
+      ++ played_lines joint (what_stands puts) 1 played
 
 -- the seed file is right for the joint, and the text has the playthrough of its placement
 pub record IsRightText (joint : Joint) (seed : Seed) (text : List ℕ) : Type 0 where
@@ -81,10 +81,14 @@ IsUntextFor joined unjoined file may_fail Memory = ⊤
 IsUntextFor joined unjoined file may_fail (Refused (Tables cause)) = unjoined (Refused cause)
 IsUntextFor joined unjoined file may_fail (Refused (SeedFile cause)) =
     IsJoinedBut joined (IsSeedStopped file may_fail (Refused cause))
+IsUntextFor joined unjoined file may_fail (Refused OtherLinks) =
+    IsWrongFor joined file found.OtherLinks
 IsUntextFor joined unjoined file may_fail (Refused (OtherTables slot location)) =
     IsWrongFor joined file (found.OtherTables slot location)
 IsUntextFor joined unjoined file may_fail (Refused (GoalMissed slot)) =
     IsWrongFor joined file (found.GoalMissed slot)
+IsUntextFor joined unjoined file may_fail (Refused (LocationMissed slot place)) =
+    IsWrongFor joined file (found.LocationMissed slot place)
 IsUntextFor joined unjoined file may_fail (Refused (Wrong sphere place)) =
     IsWrongFor joined file (found.Wrong sphere place)
 IsUntextFor joined unjoined file may_fail (Refused (Missing sphere place)) =

@@ -15,7 +15,7 @@ use Rattle.mw_causes.specs.declared.stop.Stop.{Stop}
 use Rattle.mw_causes.specs.declared.stop.Stop.TheVariants.{Fault, Memory, Refused}
 use Rattle.mw_causes.specs.declared.table_cause.TableCause.{TableCause}
 use Rattle.mw_causes.specs.declared.generate_cause.GenerateCause.{GenerateCause}
-use Rattle.mw_causes.specs.declared.generate_cause.GenerateCause.TheVariants.{Tables, NotBeatable, TooManyItems, Exhausted}
+use Rattle.mw_causes.specs.declared.generate_cause.GenerateCause.TheVariants.{Tables, NotBeatable, NotFull, TooManyItems, Exhausted}
 use Rattle.mw_words.specs.declared.command_line.GenerateWords.{GenerateWords}
 
 -- ---- the file and the text
@@ -49,6 +49,8 @@ IsUntextFor joined unjoined wanted Memory = ⊤
 IsUntextFor joined unjoined wanted (Refused (Tables cause)) = unjoined (Refused cause)
 IsUntextFor joined unjoined wanted (Refused (NotBeatable slot)) =
     IsRefusedFor joined wanted (refused.NotBeatable slot)
+IsUntextFor joined unjoined wanted (Refused (NotFull slot place)) =
+    IsRefusedFor joined wanted (refused.NotFull slot place)
 IsUntextFor joined unjoined wanted (Refused (TooManyItems have room)) =
     IsRefusedFor joined wanted (refused.TooManyItems have room)
 IsUntextFor joined unjoined wanted (Refused (Exhausted tries)) =

@@ -18,7 +18,7 @@ pub record Reaches (joint : Joint) (count : ℕ → ℕ) (w : Places) : Type 0 w
   pub bag : List ℕ
   pub is_bag : IsBagOf joint.slots count bag
   pub table : List (List ℕ)
-  pub is_placed : IsPlaced joint.slots (events_of joint) table
+  pub is_placed : IsPlaced joint (events_of joint) table
   pub least : IsLeast (steps_of joint) (bag_of bag) table w
 
 -- ---- lines
@@ -50,12 +50,12 @@ slot_lines number (s ∷ ss) start all =
     count_line number s (reached_in s start) (reached_in s all)
     ++ slot_lines (number + 1) ss start all
 
--- what each slot reaches with what all begin with, and with all that the pools have too
+-- what each slot reaches with what all begin with, and with all that pools and links have too
 pub record ReachLines (joint : Joint) (text : List ℕ) : Type 0 where
   pub start : Places
   pub with_start : Reaches joint (start_count joint.slots) start
   pub all : Places
-  pub with_all : Reaches joint (everything joint.slots) all
+  pub with_all : Reaches joint (everything joint) all
   pub printed : text ≡ slot_lines 1 joint.slots start all
 
 -- ReachText: the same of the tables that a players file names

@@ -12,7 +12,7 @@ use Rattle.mw_stress.specs.declared.taken.Taken.{Taken}
 use Rattle.mw_causes.specs.Ends.{Told, Ends}
 use Rattle.mw_causes.specs.GenerateCauses.{generate_status, generate_line}
 use Rattle.mw_causes.specs.declared.generate_cause.GenerateCause.{GenerateCause}
-use Rattle.mw_causes.specs.declared.generate_cause.GenerateCause.TheVariants.{Tables, NotBeatable, TooManyItems, Exhausted}
+use Rattle.mw_causes.specs.declared.generate_cause.GenerateCause.TheVariants.{Tables, NotBeatable, NotFull, TooManyItems, Exhausted}
 use Rattle.mw_causes.specs.declared.stop.Stop.{Stop}
 use Rattle.mw_causes.specs.declared.stop.Stop.TheVariants.{Fault, Memory, Refused}
 use Rattle.mw_words.specs.declared.command_line.StressWords.{StressWords}
@@ -100,6 +100,7 @@ HasStressCause asked Fault = ⊥
 HasStressCause asked Memory = ⊤
 HasStressCause asked (Refused (Tables cause)) = ⊥
 HasStressCause asked (Refused (NotBeatable slot)) = ⊥
+HasStressCause asked (Refused (NotFull slot place)) = ⊥
 HasStressCause asked (Refused (TooManyItems have room)) = ⊥
 HasStressCause asked (Refused (Exhausted tries)) =
     (tries ≡ 100) × IsExhausted asked.players asked.seed

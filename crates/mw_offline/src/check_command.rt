@@ -113,15 +113,16 @@ fn print_checked<F: Folder, O: Sink>(
     put_text(out, text.as_str())
 }
 
-/// Checks that a seed file is of the tables, that its placement reaches each goal, and that its
-/// spheres are those of the placement, and prints how many spheres there are and the playthrough.
+/// Checks that a seed file is of the tables, that its placement reaches each goal and each location
+/// of a slot that is to be reached in full, and that its spheres are those of the placement, and
+/// prints how many spheres there are and the playthrough.
 ///
-/// The status is 0 where all is right; 1 where the file's locations, items or flags aren't those of
-/// the tables, a goal isn't reached or a sphere is wrong; 3 where a players file, a world file or
-/// their joint is refused; 5 where the folder or the out sink failed; 6 where memory ran out; 7
-/// where the seed file is refused, which is read only where the tables are joined. With a status
-/// other than 0 the error sink gets that status's line, or a front of it where it refuses. No file
-/// changes.
+/// The status is 0 where all is right; 1 where the file's groups, locations, items or flags aren't
+/// those of the tables, a goal or such a location isn't reached or a sphere is wrong; 3 where a
+/// players file, a world file or their joint is refused; 5 where the folder or the out sink failed;
+/// 6 where memory ran out; 7 where the seed file is refused, which is read only where the tables
+/// are joined. With a status other than 0 the error sink gets that status's line, or a front of it
+/// where it refuses. No file changes.
 pub fn cmd_check<F: Folder, O: Sink, E: Sink>(
     alloc: Global,
     words: &CheckWords,

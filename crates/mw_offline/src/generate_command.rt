@@ -97,13 +97,14 @@ fn write_and_print<F: Folder, O: Sink>(
 /// Writes the seed file of the first of so many tries that gives a placement, and prints the try's
 /// number, how many spheres there are, and the playthrough. Tries are from 1 to 1,000.
 ///
-/// The status is 0 where all is done; 3 where a file or the joint is refused, where a goal can't be
-/// met with everything in hand, or where there are more items than locations; 4 where each try is
-/// stuck; 5 where the folder or the out sink failed; 6 where memory ran out. With 3 or 4 no file is
-/// touched; with 5 or 6 the named file is as it was or holds the seed file, or the folder refused
-/// to write it and it holds what that left. With a status other than 0 the error sink gets that
-/// status's line, or a front of it where it refuses. What is due is one: of the same files, number
-/// and tries there are no two seed files or texts.
+/// The status is 0 where all is done; 3 where a file or the joint is refused, where with everything
+/// in hand a goal can't be met or a location of a slot that is to be reached in full can't be, or
+/// where there are more items than locations; 4 where each try is stuck; 5 where the folder or the
+/// out sink failed; 6 where memory ran out. With 3 or 4 no file is touched; with 5 or 6 the named
+/// file is as it was or holds the seed file, or the folder refused to write it and it holds what
+/// that left. With a status other than 0 the error sink gets that status's line, or a front of it
+/// where it refuses. What is due is one: of the same files, number and tries there are no two seed
+/// files or texts.
 pub fn cmd_generate<F: Folder, O: Sink, E: Sink>(
     alloc: Global,
     words: &GenerateWords,

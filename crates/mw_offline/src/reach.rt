@@ -58,7 +58,7 @@ fn print_reach<F: Folder, O: Sink>(
 }
 
 /// Prints how much each slot reaches: with what it starts with and the events alone, and with all
-/// pool items too.
+/// items of the pools and the links too.
 ///
 /// The status is 0 where all is done; 3 where a file or the joint is refused; 5 where the folder or
 /// the out sink failed; 6 where memory ran out. With a status other than 0 the error sink gets that

@@ -92,7 +92,7 @@ fn lines_of(
 
 /// Makes `into` what these counts reach with the events alone placed.
 fn reach_with(joint: &Joint, base: &Bag, placed: &Placed, into: &mut Reached)
-    requires placed { IsPlaced joint.now.slots (events_of joint.now) placed.now }
+    requires placed { IsPlaced joint.now (events_of joint.now) placed.now }
     requires into { IsMadeFor joint.now into.old }
     requires rules { KeepsRules joint.now into.old }
     requires base { (count : ℕ → ℕ) × IsBagOf joint.now.slots count base.now }

@@ -1,25 +1,24 @@
 -- The players of `stress` keep what a players file keeps.
-use Rattle.std.proofs.Common.{◌≡◌, ◌+◌, ◌-◌, ℕ, zero, suc, List, [], ◌∷◌, ◌++◌, Ok, codes, flat_map, length, refl, sym, ap, subst, ◌∙◌, arith, append_assoc, append-nil, length-append}
+use Rattle.std.proofs.Common.{◌≡◌, ◌+◌, ◌-◌, ℕ, zero, suc, List, [], ◌∷◌, ◌++◌, Ok, flat_map, length, refl, sym, ap, subst, ◌∙◌, arith, append_assoc, append-nil, length-append}
 use Rattle.std.specs.Prelude.{All, Bool, false}
 use Rattle.std.specs.Fmt.{digits}
 use Rattle.std.specs.Str.{bytes_eq, chars}
 use Rattle.std.specs.List.{AllByRecursion, IsDistinct}
 use Rattle.std.proofs.lemmas.Grind.{flat_map-append}
 use Rattle.std.proofs.lemmas.List.{get_or_append_left}
-use Rattle.mw_json.specs.Grammar.{under, name_at, list_up_to, field_at}
+use Rattle.std.proofs.lemmas.List.Elements.{All-nil}
+use Rattle.mw_json.specs.Grammar.{name_at, list_up_to, field_at}
 use Rattle.mw_json.specs.Parts.{list_of_length}
 use Rattle.mw_json.specs.Readers.{field_or_at}
 use Rattle.mw_json.specs.Settings.{password_at, permission_at, remaining_at}
 use Rattle.mw_json.specs.Valid.{IsValid, ItemsAreValid}
-use Rattle.mw_json.specs.declared.refusal.Step.TheVariants.{Name}
 use Rattle.mw_model.specs.Json.{Json}
 use Rattle.mw_model.specs.Seed.{RoomOptions}
 use Rattle.mw_model.specs.Trees.{items_of}
-use Rattle.mw_multi.specs.Players.{Player}
-use Rattle.mw_multi.specs.PlayersKept.{IsPlayers, PlayerKept, player_names}
-use Rattle.mw_tables.specs.WorldShape.{format_at}
-use Rattle.mw_tables.specs.PlayersShape.{room_at, team_names_at, player_at, player_list_at, players_shape_at}
-use Rattle.mw_tables.specs.PlayersOf.{players_named}
+use Rattle.mw_multi.specs.Players.{Player, ItemLink}
+use Rattle.mw_multi.specs.PlayersKept.{IsPlayers, PlayerKept, ItemLinkKept, player_names}
+use Rattle.mw_tables.specs.PlayersShape.{room_at, form_at, team_names_at, player_at, player_list_at, players_shape_at}
+use Rattle.mw_tables.specs.PlayersOf.{all_named}
 use Rattle.mw_tables.proofs.PlayersAccepted.{is_players}
 use Rattle.mw_stress.specs.Stress.{IsCrowd, player, players_below, players, room}
 use Rattle.mw_stress.proofs.WorldJson.{player_json, player_list, players_json}
@@ -27,11 +26,11 @@ use Rattle.mw_stress.proofs.WorldJson.{player_json, player_list, players_json}
 -- ---- sixty-four
 
 shaped : players_shape_at (players_json 64) ≡ Ok (players 64)
-unfolding players_shape_at player_list_at player_at team_names_at room_at password_at permission_at remaining_at format_at name_at list_up_to list_of_length field_at field_or_at chars digits
+unfolding players_shape_at player_list_at player_at team_names_at room_at password_at permission_at remaining_at form_at name_at list_up_to list_of_length field_at field_or_at chars digits
 shaped = refl
 
-differ : under (Name (codes "players")) (players_named [] 0 (players 64).players) ≡ Ok tt
-unfolding digits
+differ : all_named (players 64) ≡ Ok tt
+unfolding all_named digits
 differ = refl
 
 player_valid : (i : ℕ) → IsValid (player_json i)
@@ -94,13 +93,18 @@ are_players many crowd =
       room = full.room;
       some_players = omega (arith, long, crowd.low);
       few_players = omega (arith, long, crowd.high);
+      few_receivers = omega (arith, long, crowd.high);
+      links = All-nil (ItemLinkKept (length (players_below many)));
       each = all_front (PlayerKept 1) (players_below many) (rest many more) (subst (All (PlayerKept 1)) (sym whole) full.each);
-      differ = distinct_front bytes_eq (flat_map player_names (players_below many)) (flat_map player_names (rest many more))
-          (subst (IsDistinct bytes_eq) (ap (flat_map player_names) (sym whole) ∙ flat_map-append player_names (players_below many) (rest many more)) full.differ);
+      differ = subst (IsDistinct bytes_eq) (sym (append-nil (flat_map player_names (players_below many))))
+          (distinct_front bytes_eq (flat_map player_names (players_below many)) (flat_map player_names (rest many more))
+          (subst (IsDistinct bytes_eq) (append-nil (flat_map player_names (players_below 64)) ∙ ap (flat_map player_names) (sym whole) ∙ flat_map-append player_names (players_below many) (rest many more)) full.differ));
     }
 
--- a room and a list of players that are those of so many make their players file
-pub players_so : (many : ℕ) (settings : RoomOptions) (list : List Player) → IsCrowd many → settings ≡ room → list ≡ players_below many → IsPlayers record { teams = 1; room = settings; players = list }
-players_so many settings list crowd room_is list_is =
-    subst (λ (r : RoomOptions). IsPlayers record { teams = 1; room = r; players = list }) (sym room_is)
-    (subst (λ (ps : List Player). IsPlayers record { teams = 1; room = room; players = ps }) (sym list_is) (are_players many crowd))
+-- a room, a list of players and no links that are those of so many make their players file
+pub players_so : (many : ℕ) (settings : RoomOptions) (list : List Player) (links : List ItemLink) → IsCrowd many → settings ≡ room → list ≡ players_below many → links ≡ []
+    → IsPlayers record { teams = 1; room = settings; players = list; links = links }
+players_so many settings list links crowd room_is list_is links_are =
+    subst (λ (r : RoomOptions). IsPlayers record { teams = 1; room = r; players = list; links = links }) (sym room_is)
+    (subst (λ (ps : List Player). IsPlayers record { teams = 1; room = room; players = ps; links = links }) (sym list_is)
+    (subst (λ (ls : List ItemLink). IsPlayers record { teams = 1; room = room; players = players_below many; links = ls }) (sym links_are) (are_players many crowd)))

@@ -9,6 +9,7 @@ use Rattle.mw_multi.specs.Files.{world_named, world_files}
 use Rattle.mw_multi.specs.Labels.{item_labels, location_labels, flags_of}
 use Rattle.mw_multi.specs.Joint.{Slot, Joint, place_total, slot_places}
 use Rattle.mw_multi.specs.JointOf.{flags_option, start_item, slot_of, slots_from, few_places, few_text, world_text, joint_of}
+use Rattle.mw_multi.specs.declared.access.Access.TheVariants.{Items}
 use Rattle.mw_stress.specs.Stress as plain
 use Rattle.mw_stress.specs.Stress.{IsCrowd, player, player_name, players_below, world_file}
 use Rattle.mw_stress.proofs.Crowd.{rest, parted}
@@ -26,6 +27,8 @@ slot_behind i place item = record {
   exclude_locations = flags_of (location_labels plain.world.locations) [];
   priority_locations = flags_of (location_labels plain.world.locations) [];
   start = [];
+  pool = plain.world.pool;
+  access = Items;
 }
 
 -- so many slots, the first of them behind so many
@@ -34,7 +37,7 @@ slots_behind i zero place item = []
 slots_behind i (suc more) place item = slot_behind i place item ∷ slots_behind (suc i) more (place + 70) (item + 12)
 
 abbrev pub stress_joint : ℕ → Joint
-stress_joint many = record { teams = 1; room = plain.room; slots = slots_behind 0 many 0 0 }
+stress_joint many = record { teams = 1; room = plain.room; slots = slots_behind 0 many 0 0; links = [] }
 
 one_slot : (slot i place item : ℕ) → slot_of slot (player i) plain.world place item ≡ Ok (slot_behind i place item)
 unfolding flags_option start_item slot_of

@@ -6,17 +6,17 @@ use Rattle.mw_multi.specs.Players.{Players}
 use Rattle.mw_multi.specs.Joint.{Joint}
 use Rattle.mw_multi.specs.JointOf.{Gives, joint_of}
 use Rattle.mw_multi.specs.declared.refusal.JointRefusal.{JointRefusal}
-use Rattle.mw_multi.specs.declared.refusal.JointRefusal.TheVariants.{GameTwice, UnknownName, TooManyPlaces, TooMuchText, Memory}
+use Rattle.mw_multi.specs.declared.refusal.JointRefusal.TheVariants.{GameTwice, UnknownName, LinkGame, LinkName, TooManyPlaces, TooMuchText, Memory}
 use Rattle.mw_multi.specs.Placement.{Put}
 use Rattle.mw_fill.specs.Generated.{CanBeTried, IsFirst, AreStuck, IsRefused}
-use Rattle.mw_fill.specs.declared.seed.GenerateError.TheVariants.{NotBeatable, TooManyItems}
+use Rattle.mw_fill.specs.declared.seed.GenerateError.TheVariants.{NotBeatable, NotFull, TooManyItems}
 use Rattle.mw_spheres.specs.Spheres.{IsSpheres}
 use Rattle.mw_seeds.specs.SeedFile.{SeedFile}
 use Rattle.mw_stress.specs.Made.{IsStressJoint, IsStressSeed, IsExhausted}
 use Rattle.mw_stress.specs.Stress as plain
 use Rattle.mw_stress.specs.Stress.{IsCrowd}
 use Rattle.mw_stress.proofs.Joints.{joined, stress_joint}
-use Rattle.mw_stress.proofs.Unrefused.{beatable, roomy}
+use Rattle.mw_stress.proofs.Unrefused.{beatable, full, roomy}
 
 module _ (many seed : ℕ) (worlds : List World) (played : Players) (joint : Joint) (worlds_are : worlds ≡ plain.world ∷ []) (played_are : played ≡ plain.players many) (built : joint_of worlds played ≡ Ok joint) where
   is_joint : IsStressJoint many joint
@@ -48,6 +48,9 @@ module _ (many seed : ℕ) (worlds : List World) (played : Players) (joint : Joi
     pub always_beatable : (slot : ℕ) → IsRefused joint seed 100 (NotBeatable slot) → ⊥
     always_beatable slot refused = beatable many seed slot (subst (λ j. IsRefused j seed 100 (NotBeatable slot)) joint_so refused)
 
+    pub always_full : (slot place : ℕ) → IsRefused joint seed 100 (NotFull slot place) → ⊥
+    always_full slot place refused = full many seed slot place (subst (λ j. IsRefused j seed 100 (NotFull slot place)) joint_so refused)
+
     pub always_roomy : (have room : ℕ) → IsRefused joint seed 100 (TooManyItems have room) → ⊥
     always_roomy have room refused = roomy many seed have room (subst (λ j. IsRefused j seed 100 (TooManyItems have room)) joint_so refused)
 
@@ -60,5 +63,7 @@ module _ (many : ℕ) (worlds : List World) (played : Players) (worlds_are : wor
   only_memory Memory gives = refl
   only_memory (GameTwice index) gives = absurd (never (GameTwice index) (gives (λ e. cc)))
   only_memory (UnknownName slot option index) gives = absurd (never (UnknownName slot option index) (gives (λ e. cc)))
+  only_memory (LinkGame link) gives = absurd (never (LinkGame link) (gives (λ e. cc)))
+  only_memory (LinkName link index) gives = absurd (never (LinkName link index) (gives (λ e. cc)))
   only_memory (TooManyPlaces have) gives = absurd (never (TooManyPlaces have) (gives (λ e. cc)))
   only_memory (TooMuchText have) gives = absurd (never (TooMuchText have) (gives (λ e. cc)))

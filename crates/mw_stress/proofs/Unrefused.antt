@@ -1,5 +1,5 @@
 -- The joint of `stress` can be tried: each goal holds with everything in hand, and there is room for all copies.
-use Rattle.std.proofs.Common.{◌≡◌, ◌∙◌, ◌≤◌, ◌<◌, ◌+◌, ◌*◌, ◌&&◌, ◌==◌, ℕ, zero, suc, ◌∷◌, Bool, true, false, nat_le, cond, get_or, length, refl, ap, arith, length-append}
+use Rattle.std.proofs.Common.{◌≡◌, ◌∙◌, ◌≤◌, ◌<◌, ◌+◌, ◌*◌, ◌&&◌, ◌==◌, ℕ, zero, suc, ◌∷◌, Bool, true, false, nat_le, cond, get_or, length, refl, ap, ap₂, arith, length-append}
 use Rattle.std.specs.Prelude.{Option, Some, None, sum_by}
 use Rattle.std.proofs.lemmas.Grind.{common_steps}
 use Rattle.std.proofs.lemmas.List.Sums.{get_or-le-sum_by, sum_by-cons}
@@ -8,9 +8,12 @@ use Rattle.mw_multi.specs.Bags.{entry_count, everything, pool_count, slot_pool}
 use Rattle.mw_multi.specs.Numbered.{each_numbered}
 use Rattle.mw_reach.specs.Goals.{goal_holds, unmet_from}
 use Rattle.mw_reach.specs.Reach.{bag_with}
-use Rattle.mw_fill.specs.Generated.{IsUnmet, slot_pool_size, IsRefused}
+use Rattle.mw_reach.specs.Required.{missed_from, or_location}
+use Rattle.mw_reach.specs.declared.lack.Lack.{Lack}
+use Rattle.mw_reach.specs.declared.lack.Lack.TheVariants.{Goal, Location as Spot}
+use Rattle.mw_fill.specs.Generated.{IsLacking, slot_pool_size, IsRefused}
 use Rattle.mw_fill.specs.Openings.{slot_openings}
-use Rattle.mw_fill.specs.declared.seed.GenerateError.TheVariants.{NotBeatable, TooManyItems}
+use Rattle.mw_fill.specs.declared.seed.GenerateError.TheVariants.{NotBeatable, NotFull, TooManyItems}
 use Rattle.mw_stress.specs.Stress as plain
 use Rattle.mw_stress.specs.Stress.{copies}
 use Rattle.mw_stress.proofs.Joints.{slot_behind, slots_behind, stress_joint}
@@ -55,11 +58,16 @@ module _ (bag : Bag) (w : Places) where
       (one_met i place item (λ n. let all = held n in let parts : pool_count (s ∷ later) n ≡ slot_pool n s + pool_count later n = sum_by-cons (slot_pool n) s later in omega (arith, all, parts)))
       (all_met more (suc number) (suc i) (place + 70) (item + 12) (λ n. let all = held n in let parts : pool_count (s ∷ later) n ≡ slot_pool n s + pool_count later n = sum_by-cons (slot_pool n) s later in omega (arith, all, parts)))
 
-goals_met : (many slot : ℕ) → IsUnmet (stress_joint many) (Some slot) → ⊥
-goals_met many slot (table, w, placed, least, is) =
+none_missed : (more number i place item : ℕ) (w : Places) → missed_from number (slots_behind i more place item) w ≡ None
+none_missed zero number i place item w = refl
+none_missed (suc more) number i place item w = none_missed more (suc number) (suc i) (place + 70) (item + 12) w
+
+nothing_lacks : (many : ℕ) (lack : Lack) → IsLacking (stress_joint many) (Some lack) → ⊥
+nothing_lacks many lack (table, w, placed, least, is) =
     let slots = slots_behind 0 many 0 0 in
-    let none : unmet_from 1 slots (bag_with (everything slots) table w) w ≡ None = all_met (bag_with (everything slots) table w) w many 1 0 0 0 (λ n. omega arith) in
-    let clash : Some slot ≡ None = is ∙ none in
+    let all = everything (stress_joint many) in
+    let none : unmet_from 1 slots (bag_with all table w) w ≡ None = all_met (bag_with all table w) w many 1 0 0 0 (λ n. omega arith) in
+    let clash : Some lack ≡ None = is ∙ ap₂ or_location none (none_missed many 1 0 0 0 w) in
     cc
 
 -- ---- room
@@ -86,7 +94,10 @@ all_pool (suc more) i place item =
 -- ---- no refusal
 
 pub beatable : (many seed slot : ℕ) → IsRefused (stress_joint many) seed 100 (NotBeatable slot) → ⊥
-beatable many seed slot refused = goals_met many slot refused
+beatable many seed slot refused = nothing_lacks many (Goal slot) refused
+
+pub full : (many seed slot place : ℕ) → IsRefused (stress_joint many) seed 100 (NotFull slot place) → ⊥
+full many seed slot place refused = nothing_lacks many (Spot slot place) refused
 
 pub roomy : (many seed have room : ℕ) → IsRefused (stress_joint many) seed 100 (TooManyItems have room) → ⊥
 roomy many seed have room (unmet, have_is, room_is, over) =

@@ -4,6 +4,7 @@ use Rattle.mw_model.specs.Seed.{RoomOptions}
 use Rattle.mw_rules.specs.Rule.{always, has, has_all}
 use Rattle.mw_multi.specs.World.{Entrance, Location, Item, PoolEntry, World}
 use Rattle.mw_multi.specs.Players.{Options, Player, Players}
+use Rattle.mw_multi.specs.declared.access.Access.TheVariants.{Items}
 use Rattle.mw_multi.specs.declared.item.Class.{Class}
 use Rattle.mw_multi.specs.declared.item.Class.TheVariants.{Progression, Useful, Filler, Trap}
 use Rattle.mw_multi.specs.declared.location.LocKind.TheVariants.{Default}
@@ -123,6 +124,7 @@ no_wishes = record {
   exclude_locations = [];
   priority_locations = [];
   start_inventory = [];
+  accessibility = Items;
 }
 
 -- the name of the player of a slot
@@ -138,6 +140,6 @@ abbrev pub players_below : ℕ → List Player
 players_below zero = []
 players_below (suc i) = players_below i ++ player i ∷ []
 
--- one team of so many
+-- one team of so many, who share nothing
 abbrev pub players : ℕ → Players
-players many = record { teams = 1; room = room; players = players_below many }
+players many = record { teams = 1; room = room; players = players_below many; links = [] }

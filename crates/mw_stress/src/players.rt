@@ -4,7 +4,7 @@ ghost use Rattle.mw_stress.specs.Stress as plain;
 ghost use Rattle.mw_stress.specs.Stress.{IsCrowd};
 
 use mw_base::{List, Memory, Permission, RoomOptions, Text};
-use mw_multi::{Options, Player, Players};
+use mw_multi::{Access, Options, Player, Players};
 use std::alloc::Global;
 
 /// The usual settings of a room, but that nothing is released or collected.
@@ -38,6 +38,7 @@ fn no_wishes(alloc: Global) -> Options
         exclude_locations: List::new(alloc),
         priority_locations: List::new(alloc),
         start_inventory: List::new(alloc),
+        accessibility: Access::Items,
     }
 }
 
@@ -69,7 +70,8 @@ fn player_list(alloc: Global, many: u32) -> Result<List<Player>, Memory>
     Ok(list)
 }
 
-/// The players of `stress`, 1 to 64: `P1`, `P2` and so on, all in one team and without wishes.
+/// The players of `stress`, 1 to 64: `P1`, `P2` and so on, all in one team, without wishes and
+/// links.
 pub fn stress_players(alloc: Global, many: u32) -> Result<Players, Memory>
     requires { IsCrowd many }
     ensures { IfOk result (λ p. p ≡ plain.players many) }
@@ -80,5 +82,6 @@ pub fn stress_players(alloc: Global, many: u32) -> Result<Players, Memory>
         teams: 1,
         room,
         players,
+        links: List::new(alloc),
     })
 }

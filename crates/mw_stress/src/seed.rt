@@ -92,6 +92,8 @@ fn want_of_memory(refusal: JointRefusal) -> Memory
         JointRefusal::Memory => Memory,
         JointRefusal::GameTwice { .. }
         | JointRefusal::UnknownName { .. }
+        | JointRefusal::LinkGame { .. }
+        | JointRefusal::LinkName { .. }
         | JointRefusal::TooManyPlaces { .. }
         | JointRefusal::TooMuchText { .. } => unreachable!(),
     }
@@ -120,8 +122,10 @@ fn made_from(
         Ok(found) => Ok(seed_of(alloc, players, &joint, seed, &found)?),
         Err(GenerateError::Exhausted) => Err(StressError::Exhausted),
         Err(GenerateError::Memory) => Err(StressError::Memory),
-        // Each goal holds with everything in hand, and there is room for all copies.
+        // Each goal holds with everything in hand, no slot wants more, and there is room for all
+        // copies.
         Err(GenerateError::NotBeatable { .. }) => unreachable!(),
+        Err(GenerateError::NotFull { .. }) => unreachable!(),
         Err(GenerateError::TooManyItems { .. }) => unreachable!(),
     }
 }

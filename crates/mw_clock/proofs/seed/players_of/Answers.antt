@@ -9,4 +9,4 @@ unfolding chars
 named = refl
 
 pub invariant_of-result : goal.invariant_of-result
-invariant_of-result c = players_so (codes "clockwork.json") c.in_ok-room.room c.in_ok-players.players named c.in_ok-room.ensures c.in_ok-players.ensures
+invariant_of-result c = players_so (codes "clockwork.json") c.in_ok-room.room c.in_ok-players.players c.new.result named c.in_ok-room.ensures c.in_ok-players.ensures c.new.ensures

@@ -12,5 +12,5 @@ returns c =
       is_playthrough = c.in_ok-played.ensures.played;
       needed = c.in_ok-played.ensures.spare;
       printed = c.in_ok-with_played.ensures
-          ∙ ap (λ t. t ++ played_lines c.args.joint.now.slots (what_stands c.args.placement.now) 1 played) (c.in_ok-text.ensures ∙ ap right_line c.len.ensures);
+          ∙ ap (λ t. t ++ played_lines c.args.joint.now (what_stands c.args.placement.now) 1 played) (c.in_ok-text.ensures ∙ ap right_line c.len.ensures);
     }
