@@ -1,8 +1,8 @@
 #!/usr/bin/env bash
 # Prints the time (passed, and of the processor) and memory of `generate` and `check` on worlds of 2,000 places with 400 progression items and of 10,000 with 2,000; on chains of 1,000 and
 # 4,000 keys, each of which opens the way to the next region; on a chain of 1,000 regions of which the last alone has free locations; and for 5 and 20 players of the world of 10,000 places.
-# Then the same on deep worlds, where a key that is missing shuts off keys that shut off more: 50,000 places on 50 slots of one world, on 50 different worlds, on 10 slots and on 5; with the word
-# `biggest` also 200,000 places on 20 slots, which takes minutes.
+# Then the same on deep worlds, where a key that is missing shuts off keys that shut off more: 50,000 places on 50 slots of one world, on 50 different worlds, on 10 slots and on 5, and on 50 slots of one
+# world with ten links, where a third of the slots wants no more than their goals; with the word `biggest` also 200,000 places on 20 slots, which takes minutes.
 # Where rustc is there it then times a plain fill and a plain playthrough on worlds of the same shape, and on the deep worlds a plain program that takes keys out of one list and puts them back.
 # Where valgrind is there it counts the instructions of `generate` and of `reach` on the 50 slots.
 # Run after `rt run` in crates/mw_cli, which leaves the program.
@@ -15,7 +15,7 @@ trap 'rm -rf "$work"' EXIT
 python3 bench/worlds.py "$work" --deep
 deep="deep_thousand deep_apart deep_five deep_ten"
 [ "${1:-}" = biggest ] && deep="$deep deep_biggest"
-python3 - "$program" "$work" small large chain long_chain last huge limit $deep <<'PY'
+python3 - "$program" "$work" small large chain long_chain last huge limit $deep deep_linked <<'PY'
 import resource, subprocess, sys, time
 program, folder = sys.argv[1:3]
 before = 0.0
@@ -40,7 +40,7 @@ if command -v rustc >/dev/null; then
   done
 fi
 if command -v valgrind >/dev/null; then
-  for words in "generate $work/deep_thousand.json $work/counted.json --seed 1" "reach $work/deep_thousand.json"; do
+  for words in "generate $work/deep_thousand.json $work/counted.json --seed 1" "generate $work/deep_linked.json $work/counted.json --seed 1" "reach $work/deep_thousand.json"; do
     valgrind --tool=callgrind --callgrind-out-file="$work/callgrind.out" "$program" $words 2>"$work/counted" >/dev/null
     echo "${words%% *}, 50 slots: $(sed -n 's/.*Collected : //p' "$work/counted") instructions"
   done

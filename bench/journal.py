@@ -297,13 +297,13 @@ class Killed:
         write_pair("thin", "killed.json", [])
 
     def play(self, number):
-        """Ten checks and sixty values."""
+        """Ten checks and sixty values, all committed: where no check is new, no message would have them be."""
         first = number % 900 * 10 + 1
         lines = CONNECT + "".join(CHECK % n for n in range(first, first + 10))
         for n in range(60):
             self.values[n % 3] = number * 60 + n
             lines += STORE % (n % 3, self.values[n % 3])
-        self.refused += Run(["drive", "killed.json", "thin", "--pair"], lines + "take 1\n").status != 0
+        self.refused += Run(["drive", "killed.json", "thin", "--pair"], lines + "commit\ntake 1\n").status != 0
         self.shown |= set(range(first, first + 10))
 
     def thin(self, most):

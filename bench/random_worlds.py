@@ -1,4 +1,5 @@
-"""Compares `generate` of the built program with a plain fill, step by step, on small random worlds.
+"""Compares `generate` of the built program with a plain fill, step by step, on small random worlds: of each number one for a players file of the first form, and one for a file of the second form, with
+links and with each accessibility.
 
 usage: random_worlds.py PROGRAM COUNT [SEED]
 The plain fill makes each list of places anew from nothing, for each copy in turn."""
@@ -101,6 +102,19 @@ def options(r, w):
     return o
 
 
+def links(r, games, worlds):
+    """One to three links, each of some players of one game; their items may come again, also ones of which no copy is left."""
+    found = []
+    shared = [g for g in set(games) if games.count(g) > 1]
+    for n in range(r.randrange(1, 4)):
+        game = r.choice(sorted(shared))
+        players = [s for s, g in enumerate(games) if g == game]
+        members = sorted(r.sample(players, r.randrange(2, len(players) + 1)))
+        names = [i["name"] for i in worlds[members[0]]["items"] if i["id"] is not None]
+        found.append({"name": "Link %d" % (n + 1), "members": [s + 1 for s in members], "items": [r.choice(names) for _ in range(r.randrange(0, 4))]})
+    return found
+
+
 # ---- the plain fill
 def holds(rule, bag, reached, s):
     if rule is True or rule is False:
@@ -121,7 +135,7 @@ def holds(rule, bag, reached, s):
     return any(holds(x, bag, reached, s) for x in rule["or"])
 
 
-def reach(worlds, base, placed):
+def reach(worlds, base, placed, owners):
     reached, bag = {(s, "region", "Menu") for s in range(len(worlds))}, dict(base)
     going = True
     while going:
@@ -133,34 +147,70 @@ def reach(worlds, base, placed):
                 if place not in reached and (s, "region", start) in reached and holds(ask, bag, reached, s):
                     reached.add(place)
                     going = True
-                    for item in placed.get(place, []):
-                        bag[item] = bag.get(item, 0) + 1
+                    for receiver, item in placed.get(place, []):
+                        for owner in owners[receiver]:
+                            bag[(owner, item)] = bag.get((owner, item), 0) + 1
     return reached, bag
 
 
-def plain(worlds, opts, seed, tries):
+def shared_copies(worlds, links):
+    """The copies of each slot's pool that links leave, and of each link, by item: the last copies leave the pools."""
+    pools = [[e["item"] for e in w["pool"] for _ in range(e["count"])] for w in worlds]
+    taken = []
+    for link in links:
+        members, copies = [m - 1 for m in link["members"]], []
+        for item in link["items"]:
+            n = min(pools[s].count(item) for s in members)
+            copies += [item] * n
+            for s in members:
+                for _ in range(n):
+                    del pools[s][len(pools[s]) - 1 - pools[s][::-1].index(item)]
+        taken.append(copies)
+    return pools, taken
+
+
+def plain(worlds, opts, links, seed, tries):
     many = len(worlds) > 1
+    access = [o.get("accessibility", "items") for o in opts]
+    owners = [[s] for s in range(len(worlds))] + [[m - 1 for m in link["members"]] for link in links]
     classes = [{i["name"]: i["class"] for i in w["items"]} for w in worlds]
-    start, everything, events = {}, {}, {}
+    start, events = {}, {}
     for s, w in enumerate(worlds):
         for item, n in opts[s].get("start_inventory", {}).items():
             start[(s, item)] = start.get((s, item), 0) + n
         for l in w["locations"]:
             if l["id"] is None:
                 events[(s, "location", l["name"])] = [(s, l["event"])]
-    everything = dict(start)
-    for s, w in enumerate(worlds):
-        for e in w["pool"]:
-            everything[(s, e["item"])] = everything.get((s, e["item"]), 0) + e["count"]
-    reached, bag = reach(worlds, everything, events)
-    for s, w in enumerate(worlds):
-        if not holds(w["goal"], bag, reached, s):
-            return "not beatable: slot %d" % (s + 1)
+    pools, taken = shared_copies(worlds, links)
+
+    def add(bag, copy):
+        for s in owners[copy[0]]:
+            bag[(s, copy[1])] = bag.get((s, copy[1]), 0) + 1
+
+    def lost_goal(reached, bag):
+        return next((s for s, w in enumerate(worlds) if not holds(w["goal"], bag, reached, s)), None)
+
+    def lost_place(reached):
+        return next(((s, n) for s, w in enumerate(worlds) if access[s] == "full" for n, l in enumerate(w["locations"]) if (s, "location", l["name"]) not in reached), None)
+
     copies, openings = {"progression": [], "useful": [], "rest": []}, []
+    for receiver, entries in enumerate(pools + taken):
+        for item in entries:
+            group = classes[owners[receiver][0]][item]
+            copies[group if group in copies else "rest"].append((receiver, item))
+    everything = dict(start)
+    for group in copies.values():
+        for copy in group:
+            add(everything, copy)
+    placed_events = {k: list(v) for k, v in events.items()}
+    reached, bag = reach(worlds, everything, placed_events, owners)
+    slot = lost_goal(reached, bag)
+    if slot is not None:
+        return "not beatable: slot %d" % (slot + 1)
+    lost = lost_place(reached)
+    if lost is not None:
+        return "not full: slot %d location %d" % (lost[0] + 1, lost[1])
     for s, w in enumerate(worlds):
-        for e in w["pool"]:
-            group = classes[s][e["item"]]
-            copies[group if group in copies else "rest"] += [(s, e["item"])] * e["count"]
         for l in w["locations"]:
             if l["id"] is not None:
                 kind = l.get("kind", "default")
@@ -175,7 +225,7 @@ def plain(worlds, opts, seed, tries):
 
     def accepts(copy, opening):
         s, item = copy
-        if not many:
+        if not many or s >= len(worlds):
             return True
         if item in opts[s].get("local_items", []):
             return opening[0] == s
@@ -202,9 +252,11 @@ def plain(worlds, opts, seed, tries):
         for k, copy in enumerate(asked):
             base = dict(start)
             for later in asked[k + 1:]:
-                base[later] = base.get(later, 0) + 1
-            reached, _ = reach(worlds, base, placed)
-            o = put(copy, by_kind("priority", "default"), lambda o: (o[0], "location", o[1]) in reached)
+                add(base, later)
+            reached, bag = reach(worlds, base, placed, owners)
+            is_sure = lost_goal(reached, bag) is None and lost_place(reached) is None
+            may_miss = is_sure and all(access[s] == "minimal" for s in owners[copy[0]])
+            o = put(copy, by_kind("priority", "default"), lambda o: (o[0], "location", o[1]) in reached or (may_miss and access[o[0]] == "minimal"))
             if o is None:
                 stuck = True
                 break
@@ -220,10 +272,40 @@ def plain(worlds, opts, seed, tries):
             for l in w["locations"]:
                 if l["id"] is not None:
                     receiver, item = held.get((s, l["name"]), (s, w["filler"]))
-                    ids = {i["name"]: i["id"] for i in worlds[receiver]["items"]}
+                    ids = {i["name"]: i["id"] for i in worlds[owners[receiver][0]]["items"]}
                     found.append([s + 1, l["id"], ids[item], receiver + 1])
         return stream, found
     return "exhausted after %d tries" % tries
+
+
+def compare(folder, n, worlds, opts, links, seed):
+    """Runs the program on these players and compares what came with the plain fill: what kind of answer is due, and whether it came."""
+    for s, w in enumerate(worlds):
+        json.dump(w, open("%s/w%d.json" % (folder, s), "w"))
+    games = [w["game"] for w in worlds]
+    players = [{"names": ["P%d" % (s + 1)], "world": "%s/w%d.json" % (folder, games.index(w["game"])), "options": opts[s]} for s, w in enumerate(worlds)]
+    file = {"format": "mw-players-1", "players": players} if links is None else {"format": "mw-players-2", "players": players, "links": links}
+    json.dump(file, open(folder + "/players.json", "w"))
+    out = folder + "/seed.json"
+    if os.path.exists(out):
+        os.remove(out)
+    run = subprocess.run([program, "generate", folder + "/players.json", out, "--seed", str(seed), "--tries", "20"], stdout=subprocess.PIPE, stderr=subprocess.PIPE, text=True)
+    expected = plain(worlds, opts, links or [], seed, 20)
+    line = (run.stdout or run.stderr).split("\n")[0]
+    if isinstance(expected, str):
+        kind, same = expected.split(":")[0].split(" after")[0], line == expected
+    else:
+        kind = "seed"
+        same = line.startswith("seed %d try %d " % (seed, expected[0]))
+        if same:
+            made = json.load(open(out))
+            same = sorted(l[:4] for l in made["locations"]) == sorted(expected[1]) and [g["members"] for g in made.get("groups", [])] == [link["members"] for link in links or []]
+        if same:
+            again = subprocess.run([program, "check", folder + "/players.json", out], stdout=subprocess.PIPE, text=True)
+            same = again.returncode == 0
+    if not same:
+        print("world %d%s differs: %r, status %d, expected %s" % (n, "" if links is None else " with links", line, run.returncode, str(expected)[:200]))
+    return kind, same
 
 
 tally = {}
@@ -232,26 +314,15 @@ with tempfile.TemporaryDirectory() as folder:
         r = random.Random(n)
         worlds = [world(r, "G%d" % s) for s in range(r.randrange(1, 4))]
         opts = [options(r, w) for w in worlds]
-        for s, w in enumerate(worlds):
-            json.dump(w, open("%s/w%d.json" % (folder, s), "w"))
-        json.dump({"format": "mw-players-1", "players": [{"names": ["P%d" % (s + 1)], "world": "%s/w%d.json" % (folder, s), "options": opts[s]} for s in range(len(worlds))]}, open(folder + "/players.json", "w"))
-        seed = r.randrange(2 ** 63)
-        out = folder + "/seed.json"
-        if os.path.exists(out):
-            os.remove(out)
-        run = subprocess.run([program, "generate", folder + "/players.json", out, "--seed", str(seed), "--tries", "20"], stdout=subprocess.PIPE, stderr=subprocess.PIPE, text=True)
-        expected = plain(worlds, opts, seed, 20)
-        line = (run.stdout or run.stderr).split("\n")[0]
-        if isinstance(expected, str):
-            same = line == expected
-            kind = expected.split(":")[0].split(" after")[0]
-        else:
-            kind = "seed"
-            same = line.startswith("seed %d try %d " % (seed, expected[0])) and sorted(l[:4] for l in json.load(open(out))["locations"]) == sorted(expected[1])
-            if same:
-                again = subprocess.run([program, "check", folder + "/players.json", out], stdout=subprocess.PIPE, text=True)
-                same = again.returncode == 0
-        tally[(kind, same)] = tally.get((kind, same), 0) + 1
-        if not same:
-            print("world %d differs: %r, status %d, expected %s" % (n, line, run.returncode, str(expected)[:200]))
-print(tally)
+        answer = compare(folder, n, worlds, opts, None, r.randrange(2 ** 63))
+        tally[("first form",) + answer] = tally.get(("first form",) + answer, 0) + 1
+        # two to four players of one or two games, of which one has several players
+        made = [world(r, "G0"), world(r, "G1")]
+        numbers = [0, 0] + [r.randrange(2) for _ in range(r.randrange(3))]
+        r.shuffle(numbers)
+        worlds = [made[g] for g in numbers]
+        opts = [dict(options(r, w), accessibility=r.choice(["full", "items", "items", "minimal", "minimal"])) for w in worlds]
+        answer = compare(folder, n, worlds, opts, links(r, numbers, worlds), r.randrange(2 ** 63))
+        tally[("second form",) + answer] = tally.get(("second form",) + answer, 0) + 1
+for kind, times in sorted(tally.items()):
+    print(*kind, times)

@@ -114,3 +114,8 @@ for name, players in several.items():
         with open("%s/%s.plain" % (folder, name), "w") as f:
             f.write(plain(players))
     write(name + ".json", {"format": "mw-players-1", "players": [{"names": ["P%d" % p], "world": "%s/%s_world.json" % (folder, of)} for p, of in enumerate(players, 1)]})
+if "--deep" in sys.argv:
+    # The 50 slots of one world once more: ten links of five slots, each with 20 keys, and every third slot wants no more than its goal.
+    players = [{"names": ["P%d" % p], "world": folder + "/thousand_world.json", "options": {"accessibility": "minimal" if p % 3 == 0 else "items"}} for p in range(1, 51)]
+    links = [{"name": "Link %d" % (n + 1), "members": list(range(5 * n + 1, 5 * n + 6)), "items": ["Key %d" % (10 * k + n + 1) for k in range(20)]} for n in range(10)]
+    write("deep_linked.json", {"format": "mw-players-2", "players": players, "links": links})

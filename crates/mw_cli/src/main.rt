@@ -57,6 +57,8 @@ mod kept_room_tests;
 #[cfg(test)]
 mod large_tests;
 #[cfg(test)]
+mod link_tests;
+#[cfg(test)]
 mod new_room_tests;
 #[cfg(test)]
 mod overrun_tests;

@@ -3,22 +3,24 @@ ghost use Rattle.mw_reach.specs.Reached.{IsBagFor, IsMadeFor, KeepsRules};
 
 use mw_base::{List, Memory};
 use mw_fill::{FillError, GenerateError, Seed, Words, draw};
-use mw_multi::{Bag, Class, Joint, LocKind, Placed, Placement, Put, Slot};
-use mw_reach::{Reached, reach, unmet_goal};
+use mw_multi::{
+    Access, Bag, Class, Joint, Link, LocKind, Placed, Placement, PoolEntry, Put, Slot, World,
+};
+use mw_reach::{Lack, Reached, first_lack, reach};
 use std::alloc::Global;
 
-/// A copy of an item of a pool.
+/// A copy of an item of a pool or of a link.
 #[derive(Clone, Copy)]
 struct Piece {
     receiver: u16,
     item: u32,
-    /// The item's number over all slots.
-    number: u32,
     class: Class,
     /// Whether it may stand in its receiver's world.
     home: bool,
     /// Whether it may stand in other worlds.
     away: bool,
+    /// Whether each of its owners wants no more than goals.
+    minimal: bool,
 }
 
 /// A location with an id.
@@ -26,10 +28,12 @@ struct Piece {
 struct Opening {
     slot: u16,
     kind: LocKind,
+    /// Whether the slot wants no more than goals.
+    minimal: bool,
     /// What stands there: a filler of the slot where no copy is put.
     stands: Put,
-    /// The number over all slots of the copy that is put there.
-    number: Option<u32>,
+    /// Whether a copy is put there.
+    is_taken: bool,
 }
 
 /// The kinds of locations in the order in which fillers and traps stand at them. Other items stand at none of the first
@@ -49,37 +53,117 @@ fn is_set(flags: &List<bool>, index: usize) -> bool {
     flags.get(index) == Some(&true)
 }
 
-/// Adds the copies of a slot's pool that are of the classes; `many` says whether there are other slots. Where memory
-/// runs out some are left out, here and below, so that the fill's answer is another one.
-fn push_pieces(pieces: &mut Vec<Piece>, slot: &Slot, receiver: u16, many: bool, classes: &[Class]) {
+/// Whether a slot owns what is for a receiver: a slot is its own owner, a link has its members.
+fn owns(joint: &Joint, slot: u16, receiver: u16) -> bool {
+    let slots = joint.slots.len();
+    let number = receiver as usize;
+    if number <= slots {
+        return slot == receiver;
+    }
+    match joint.links.get(number - slots - 1) {
+        Some(shared) => {
+            let link = shared.link;
+            let mut is_member = false;
+            for member in link.members.as_slice() {
+                is_member = is_member || member.get() == slot;
+            }
+            is_member
+        }
+        None => false,
+    }
+}
+
+/// Whether each owner of a receiver wants no more than goals.
+fn is_minimal(joint: &Joint, receiver: u16) -> bool {
+    let mut minimal = true;
+    for (before, slot) in joint.slots.as_slice().iter().enumerate() {
+        if owns(joint, before as u16 + 1, receiver) {
+            minimal = minimal && slot.access() == Access::Minimal;
+        }
+    }
+    minimal
+}
+
+/// Adds so many copies of a piece. Where memory runs out some are left out, here and below, so that the fill's answer is
+/// another one.
+fn push_copies(pieces: &mut Vec<Piece>, piece: Piece, count: u32) {
+    let count = pieces.len().saturating_add(count as usize);
+    let _ = pieces.resize(count, piece);
+}
+
+/// Adds the copies of a slot's pool that are of the classes.
+fn push_pool(pieces: &mut Vec<Piece>, joint: &Joint, slot: &Slot, number: u16, classes: &[Class]) {
     let world = slot.world;
-    for entry in world.pool.as_slice() {
+    let many = joint.slots.len() > 1;
+    for entry in slot.pool() {
         let index = entry.item as usize;
         let local = is_set(&slot.local_items, index);
         let abroad = is_set(&slot.non_local_items, index);
         if let Some(found) = world.items.get(index) {
             let piece = Piece {
-                receiver,
+                receiver: number,
                 item: entry.item,
-                number: slot.first_item.saturating_add(entry.item),
                 class: found.class,
                 home: local || !many || !abroad,
                 away: !local,
+                minimal: is_minimal(joint, number),
             };
             if classes.contains(&piece.class) {
-                let count = pieces.len().saturating_add(entry.count as usize);
-                let _ = pieces.resize(count, piece);
+                push_copies(pieces, piece, entry.count);
             }
         }
     }
 }
 
-/// Adds the copies of the classes, by slot, pool entry and copy, put into the order that the next words give.
+/// The world that a link's members play.
+fn world_of_link<'a>(joint: &Joint<'a>, shared: &Link<'a>) -> Option<&'a World> {
+    let link = shared.link;
+    let member = link.members.get(0)?;
+    let slot = joint.slots.get((member.get() as usize).saturating_sub(1))?;
+    Some(slot.world)
+}
+
+/// Adds the copies of a link that are of the classes; they may stand anywhere.
+fn push_link(
+    pieces: &mut Vec<Piece>,
+    joint: &Joint,
+    world: &World,
+    copies: &[PoolEntry],
+    receiver: u16,
+    classes: &[Class],
+) {
+    for entry in copies {
+        if let Some(found) = world.items.get(entry.item as usize) {
+            let piece = Piece {
+                receiver,
+                item: entry.item,
+                class: found.class,
+                home: true,
+                away: true,
+                minimal: is_minimal(joint, receiver),
+            };
+            if classes.contains(&piece.class) {
+                push_copies(pieces, piece, entry.count);
+            }
+        }
+    }
+}
+
+/// Adds the copies of the classes, by slot, pool entry and copy, then by link, item and copy, put into the order that the
+/// next words give.
 fn push_shuffled(pieces: &mut Vec<Piece>, joint: &Joint, words: &mut Words, classes: &[Class]) {
-    let slots = joint.slots.as_slice();
     let count = pieces.len();
-    for (before, slot) in slots.iter().enumerate() {
-        push_pieces(pieces, slot, before as u16 + 1, slots.len() > 1, classes);
+    let mut number = 1u16;
+    for slot in joint.slots.as_slice() {
+        push_pool(pieces, joint, slot, number, classes);
+        number = number.saturating_add(1);
+    }
+    for shared in joint.links.as_slice() {
+        if let Some(world) = world_of_link(joint, shared) {
+            let copies = shared.copies.as_slice();
+            push_link(pieces, joint, world, copies, number, classes);
+        }
+        number = number.saturating_add(1);
     }
     let first = count.min(pieces.len());
     shuffle_entries(words, &mut pieces.as_mut_slice()[first..]);
@@ -105,12 +189,13 @@ fn push_openings(openings: &mut Vec<Opening>, slot: &Slot, number: u16) {
             let _ = openings.push(Opening {
                 slot: number,
                 kind: kind_of(slot, index, location.kind),
+                minimal: slot.access() == Access::Minimal,
                 stands: Put {
                     place: first.saturating_add(index as u32),
                     receiver: number,
                     item: world.filler,
                 },
-                number: None,
+                is_taken: false,
             });
         }
     }
@@ -135,36 +220,43 @@ fn shuffle_entries<T>(words: &mut Words, entries: &mut [T]) {
     }
 }
 
-/// Whether a location is free, takes the copy, and is in the list where there is one.
-fn fits(opening: &Opening, piece: &Piece, reached: Option<&Reached>) -> bool {
+/// The list that a copy is placed by, and whether all that is required holds in it, so that the copy may be missed.
+#[derive(Drop)]
+struct Ground {
+    reached: Reached,
+    is_enough: bool,
+}
+
+/// Whether a location is free, takes the copy, and is in the list where there is one; a copy that nobody has to find may
+/// stand outside of it in the world of a slot that wants no more than goals.
+fn fits(opening: &Opening, piece: &Piece, ground: Option<&Ground>) -> bool {
     let accepts = if piece.receiver == opening.slot {
         piece.home
     } else {
         piece.away
     };
-    let is_in = match reached {
-        Some(list) => list.has(opening.stands.place),
+    let may_stand = match ground {
+        Some(ground) => {
+            let may_be_missed = ground.is_enough && piece.minimal && opening.minimal;
+            may_be_missed || ground.reached.has(opening.stands.place)
+        }
         None => true,
     };
-    accepts && is_in && opening.number.is_none()
+    accepts && may_stand && !opening.is_taken
 }
 
 /// Puts a copy at the first location that fits, by kind and then by order.
-fn put(
-    openings: &mut [Opening],
-    piece: &Piece,
-    reached: Option<&Reached>,
-) -> Result<(), FillError> {
+fn put(openings: &mut [Opening], piece: &Piece, ground: Option<&Ground>) -> Result<(), FillError> {
     let first = match piece.class {
         Class::Filler | Class::Trap => 0,
         _ => 1,
     };
     for kind in &KINDS[first..] {
         for opening in openings.iter_mut() {
-            if opening.kind == *kind && fits(opening, piece, reached) {
+            if opening.kind == *kind && fits(opening, piece, ground) {
                 opening.stands.receiver = piece.receiver;
                 opening.stands.item = piece.item;
-                opening.number = Some(piece.number);
+                opening.is_taken = true;
                 return Ok(());
             }
         }
@@ -184,24 +276,34 @@ fn add(bag: &mut Bag, number: u32)
     }
 }
 
+/// Adds an item of a receiver, once for each owner.
+fn add_owned(bag: &mut Bag, joint: &Joint, receiver: u16, item: u32)
+    ensures { length bag.new ≡ length bag.old }
+{
+    for (before, slot) in joint.slots.as_slice().iter().enumerate() {
+        if owns(joint, before as u16 + 1, receiver) {
+            add(bag, slot.first_item.saturating_add(item));
+        }
+    }
+}
+
 /// Adds copies.
-fn add_pieces(bag: &mut Bag, pieces: &[Piece])
+fn add_pieces(bag: &mut Bag, joint: &Joint, pieces: &[Piece])
     ensures { length bag.new ≡ length bag.old }
 {
     for piece in pieces {
-        add(bag, piece.number);
+        add_owned(bag, joint, piece.receiver, piece.item);
     }
 }
 
 /// Adds the copies that lie at places of the list.
-fn add_reached(bag: &mut Bag, openings: &[Opening], reached: &Reached)
+fn add_reached(bag: &mut Bag, joint: &Joint, openings: &[Opening], reached: &Reached)
     ensures { length bag.new ≡ length bag.old }
 {
     for opening in openings {
-        if let Some(number) = opening.number {
-            if reached.has(opening.stands.place) {
-                add(bag, number);
-            }
+        let stands = &opening.stands;
+        if opening.is_taken && reached.has(stands.place) {
+            add_owned(bag, joint, stands.receiver, stands.item);
         }
     }
 }
@@ -210,7 +312,7 @@ fn add_reached(bag: &mut Bag, openings: &[Opening], reached: &Reached)
 fn found_in(openings: &[Opening], reached: &Reached) -> usize {
     let mut found = 0usize;
     for opening in openings {
-        if opening.number.is_some() && reached.has(opening.stands.place) {
+        if opening.is_taken && reached.has(opening.stands.place) {
             found = found.saturating_add(1);
         }
     }
@@ -236,8 +338,8 @@ fn collect(
     let _ = &joint.slots;
     let placed = Placed::events(alloc, joint)?;
     let mut bag = Bag::starting(alloc, joint)?;
-    add_pieces(&mut bag, later);
-    add_reached(&mut bag, openings, reached);
+    add_pieces(&mut bag, joint, later);
+    add_reached(&mut bag, joint, openings, reached);
     reach(joint, &bag, &placed, reached);
     Ok(found_in(openings, reached) > before)
 }
@@ -272,14 +374,16 @@ fn place_all(
     pieces: &[Piece],
 ) -> Result<(), FillError> {
     for (index, piece) in pieces.iter().enumerate() {
-        let reached = match piece.class {
+        let ground = match piece.class {
             Class::Progression => {
                 let later = &pieces[index + 1..];
-                Some(reached_with(alloc, joint, later, openings, index)?)
+                let reached = reached_with(alloc, joint, later, openings, index)?;
+                let is_enough = first_lack(joint, &reached).is_none();
+                Some(Ground { reached, is_enough })
             }
             _ => None,
         };
-        put(openings, piece, reached.as_ref())?;
+        put(openings, piece, ground.as_ref())?;
     }
     Ok(())
 }
@@ -320,19 +424,20 @@ pub(crate) fn plain_try(
     Ok(placement_of(alloc, joint, openings.as_slice()))
 }
 
-/// The copies of all pools.
+/// The copies of all pools and links.
 fn copies_of(alloc: Global, joint: &Joint) -> Vec<Piece> {
     let mut pieces = Vec::new(alloc);
     push_shuffled(&mut pieces, joint, &mut Words::new(0, 0), &CLASSES);
     pieces
 }
 
-/// The first slot whose goal doesn't hold with these copies in hand.
-fn unmet(alloc: Global, joint: &Joint, copies: &[Piece]) -> Result<Option<u16>, Memory> {
-    Ok(unmet_goal(joint, &reached_with(alloc, joint, copies, &[], 0)?))
+/// The first thing that is lacking with these copies in hand.
+fn lack_with(alloc: Global, joint: &Joint, copies: &[Piece]) -> Result<Option<Lack>, Memory> {
+    Ok(first_lack(joint, &reached_with(alloc, joint, copies, &[], 0)?))
 }
 
-/// The first try's placement, or why there is none: a goal that isn't met, then too little room.
+/// The first try's placement, or why there is none: a goal that isn't met, a location that isn't reached, then too little
+/// room.
 pub(crate) fn plain_seed(
     alloc: Global,
     joint: &Joint,
@@ -340,8 +445,10 @@ pub(crate) fn plain_seed(
     tries: u64,
 ) -> Result<Seed, GenerateError> {
     let copies = copies_of(alloc, joint);
-    if let Some(slot) = unmet(alloc, joint, copies.as_slice())? {
-        return Err(GenerateError::NotBeatable { slot });
+    match lack_with(alloc, joint, copies.as_slice())? {
+        Some(Lack::Goal { slot }) => return Err(GenerateError::NotBeatable { slot }),
+        Some(Lack::Location { slot, place }) => return Err(GenerateError::NotFull { slot, place }),
+        None => {}
     }
     let have = copies.len() as u64;
     let room = openings_of(alloc, joint).len() as u64;

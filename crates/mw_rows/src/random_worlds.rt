@@ -13,6 +13,15 @@ const GRAMMAR: &str = r#"players | ~ann~ | ~ann~,~bob~ | ~ann~,~bob~,~cy~
 ann | {"names":["Ann"],"world":"1","options":{~options~}}
 bob | {"names":["Bob"],"world":"2","options":{~options~}}
 cy | {"names":["Cy"],"world":"3","options":{~options~}}
+linked | "players":[~first one~,~second one~],"links":[~duo~] | "players":[~first one~,~second one~,~cy~],"links":[~duo~,~pair~] | "players":[~first one~,~second one~,~third one~],"links":[~trio~,~duo~]
+first one | {"names":["Ann"],"world":"1","options":{~access~,~options~}}
+second one | {"names":["Bob"],"world":"1","options":{~access~,~options~}}
+third one | {"names":["Cy"],"world":"1","options":{~access~,~options~}}
+access | "accessibility":"full" | "accessibility":"items" | "accessibility":"minimal" | "accessibility":"minimal"
+duo | {"name":"Duo","members":[1,2],"items":[~shared~]}
+pair | {"name":"Pair","members":[1,2],"items":[~shared~]}
+trio | {"name":"Trio","members":[1,2,3],"items":[~shared~]}
+shared |  | ~item~ | ~item~,~key~ | ~key~,~key~,~key~
 options | ~items~,"exclude_locations":[~two~],"priority_locations":[~two~],"start_inventory":{~start~}
 items | "local_items":[],"non_local_items":[] | "local_items":[~item~],"non_local_items":[] | "local_items":[~item~],"non_local_items":[~item~]
 two |  | "L~low~" | "L~low~","L~high~"
@@ -46,7 +55,11 @@ simple | true | {"has":~key~} | {"has":~key~,"count":~count~} | {"has":"Event 1"
 const WORLD: &str =
     r#"{"format":"mw-world-1","game":"Game #","regions":["Menu","A","B","C","D"],"items":[{"name":"Key 1","id":1,"class":"progression"},{"name":"Key 2","id":2,"class":"progression"},{"name":"Key 3","id":3,"class":"progression"},{"name":"Key 4","id":4,"class":"progression"},{"name":"Gem","id":5,"class":"useful"},{"name":"Coin","id":6,"class":"filler"},{"name":"Bomb","id":7,"class":"trap"},{"name":"Event 1","id":null,"class":"progression"},{"name":"Event 2","id":null,"class":"progression"}],"filler":"Coin",~tables~}"#;
 
+/// A players file without links.
 const PLAYERS: &str = r#"{"format":"mw-players-1","players":[~players~]}"#;
+
+/// A players file with links and with what its players want of their worlds.
+const LINKED: &str = r#"{"format":"mw-players-2",~linked~}"#;
 
 /// Whether a line's first part is this name.
 fn names(line: &str, name: &str) -> bool {
@@ -97,9 +110,9 @@ fn world_of(alloc: Global, words: &mut Words, file: &str) -> Result<World, Fail>
     world_in(alloc, text.as_str())
 }
 
-/// Random players.
-fn players_of(alloc: Global, words: &mut Words) -> Result<Players, Fail> {
-    let text = spelled(alloc, words, PLAYERS)?;
+/// Random players of a file's text.
+fn players_of(alloc: Global, words: &mut Words, file: &str) -> Result<Players, Fail> {
+    let text = spelled(alloc, words, file)?;
     players_in(alloc, text.as_str())
 }
 
@@ -146,25 +159,36 @@ fn told(alloc: Global, joint: &Joint, seed: u64) -> Option<bool> {
     }
 }
 
-/// The same for the worlds of a number.
-fn told_of(alloc: Global, number: u64) -> Result<Option<bool>, Fail> {
+/// The same for the worlds of a number, with players of a file's text.
+fn told_of(alloc: Global, file: &str, number: u64) -> Result<Option<bool>, Fail> {
     let mut words = Words::new(number, 1);
-    let players = players_of(alloc, &mut words)?;
+    let players = players_of(alloc, &mut words, file)?;
     let worlds = worlds_of(alloc, &mut words, &players)?;
     let joint = joint_of(alloc, &worlds, &players)?;
     Ok(told(alloc, &joint, number))
 }
 
-#[test]
-fn random_worlds_are_filled_as_by_a_plain_fill(rt: HostRuntime) -> Result<(), Fail> {
+/// How many of a hundred random worlds give a seed; the number of the first one on which the two differ.
+fn seeds_of(alloc: Global, file: &str) -> Result<u64, Fail> {
     let mut seeds = 0u64;
     for number in 0..100 {
-        match told_of(rt.alloc(), number)? {
+        match told_of(alloc, file, number)? {
             Some(true) => seeds = seeds.saturating_add(1),
             Some(false) => {}
             None => return Err(Fail::new(number)),
         }
     }
-    assert!(rt; seeds > 30);
+    Ok(seeds)
+}
+
+#[test]
+fn random_worlds_are_filled_as_by_a_plain_fill(rt: HostRuntime) -> Result<(), Fail> {
+    assert!(rt; seeds_of(rt.alloc(), PLAYERS)? > 30);
+    Ok(())
+}
+
+#[test]
+fn random_worlds_with_links_are_filled_as_by_a_plain_fill(rt: HostRuntime) -> Result<(), Fail> {
+    assert!(rt; seeds_of(rt.alloc(), LINKED)? > 20);
     Ok(())
 }

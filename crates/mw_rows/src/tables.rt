@@ -1,6 +1,6 @@
 use crate::cases::{changed, each, is_answer};
 use mw_base::{List, LocId, Permission, RoomOptions, Text};
-use mw_multi::{LocKind, Location, Options, Player, Players, World};
+use mw_multi::{Access, ItemLink, LocKind, Location, Options, Player, Players, World};
 use mw_rules::Rule;
 use mw_tables::{read_players, read_world};
 use std::alloc::Global;
@@ -11,6 +11,48 @@ const WORLD: &str =
 
 const PLAYERS: &str =
     r#"{"format":"mw-players-1","teams":2,"room":{"password":"pw","hint_cost":5,"location_check_points":2,"release":"goal","collect":"enabled","remaining":"disabled"},"players":[{"names":["Ann","Ada"],"world":"w.json","options":{"local_items":["Sword","Sword"],"start_inventory":{"Coin":2,"Sword":1}}},{"names":["Bob","Bea"],"world":"v.json"}]}"#;
+
+/// Two players of a game with a link, one of whom wants to reach all of its world.
+const LINKED: &str =
+    r#"{"format":"mw-players-2","players":[{"names":["Ann"],"world":"w.json"},{"names":["Bob"],"world":"w.json","options":{"accessibility":"full"}}],"links":[{"name":"Duo","members":[1,2],"items":["Sword","Sword"]}]}"#;
+
+/// Changes of these players, and what the file is answered then.
+const LINK_CASES: &str = r#"mw-players-2 => mw-players-3 => OtherFormat /format
+mw-players-2 => mw-players-1 => accepted
+"full" => "items" => accepted
+"full" => "minimal" => accepted
+"full" => "all" => WrongKind /players/1/options/accessibility
+"full" => 1 => WrongKind /players/1/options/accessibility
+"full" => 1.5 => NotWhole /players/1/options/accessibility
+"links":[ => "link":[ => accepted
+"links":[ => "links":7,"no":[ => WrongKind /links
+"links":[ => "links":[],"no":[ => accepted
+"name":"Duo" => "name":"" => WrongKind /links/0/name
+"name":"Duo" => "name":"Duo4567890123456" => accepted
+"name":"Duo" => "name":"Duo45678901234567" => NameTooLong /links/0/name
+"name":"Duo" => "name":"Bob" => DuplicateName /links/0/name
+"name":"Duo", =>  => MissingField /links/0/name
+"items":["Sword","Sword"]} => "items":[]},{"name":"Duo","members":[1,2],"items":[]} => DuplicateName /links/1/name
+"items":["Sword","Sword"]} => "items":[]},{"name":"Two","members":[1,2],"items":[]} => accepted
+"members":[1,2] => "members":[2,1] => WrongOrder /links/0/members/1
+"members":[1,2] => "members":[1,1] => WrongOrder /links/0/members/1
+"members":[1,2] => "members":[1,3] => UnknownName /links/0/members/1
+"members":[1,2] => "members":[3,1] => UnknownName /links/0/members/0
+"members":[1,2] => "members":[2,1024] => UnknownName /links/0/members/1
+"members":[1,2] => "members":[1] => WrongKind /links/0/members
+"members":[1,2] => "members":[] => WrongKind /links/0/members
+"members":[1,2] => "members":[0,2] => WrongKind /links/0/members/0
+"members":[1,2] => "members":[1,1025] => WrongKind /links/0/members/1
+"members":[1,2] => "members":[1,2.0] => NotWhole /links/0/members/1
+"members":[1,2], =>  => MissingField /links/0/members
+["Sword","Sword"] => ["Sword",""] => WrongKind /links/0/items/1
+["Sword","Sword"] => 7 => WrongKind /links/0/items
+,"items":["Sword","Sword"] =>  => MissingField /links/0/items"#;
+
+/// Links to the limit of 1,024 with the slots, and one more.
+const LINK_LIMIT_CASES: &str =
+    r#"{"name":"Duo","members":[1,2],"items":["Sword","Sword"]} =>  | {"name":"Duo","members":[1,2],"items":[]}, | 1021 |  | {"name":"Duo","members":[1,2],"items":[]} => DuplicateName /links/1/name
+{"name":"Duo","members":[1,2],"items":["Sword","Sword"]} =>  | {"name":"Duo","members":[1,2],"items":[]}, | 1022 |  | {"name":"Duo","members":[1,2],"items":[]} => TooMany /links"#;
 
 /// Changes of the world, and what the file is answered then.
 const WORLD_CASES: &str = r#"["Win"]}} => ["Win"]} => NoJson /
@@ -249,6 +291,7 @@ fn is_bob(player: &Player) -> bool {
         && options.local_items.len() == 0
         && has_no_others(options)
         && options.start_inventory.len() == 0
+        && options.accessibility == Access::Items
 }
 
 /// Whether players are those of the file.
@@ -276,4 +319,51 @@ fn is_players_case(alloc: Global, line: &str) -> Result<bool, Fail> {
 #[test]
 fn each_refusal_of_players_has_its_place(rt: HostRuntime) -> Result<(), Fail> {
     each(rt.alloc(), PLAYERS_CASES, is_players_case)
+}
+
+/// Whether a link is that of the file.
+fn is_duo(link: &ItemLink) -> bool {
+    let [ann, bob] = link.members.as_slice() else {
+        return false;
+    };
+    link.name.as_str() == "Duo"
+        && ann.get() == 1
+        && bob.get() == 2
+        && are_two(&link.items, "Sword", "Sword")
+}
+
+/// Whether players have this one link, and the second wants to reach all of its world.
+fn are_linked(file: &Players) -> bool {
+    match (file.players.as_slice(), file.links.as_slice()) {
+        ([ann, bob], [duo]) => {
+            ann.options.accessibility == Access::Items
+                && bob.options.accessibility == Access::Full
+                && is_duo(duo)
+        }
+        _ => false,
+    }
+}
+
+#[test]
+fn linked_players_are_read(rt: HostRuntime) {
+    let Ok(players) = read_players(rt.alloc(), LINKED.as_bytes()) else {
+        panic!(rt; "refused")
+    };
+    assert!(rt; are_linked(&players));
+}
+
+/// Whether a case of these players is so.
+fn is_link_case(alloc: Global, line: &str) -> Result<bool, Fail> {
+    let text = changed(alloc, LINKED, line)?;
+    Ok(is_answer(alloc, read_players(alloc, text.as_bytes()).err(), line)?)
+}
+
+#[test]
+fn each_refusal_of_links_has_its_place(rt: HostRuntime) -> Result<(), Fail> {
+    each(rt.alloc(), LINK_CASES, is_link_case)
+}
+
+#[test]
+fn links_and_slots_are_at_most_1024(rt: HostRuntime) -> Result<(), Fail> {
+    each(rt.alloc(), LINK_LIMIT_CASES, is_link_case)
 }
