@@ -30,10 +30,12 @@ def read_tables(name):
 
 
 class SeedNames:
-    """The names in a seed file: of slots, and of the items and locations of their games."""
+    """The names in a seed file: of slots and groups, and of the items and locations of their games."""
 
     def __init__(self, seed):
         self.slots = seed["slots"]
+        # A file of the first form has no groups, whatever it says.
+        self.groups = seed["groups"] if seed["format"] == "mw-multidata-2" else []
         self.items = {}
         self.locations = {}
         self.location_ids = {}
@@ -42,14 +44,25 @@ class SeedNames:
             self.locations[game] = {number: name for name, number in tables["location_name_to_id"].items()}
             self.location_ids[game] = tables["location_name_to_id"]
 
-    def game(self, slot):
-        return self.slots[slot - 1]["game"]
+    def group(self, receiver):
+        """The group of a number behind the slots, and None where that is a slot's."""
+        return self.groups[receiver - len(self.slots) - 1] if receiver > len(self.slots) else None
 
-    def player(self, slot, team=0):
-        return self.slots[slot - 1]["names"][team]
+    def game(self, receiver):
+        return (self.group(receiver) or self.slots[receiver - 1])["game"]
+
+    def player(self, receiver, team=0):
+        """The name of a slot in a team, or of a group."""
+        group = self.group(receiver)
+        return group["name"] if group else self.slots[receiver - 1]["names"][team]
+
+    def owns(self, slot, receiver):
+        """Whether a slot gets what is for a receiver."""
+        group = self.group(receiver)
+        return slot in group["members"] if group else slot == receiver
 
     def item(self, receiver, number):
-        """The name of an item that a slot receives."""
+        """The name of an item that a slot or a group receives."""
         return self.items[self.game(receiver)].get(number, str(number))
 
     def location(self, finder, number):

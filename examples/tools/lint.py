@@ -12,6 +12,7 @@ import sys
 from files import read_tables, stop
 
 PLAYERS = ["format", "teams", "room", "players"]
+LINK = ["name", "members", "items"]
 ROOM = ["password", "hint_cost", "location_check_points", "release", "collect", "remaining"]
 PLAYER = ["names", "world", "options"]
 OPTIONS = ["local_items", "non_local_items", "exclude_locations", "priority_locations", "start_inventory"]
@@ -67,12 +68,16 @@ def form_of(rule):
 
 
 def check_players(found, name, players):
-    found.members(name, players, PLAYERS)
+    # The second form alone has links and accessibility.
+    second = players["format"] == "mw-players-2"
+    found.members(name, players, PLAYERS + ["links"] if second else PLAYERS)
     found.members(name + " /room", players.get("room", {}), ROOM)
     for index, player in enumerate(players["players"]):
         path = "%s /players/%d" % (name, index)
         found.members(path, player, PLAYER)
-        found.members(path + "/options", player.get("options", {}), OPTIONS)
+        found.members(path + "/options", player.get("options", {}), OPTIONS + ["accessibility"] if second else OPTIONS)
+    for index, link in enumerate(players.get("links", []) if second else []):
+        found.members("%s /links/%d" % (name, index), link, LINK)
 
 
 def check_world(found, name, world):

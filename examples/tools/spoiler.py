@@ -13,7 +13,7 @@ CLASSES = {0: "filler", 1: "progression", 2: "useful", 4: "trap"}
 
 
 def owned(names, finder, receiver, item):
-    """An item, with its receiver where that isn't who finds it."""
+    """An item, with its receiver where that isn't who finds it; a group's is never the finder's alone."""
     if receiver == finder:
         return item
     whose = names.player(receiver)
@@ -70,7 +70,7 @@ def tell_owners(names, seed):
     for slot, entry in enumerate(seed["slots"], 1):
         print(" / ".join(entry["names"]))
         for finder, location, item, receiver, _ in seed["locations"]:
-            if receiver == slot and finder != slot:
+            if names.owns(slot, receiver) and finder != slot:
                 print("  %s: %s, %s" % (names.item(slot, item), names.player(finder), names.location(finder, location)))
 
 
