@@ -2,7 +2,7 @@ ghost use Rattle.std.specs.Prelude.{◌≡◌, IfOk};
 ghost use Rattle.std.specs.Option.{option_copied};
 ghost use Rattle.mw_protocol.specs.Commands.{game_of, name_among};
 ghost use Rattle.mw_protocol.specs.Entering.{name_of};
-ghost use Rattle.mw_protocol.specs.Hints.{game_named, game_played};
+ghost use Rattle.mw_protocol.specs.Hints.{game_named};
 ghost use Rattle.mw_protocol.specs.Players.{name_in};
 ghost use Rattle.mw_answers.specs.Index.{IsIndex};
 ghost use Rattle.mw_answers.specs.Names.{item_names, location_names};

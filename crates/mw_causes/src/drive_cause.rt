@@ -1,5 +1,5 @@
 //! Why `drive` doesn't do all.
-ghost use Rattle.std.specs.Prelude.{◌≡◌, IfOk, string_bytes};
+ghost use Rattle.std.specs.Prelude.{◌≡◌};
 ghost use Rattle.mw_causes.specs.DriveCauses.{refusal_word as refusal_word_lem};
 
 use crate::seed_cause::SeedCause;

@@ -2,7 +2,6 @@
 ghost use Rattle.std.specs.Prelude.{◌≡◌, ◌++◌, IfOk, string_bytes, codes, decimal};
 ghost use Rattle.mw_causes.specs.Tables.{table_line, joint_text, unknown_text};
 ghost use Rattle.mw_causes.specs.declared.table_cause.TableCause.TheVariants.{TooLong, File, Joined};
-ghost use Rattle.mw_json.specs.Paths.{kind_text, path_text};
 
 use crate::stop::{Cause, Stop};
 use mw_base::{Memory, Text};

@@ -1,5 +1,5 @@
 //! Why `thin` doesn't do all.
-ghost use Rattle.std.specs.Prelude.{◌≡◌, IfOk, string_bytes};
+ghost use Rattle.std.specs.Prelude.{◌≡◌};
 ghost use Rattle.mw_causes.specs.PairCauses.{thin_stop as thin_stop_lem};
 
 use crate::pair_refusal::{PairRefusal, pair_line};

@@ -1,4 +1,4 @@
-ghost use Rattle.std.specs.Prelude.{◌≡◌, ◌≤◌, ◌++◌, List, ℕ, IfOk, IfErr, MatchOption, Some, is_some};
+ghost use Rattle.std.specs.Prelude.{◌≡◌, ◌≤◌, List, ℕ, IfOk, IfErr, MatchOption, Some, is_some};
 ghost use Rattle.mw_disk.specs.Crash.{LeavesOnly};
 ghost use Rattle.mw_journal.specs.Reads.{OnlyReads};
 ghost use Rattle.mw_journal.specs.Settled.{IsSettled, AllSettled};

@@ -1,4 +1,4 @@
-ghost use Rattle.std.specs.Prelude.{◌≡◌, ◌≤◌, [], List, ℕ, IfOk, IfErr, MatchResult, OnOk, Some, is_some};
+ghost use Rattle.std.specs.Prelude.{◌≡◌, ◌≤◌, IfOk, IfErr, MatchResult, OnOk, is_some};
 ghost use Rattle.mw_checkpoint.specs.Created.{ArePairEmpty, HasNone, IsEmpty, IsStopped, IsUnmade, OnEach};
 
 use crate::error::{PairError, pair_error};

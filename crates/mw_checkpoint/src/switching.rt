@@ -1,6 +1,6 @@
 ghost use Rattle.std.specs.Prelude.{◌≡◌, ◌≤◌, ◌^◌, ◌++◌, ◌∷◌, [], ◌⊎◌, List, ℕ, IfOk, IfErr, OnOk, Some, is_some};
 ghost use Rattle.mw_disk.specs.Crash.{LeavesOnly};
-ghost use Rattle.mw_journal.specs.Settled.{IsSettled, AllSettled};
+ghost use Rattle.mw_journal.specs.Settled.{IsSettled};
 ghost use Rattle.mw_protocol.specs.Records.{Record as PlainRecord};
 ghost use Rattle.mw_thinning.specs.Thinning.{thinned};
 ghost use Rattle.mw_checkpoint.specs.Chosen.{files_left};

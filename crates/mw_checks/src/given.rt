@@ -1,7 +1,5 @@
-ghost use Rattle.std.specs.Prelude.{◌≡◌, ◌++◌, ℕ, IfOk, OnOk};
+ghost use Rattle.std.specs.Prelude.{◌≡◌, ◌++◌, IfOk, OnOk};
 ghost use Rattle.std.specs.Option.{option_copied};
-ghost use Rattle.mw_model.specs.Seed.{held_at};
-ghost use Rattle.mw_checks.specs.Log.{checks_of};
 ghost use Rattle.mw_checks.specs.Views.{asked_of, given_at, given_to};
 
 use crate::handling::Handling;

@@ -1,5 +1,5 @@
 ghost use Rattle.std.specs.Prelude.{◌≡◌, ◌+◌, ◌*◌, ◌<◌, ◌≤◌, ◌^◌, ◌++◌, ◌∷◌, [], true, false};
-ghost use Rattle.std.specs.Prelude.{IfOk, map, length, get_or, set, replicate};
+ghost use Rattle.std.specs.Prelude.{IfOk, length, get_or, set, replicate};
 ghost use Rattle.std.specs.Prelude.{vec_len, vec_capacity};
 ghost use Rattle.std.specs.declared.alloc.Global.{Global};
 ghost use Rattle.mw_checks.specs.Kept.{KeptIn, HasPlaces};

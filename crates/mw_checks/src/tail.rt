@@ -1,4 +1,4 @@
-ghost use Rattle.std.specs.Prelude.{◌≡◌, ◌∷◌, [], OnOk, map, slice_get, option_to_list};
+ghost use Rattle.std.specs.Prelude.{◌∷◌, [], OnOk, map, slice_get, option_to_list};
 ghost use Rattle.mw_model.specs.Seed.{slot_of};
 ghost use Rattle.mw_protocol.specs.Checks.{found_item, start_item, start_items};
 ghost use Rattle.mw_checks.specs.Rows.{standing};

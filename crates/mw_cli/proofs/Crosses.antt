@@ -1,7 +1,6 @@
 -- A link over a stream of the network, and a gate that gives such links, may cross threads.
 use denote.RattleType.{RattleType}
-use denote.Param.Send.{IsSend, IsSync, sendable, view_send, recorded_send, struct_send}
-use denote.Struct.Declared.{shape}
+use denote.Param.Send.{IsSend, sendable}
 use Rattle.std.proofs.Crossing.{crosses}
 use Rattle.std.specs.contracts.net.TcpStream as tcp
 use Rattle.std.specs.declared.io.Read.{Ghosts as ReadGhosts}

@@ -69,8 +69,8 @@ where
         (files_around F.holds F.images F.is_open F.may_fail F.faults folder.old folder.new)
         S.left input.old input.new (told_by O.held O.faults out.old out.new)
         (told_by E.held E.refusals err.old err.new)
-        (λ status words. ServeEnds G.Line.heard G.Line.sent G.Line.faults G.Line.opened G.Line.is_shut
-        F.Drive.may_leave status
+        (λ status words. ServeEnds G.Line.heard G.Line.sent G.Line.faults G.Line.opened
+        G.Line.is_shut F.Drive.may_leave status
         (files_around F.holds F.images F.is_open F.may_fail F.faults folder.old folder.new)
         words result.2 (told_by O.held O.faults out.old out.new)
         (told_by E.held E.refusals err.old err.new))

@@ -1,4 +1,4 @@
-ghost use Rattle.std.specs.Prelude.{◌≡◌, ◌<◌, ◌≤◌, ◌^◌, ◌∷◌, ◌++◌, Bool, false, IfOk, IfSome, IfNone, OnErr, OnOk, Err, length, drop};
+ghost use Rattle.std.specs.Prelude.{◌≡◌, ◌<◌, ◌≤◌, ◌^◌, ◌∷◌, ◌++◌, false, IfOk, IfSome, IfNone, OnOk, Err, length, drop};
 ghost use Rattle.std.specs.Int.{w32, to_be_bytes};
 ghost use Rattle.std.specs.List.{AllByRecursion};
 ghost use Rattle.mw_client.specs.Bodies.{Begins, Body, IsEntry, after_body, body_bytes, kind_byte};

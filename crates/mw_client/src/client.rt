@@ -1,6 +1,4 @@
 ghost use Rattle.std.specs.Prelude.{◌≡◌, ◌<◌, ◌^◌, ◌↔◌, ◌++◌, IsTrue, IfOk, OnErr, OnOk, length};
-ghost use Rattle.std.specs.List.{AllByRecursion};
-ghost use Rattle.mw_client.specs.Bodies.{IsEntry};
 ghost use Rattle.mw_client.specs.Lists.{IsStep, client_after};
 
 use crate::body::body_of;

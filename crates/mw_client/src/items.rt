@@ -1,5 +1,4 @@
 //! The items of a ReceivedItems, as they are read.
-ghost use Rattle.std.specs.Prelude.{◌≡◌};
 ghost use Rattle.mw_json.specs.View.{view};
 ghost use Rattle.mw_json.specs.Grammar.{Gives, number_at};
 ghost use Rattle.mw_client.specs.News.{item_class_at, item_number_at, net_item_at, net_items_at, signed_at};

@@ -1,10 +1,10 @@
 //! What a client sends.
-ghost use Rattle.std.specs.Prelude.{◌≡◌, ◌∷◌, [], IfOk, codes, map, option_to_list};
+ghost use Rattle.std.specs.Prelude.{◌≡◌, IfOk, codes, map, option_to_list};
 ghost use Rattle.mw_model.specs.Json.{IsWritable, item, many, no_items, words};
 ghost use Rattle.mw_model.specs.Trees.{id_json, items_of};
 ghost use Rattle.mw_protocol.specs.Messages.{text_or_null, version_json};
 ghost use Rattle.mw_json.specs.View.{view};
-ghost use Rattle.mw_client.specs.Sending.{answer_texts, checks_json, checks_texts, connect_json, sync_json, text_of_one};
+ghost use Rattle.mw_client.specs.Sending.{answer_texts, checks_json, connect_json, sync_json, text_of_one};
 
 use crate::answer::Answer;
 use mw_base::{List, LocId, Memory, Text};

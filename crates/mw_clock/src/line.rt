@@ -1,5 +1,5 @@
 //! What a command line asks for.
-ghost use Rattle.std.specs.Prelude.{◌≡◌, ◌≢◌, [], ◌∷◌, ℕ, List, IfOk, OnOk, codes, decimal};
+ghost use Rattle.std.specs.Prelude.{◌≡◌, [], ◌∷◌, IfOk, OnOk, codes, decimal};
 ghost use Rattle.mw_clock.specs.Clockwork.{IsSize};
 ghost use Rattle.mw_clock.specs.Words.{IsFileName, IsNoCommand};
 ghost use Rattle.mw_clock.specs.Lines.{AsksFor};

@@ -1,5 +1,5 @@
 //! The number of gears.
-ghost use Rattle.std.specs.Prelude.{◌≡◌, ℕ, IfSome, IfNone};
+ghost use Rattle.std.specs.Prelude.{ℕ, IfSome, IfNone};
 ghost use Rattle.mw_clock.specs.Words.{HasGears};
 
 use mw_base::Text;

@@ -1,5 +1,5 @@
 //! The program's command line, done.
-ghost use Rattle.std.specs.Prelude.{◌≡◌, ◌⊎◌, ℕ, List};
+ghost use Rattle.std.specs.Prelude.{◌≡◌, ◌⊎◌, ℕ};
 ghost use Rattle.mw_edges.specs.Causes.{Rose};
 ghost use Rattle.mw_causes.specs.Ends.{told_by};
 ghost use Rattle.mw_causes.specs.Wrote.{wrote_by};

@@ -1,5 +1,5 @@
 //! The command `generate`.
-ghost use Rattle.std.specs.Prelude.{◌≡◌, ◌≢◌, ◌≤◌, ◌⊎◌, ◌<◌, ◌^◌, [], ◌∷◌, ℕ, List, IfOk, IfErr, OnOk, codes, string_bytes};
+ghost use Rattle.std.specs.Prelude.{◌≡◌, ◌≢◌, ◌⊎◌, ◌<◌, [], ◌∷◌, List, IfOk, IfErr, OnOk, codes, string_bytes};
 ghost use Rattle.mw_edges.specs.Causes.{Rose};
 ghost use Rattle.mw_causes.specs.Ends.{HasLeft, told_by};
 ghost use Rattle.mw_causes.specs.Wrote.{wrote_by, Untouched, HasFailed};

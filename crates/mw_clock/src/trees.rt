@@ -1,5 +1,5 @@
 //! The tables of `Clockwork` and of its player as they are written.
-ghost use Rattle.std.specs.Prelude.{◌≡◌, ◌+◌, ◌*◌, ◌<◌, ◌≤◌, ◌++◌, ◌∷◌, [], IfOk, OnOk, codes, decimal, map};
+ghost use Rattle.std.specs.Prelude.{◌≡◌, ◌+◌, ◌*◌, ◌<◌, ◌≤◌, ◌++◌, ◌∷◌, [], IfOk, OnOk, map};
 ghost use Rattle.mw_model.specs.Json.{IsWritable, ItemsAreWritable, words};
 ghost use Rattle.mw_json.specs.View.{view, items_view};
 ghost use Rattle.mw_tables.specs.WorldOf.{WorldOf};

@@ -1,7 +1,5 @@
 //! The tables of `Clockwork`.
-ghost use Rattle.std.specs.Prelude.{◌≡◌, ◌+◌, ◌*◌, ◌<◌, ◌≤◌, ◌++◌, ◌∷◌, [], pos, IfOk, OnOk, codes, decimal};
-ghost use Rattle.mw_rules.specs.Rule.{has, can_reach};
-ghost use Rattle.mw_rules.specs.View.{view};
+ghost use Rattle.std.specs.Prelude.{◌≡◌, ◌+◌, ◌*◌, ◌<◌, ◌≤◌, ◌++◌, ◌∷◌, [], IfOk, OnOk, codes, decimal};
 ghost use Rattle.mw_clock.specs.Clockwork.{IsSize, floor, floors_below, stair, stairs_below, open_location, box, boxes_below, bell, gear, oil, clockwork};
 
 use mw_base::{ItemId, List, LocId, Memory, Text};

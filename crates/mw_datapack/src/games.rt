@@ -1,7 +1,7 @@
 ghost use Rattle.std.specs.Prelude.{◌≡◌, IfOk, map};
 ghost use Rattle.mw_model.specs.Json.{IsOrdered, IsWritable};
-ghost use Rattle.mw_protocol.specs.Packages.{data_members, package_json};
-ghost use Rattle.mw_json.specs.View.{view, member_view, members_view};
+ghost use Rattle.mw_protocol.specs.Packages.{package_json};
+ghost use Rattle.mw_json.specs.View.{view, member_view};
 ghost use Rattle.mw_datapack.specs.Chosen.{chosen_members};
 
 use crate::game::data_tree;

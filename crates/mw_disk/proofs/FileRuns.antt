@@ -2,7 +2,7 @@
 use Rattle.std.proofs.Common.{◌≡◌, ◌<◌, ◌≤◌, ◌⊎◌, inl, inr, ℕ, ◌+◌, ◌-◌, List, length, take, drop, refl, sym, ap, subst, ◌∙◌, arith, Bool, true, false, Option, Some, None}
 use Rattle.std.specs.Prelude.{IsTrue, nat_le, min, ◌==◌, Result, Ok, Err, IfOk, OnOk}
 use Rattle.std.proofs.lemmas.Bool.{and_parts, eqb-true, le-leb, lt-leb}
-use Rattle.std.proofs.lemmas.List.{append-nil, take-take, drop-drop, take_all, take_at, drop_at, length-take, length-drop, length-append, length-replicate}
+use Rattle.std.proofs.lemmas.List.{take-take, drop-drop, take_all, length-take}
 use Rattle.mw_disk.specs.declared.file_event.FileEvent.TheVariants.{Length, Read, Write, Resize, Sync, SyncFolder}
 use Rattle.mw_disk.specs.Crash.{Torn, CutShort, Follows, Elapses, OnlyTold}
 use Rattle.mw_disk.specs.Laws.{unwritten_torn, uncut}

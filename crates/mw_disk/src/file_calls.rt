@@ -1,4 +1,4 @@
-ghost use Rattle.std.specs.Prelude.{◌≡◌, Bool, Some, None, true, IsTrue, length, take, is_ok, MatchResult};
+ghost use Rattle.std.specs.Prelude.{◌≡◌, Bool, Some, None, IsTrue, length, take, is_ok, MatchResult};
 ghost use Rattle.std.specs.Io.{ReadsAtMost, WritesAtMost};
 ghost use Rattle.mw_disk.specs.FileLogs.{FileLog, noted, state_of};
 ghost use Rattle.mw_disk.specs.declared.file_event.FileEvent.TheVariants.{Length, Read, Write, Resize, Sync, SyncFolder};

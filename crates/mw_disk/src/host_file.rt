@@ -1,5 +1,4 @@
-ghost use Rattle.std.specs.Prelude.{◌≡◌, ◌+◌, [], length, Some, None, IfOk, is_ok, MatchResult};
-ghost use Rattle.mw_disk.specs.FileLogs.{noted};
+ghost use Rattle.std.specs.Prelude.{◌≡◌, [], length, Some, None, IfOk, is_ok};
 ghost use Rattle.mw_disk.specs.HostFiles.{host_log};
 ghost use Rattle.mw_disk.specs.System.{file_faults};
 

@@ -1,4 +1,4 @@
-ghost use Rattle.std.specs.Prelude.{◌≡◌, ◌++◌, ◌∷◌, [], List, true, false, Some, None, Ok, Err, IfOk, IfSome, OnOk, OnErr, ◌&&◌, reverse};
+ghost use Rattle.std.specs.Prelude.{◌≡◌, ◌++◌, ◌∷◌, [], true, false, Some, None, Ok, Err, IfOk, IfSome, OnOk, OnErr, ◌&&◌, reverse};
 ghost use Rattle.mw_disk.specs.FileLogs.{FileState, after, is_read, judged_log, laid, state_of};
 ghost use Rattle.mw_disk.specs.declared.file_event.FileEvent.TheVariants.{Read, Write};
 

@@ -1,4 +1,4 @@
-ghost use Rattle.std.specs.Prelude.{◌≡◌, IfOk, OnOk, length, is_ok, take};
+ghost use Rattle.std.specs.Prelude.{◌≡◌, IfOk, OnOk, length, is_ok};
 ghost use Rattle.mw_disk.specs.Calls.{ImageAfter, IsImage, bytes_after, done};
 ghost use Rattle.mw_disk.specs.Crash.{Torn, CutShort};
 

@@ -4,7 +4,7 @@ use Rattle.std.specs.Option.{is_some}
 use Rattle.std.specs.Prelude.{nat_le, unwrap_or}
 use Rattle.mw_model.specs.Seed.{Seed}
 use Rattle.mw_protocol.specs.Connecting.{Member}
-use Rattle.mw_protocol.specs.Lives.{Life, Call, happens, takes as take_call, Reply, messages, overrun as was_overrun, stopped, too_many_calls, Outcome, passes, lacks, stops, fine, append_of, refused_by, refused_to, reply_of, reply_to, reply_unless, outcome}
+use Rattle.mw_protocol.specs.Lives.{Life, Call, happens, takes as take_call, Reply, overrun as was_overrun, stopped, too_many_calls, Outcome, passes, lacks, stops, fine, append_of, refused_by, refused_to, reply_of, reply_to, reply_unless, outcome}
 use Rattle.mw_protocol.specs.Packets.{Inbound}
 use Rattle.mw_protocol.specs.Rooms.{Room, Session, Message, lost, text_of, session_in, member_in, untaken_of}
 use Rattle.mw_keep.specs.Keeps.{Keeps}

@@ -1,7 +1,6 @@
 -- How a run of commands ends.
-use Rattle.std.proofs.Common.{◌≡◌, ◌∙◌, ℕ, Bool, true, false, List, [], ◌∷◌, ◌++◌, Option, map, refl, sym, ap, subst, inl, inr, append_assoc, append-nil, true≢false}
+use Rattle.std.proofs.Common.{◌≡◌, ◌∙◌, ℕ, Bool, true, false, List, [], ◌∷◌, ◌++◌, Option, refl, sym, ap, subst, inl, inr, append_assoc, append-nil, true≢false}
 use Rattle.std.proofs.KnownBytes.{Appends-trans}
-use Rattle.std.proofs.lemmas.List.Elements.{All-append}
 use Rattle.std.specs.Io.KnownBytes.{Appends}
 use Rattle.std.specs.Prelude.{All}
 use Rattle.mw_edges.specs.Causes.{PutsFront}
@@ -15,7 +14,7 @@ use Rattle.mw_keep.specs.Keeps.{Keeps, kept_disk}
 use Rattle.mw_keep.specs.declared.kept.KeptRoom.{KeptRoom}
 use Rattle.mw_keep.specs.Left.{IsLeft}
 use Rattle.mw_keep.proofs.Leaving.{left_of, shut_of}
-use Rattle.mw_script.specs.Commands.{Command, opens, sends, takes, loses, commits, crashes}
+use Rattle.mw_script.specs.Commands.{Command}
 use Rattle.mw_drive.specs.Drive.{text_put, is_full, calls, puts, after, Run, after_puts, run, drive_text}
 use Rattle.mw_drive.specs.Left.{IsGoing, HasDriven, IsPutFrom, KeepsFrom}
 use Rattle.mw_drive.specs.Runs.{IsCut, IsQuietOrDone, HasHalted}

@@ -2,13 +2,11 @@
 use Rattle.std.proofs.Common.{◌≡◌, ◌∙◌, ◌^◌, ◌||◌, ℕ, List, [], ◌∷◌, Bool, true, false, cond, Option, Some, None, refl, sym, ap, subst}
 use Rattle.std.specs.Prelude.{nat_le, nat_lt}
 use Rattle.mw_model.specs.Seed.{Seed}
-use Rattle.mw_protocol.specs.Lives.{Life, Call, happens, commits, takes, Luck, fine, lacking, faulty, Outcome, passes, lacks, stops, StopCause, disk_fault, journal_full, too_many_calls, Reply, opens, done, messages, gone, overrun, stopped, memory, append, append_of, length_with, planned, outcome, answer, reply_of, reply_to, reply_unless, refusal, refused_by, refused_in, refused_to, ends, named_by, room_then, life_after, life_of, life_unless, acts}
+use Rattle.mw_protocol.specs.Lives.{Life, Call, happens, commits, takes, Luck, fine, lacking, faulty, Outcome, passes, lacks, stops, disk_fault, journal_full, too_many_calls, Reply, opens, done, messages, gone, overrun, stopped, memory, append, append_of, length_with, planned, outcome, answer, reply_of, reply_to, reply_unless, refusal, refused_by, refused_in, refused_to, ends, named_by, room_then, life_after, life_of, life_unless, acts}
 use Rattle.mw_protocol.specs.Records.{Record}
 use Rattle.mw_protocol.specs.Rooms.{Room, Session, opened, sent, failed, lost, session_in}
-use Rattle.mw_journal.specs.Journal.{state_of}
-use Rattle.mw_journal.specs.declared.state.JournalState.TheVariants.{Whole}
 use Rattle.mw_keep.specs.Acts.{Acts, is_answered}
-use Rattle.mw_keep.specs.Keeps.{Keeps, journal_of}
+use Rattle.mw_keep.specs.Keeps.{Keeps}
 use Rattle.mw_keep.specs.declared.kept.KeptRoom.{KeptRoom}
 use Rattle.mw_drive.specs.Calls.{failure, error_for, IsDone, HaveStopped}
 use Rattle.mw_drive.specs.Drive.{is_stopped}

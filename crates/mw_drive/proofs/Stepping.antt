@@ -12,7 +12,7 @@ use Rattle.mw_keep.specs.Keeps.{Keeps, kept_disk}
 use Rattle.mw_keep.specs.declared.kept.KeptRoom.{KeptRoom}
 use Rattle.mw_drive.specs.Calls.{IsOutside, HaveStopped, IsPerformed}
 use Rattle.mw_script.specs.Commands.{Command, opens, sends, takes, loses, commits, crashes}
-use Rattle.mw_drive.specs.Drive.{is_crash, is_full, puts, calls, after, text_put, life_recovered}
+use Rattle.mw_drive.specs.Drive.{is_crash, puts, calls, after, text_put, life_recovered}
 use Rattle.mw_drive.specs.Left.{IsGoing}
 use Rattle.mw_drive.specs.Runs.{HasStepped, IsCut, IsOfRun, HasLife, StepsOn}
 use Rattle.mw_drive.specs.declared.error.DriveError.{DriveError}

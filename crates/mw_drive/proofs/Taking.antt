@@ -1,10 +1,9 @@
 -- A session that takes its messages, where memory and the disk don't fail.
 use Rattle.std.proofs.Common.{◌≡◌, ◌^◌, ◌&&◌, ◌⊎◌, ◌∷◌, [], ℕ, List, Bool, true, false, not, cond, Option, Some, None, inl, inr, refl, sym, ap, subst, ◌∙◌, true≢false}
-use Rattle.std.specs.Option.{is_some}
 use Rattle.std.specs.Prelude.{nat_le, nat_lt}
-use Rattle.mw_protocol.specs.Lives.{Life, Call, takes, Reply, messages, overrun, stopped, StopCause, journal_full, too_many_calls, Outcome, passes, lacks, stops, fine, append, append_of, length_with, refusal, refused_by, refused_in, refused_to, reply_of, reply_to, reply_unless, outcome}
+use Rattle.mw_protocol.specs.Lives.{Life, takes, Reply, messages, overrun, stopped, StopCause, journal_full, too_many_calls, Outcome, passes, lacks, stops, fine, append, append_of, length_with, refusal, refused_by, refused_to, reply_of, reply_to, reply_unless, outcome}
 use Rattle.mw_protocol.specs.Records.{Record}
-use Rattle.mw_protocol.specs.Rooms.{Room, Session, session_in}
+use Rattle.mw_protocol.specs.Rooms.{Session, session_in}
 use Rattle.mw_laws.specs.Kept.{Passes}
 use Rattle.mw_drive.specs.Drive.{is_overrun, is_stopped}
 

@@ -1,4 +1,3 @@
-ghost use Rattle.std.specs.Prelude.{◌≡◌, ◌≢◌, ℕ, List, None, IfOk};
 ghost use Rattle.mw_edges.specs.Files.{untold_file, untold_image};
 
 use crate::calls::System;

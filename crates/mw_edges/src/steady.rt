@@ -6,7 +6,7 @@ ghost use Rattle.mw_disk.specs.Calls.{IsImage, bytes_of};
 ghost use Rattle.mw_disk.specs.Crash.{Stays};
 ghost use Rattle.mw_edges.specs.Causes.{CountsErr, HasCause, HasFault, PassesOn, PutsFront};
 ghost use Rattle.mw_edges.specs.Disks.{closed_of, is_open_in, shown_file, steady_file, IsFileImage};
-ghost use Rattle.mw_edges.specs.Files.{entry_of, open_file, with_entry};
+ghost use Rattle.mw_edges.specs.Files.{open_file, with_entry};
 ghost use Rattle.mw_edges.specs.Folders.{GivesFile, IsWritten, MayBeUnread};
 ghost use Rattle.mw_edges.specs.Folders.{opened_bytes, MayBeUnopened, StaysOrIsMade, SameImages};
 

@@ -1,9 +1,8 @@
-ghost use Rattle.std.specs.Prelude.{◌≡◌, IfOk, pos, unwrap_or, []};
+ghost use Rattle.std.specs.Prelude.{◌≡◌, IfOk, unwrap_or, []};
 ghost use Rattle.std.specs.Option.{option_copied};
 ghost use Rattle.mw_protocol.specs.Bouncing.{bouncing as bouncing_lem, named_by as named_by_lem};
 ghost use Rattle.mw_protocol.specs.Heard.{has_number as has_number_lem, is_game_among as is_game_among_lem, is_named as is_named_lem, share_text as share_text_lem};
 ghost use Rattle.mw_protocol.specs.Messages.{bounced};
-ghost use Rattle.mw_packets_out.specs.View.{packet_view};
 ghost use Rattle.mw_effects.specs.Parts.{IsQuiet};
 ghost use Rattle.mw_effects.specs.Views.{effect_view};
 

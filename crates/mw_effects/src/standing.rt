@@ -1,4 +1,4 @@
-ghost use Rattle.std.specs.Prelude.{◌≡◌, [], IfOk};
+ghost use Rattle.std.specs.Prelude.{◌≡◌, IfOk};
 ghost use Rattle.mw_protocol.specs.Standing.{status_in, start};
 ghost use Rattle.mw_effects.specs.Parts.{standing_of};
 

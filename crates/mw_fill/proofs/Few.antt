@@ -10,7 +10,7 @@ use Rattle.mw_multi.specs.WorldKept.{copies}
 use Rattle.mw_multi.specs.Joint as whole
 use Rattle.mw_multi.specs.Joint.{Slot, Link, Joint, LinkKept, IsJoint, world_of, first_slot, slot_at}
 use Rattle.mw_multi.specs.Numbered.{each_numbered}
-use Rattle.mw_multi.specs.Placement.{owners, receiver_numbers}
+use Rattle.mw_multi.specs.Placement.{owners}
 use Rattle.mw_multi.proofs.Numbered.{numbered_le}
 use Rattle.mw_multi.proofs.Owners.{owners_numbers_le, owners_of_slot}
 use Rattle.mw_multi.proofs.Sites.{get_some}
@@ -18,7 +18,7 @@ use Rattle.mw_fill.specs.declared.group.Group.{Group}
 use Rattle.mw_fill.specs.Copies.{ItemCopy, item_is_of, copy_of, entry_copies, slot_copies, shared_copy, shared_copies, link_copies, has_others, copies_of, copy_numbers, all_numbers}
 use Rattle.mw_fill.specs.Generated.{slot_pool_size, link_size}
 use Rattle.mw_fill.proofs.Copying.{pool_all, link_all}
-use Rattle.mw_fill.proofs.Links.{owners_of_link, link_kept}
+use Rattle.mw_fill.proofs.Links.{owners_of_link}
 
 -- ---- how many copies
 

@@ -1,9 +1,9 @@
 -- The links of a joint.
 use Rattle.std.proofs.Common.{◌≡◌, ℕ, zero, suc, ◌+◌, ◌-◌, ◌<◌, Bool, true, false, List, [], ◌∷◌, ◌++◌, Option, Some, None, All, length, get_or, refl, ap, ap₂, sym, subst, ◌∙◌, arith}
 use Rattle.std.specs.Prelude.{flat_map, is_some, option_and_then, nat_le, slice_get, if◌then◌else◌}
-use Rattle.mw_multi.specs.World.{World, Item}
+use Rattle.mw_multi.specs.World.{World}
 use Rattle.mw_multi.specs.RulesKept.{is_progression_item}
-use Rattle.mw_multi.specs.Joint.{Slot, Link, Joint, IsJoint, LinkKept, HasWorld, world_of, first_slot, slot_at}
+use Rattle.mw_multi.specs.Joint.{Slot, Link, Joint, IsJoint, LinkKept, HasWorld, world_of, slot_at}
 use Rattle.mw_multi.specs.Placement.{item_in, members_of, owners, numbers_of, owner_numbers}
 
 -- ---- elements by index

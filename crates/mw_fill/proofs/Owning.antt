@@ -1,11 +1,11 @@
 -- The numbers of copies over all slots, one for each owner of each.
-use Rattle.std.proofs.Common.{◌≡◌, ℕ, suc, ◌+◌, ◌-◌, ◌<◌, ◌≤◌, Bool, true, false, cond, List, [], ◌∷◌, ◌++◌, Option, Some, None, All, length, get_or, map, take, drop, refl, sym, ap, ◌∙◌, inl, inr, arith, append_assoc, append-nil, take-add, take-append-drop}
+use Rattle.std.proofs.Common.{◌≡◌, ℕ, suc, ◌+◌, ◌-◌, ◌<◌, ◌≤◌, Bool, true, false, cond, List, [], ◌∷◌, ◌++◌, All, length, get_or, map, take, drop, refl, sym, ap, ◌∙◌, inl, inr, arith, append_assoc, append-nil, take-add, take-append-drop}
 use Rattle.std.specs.Prelude.{filter, flat_map, sum_by}
 use Rattle.std.proofs.lemmas.Bool.{cases_lt}
 use Rattle.std.proofs.lemmas.List.{drop_at, drop_more, get_or-drop, get_or-map, get_or-take, get_or_append_left, get_or_push, length-append, length-drop, length-map, length-take, take_at, take_more}
-use Rattle.std.proofs.lemmas.List.Concat.{flat_map-append, length-flat_map}
+use Rattle.std.proofs.lemmas.List.Concat.{flat_map-append}
 use Rattle.std.proofs.lemmas.List.Elements.{All-append, All-nil, filter-append}
-use Rattle.std.proofs.lemmas.List.Sums.{sum_by-cons, sum_by-le}
+use Rattle.std.proofs.lemmas.List.Sums.{sum_by-cons}
 use Rattle.mw_rules.specs.Holds.{Places}
 use Rattle.mw_multi.specs.Joint.{Joint, item_total}
 use Rattle.mw_multi.specs.Placement.{Put, put_numbers}

@@ -1,6 +1,6 @@
 -- The copies of pools and links are of the joint's items.
 use Rattle.std.proofs.Common.{◌≡◌, ℕ, zero, suc, ◌+◌, ◌<◌, Bool, true, false, List, [], ◌∷◌, All, get_or, length, refl, sym, ap, subst, ◌∙◌, arith}
-use Rattle.std.proofs.lemmas.List.Elements.{All-nil, All-cons, All-append, All-replicate}
+use Rattle.std.proofs.lemmas.List.Elements.{All-nil, All-cons, All-append}
 use Rattle.std.specs.Prelude.{Option, Some, None, flat_map, is_some, option_and_then, replicate, slice_get, if◌then◌else◌}
 use Rattle.mw_multi.specs.World.{Item, PoolEntry}
 use Rattle.mw_multi.specs.RulesKept.{is_progression_item}
@@ -12,8 +12,7 @@ use Rattle.mw_multi.proofs.Sites.{get_some}
 use Rattle.mw_multi.proofs.Standing.{numbered_slot}
 use Rattle.mw_fill.specs.Kept.{CopyKept}
 use Rattle.mw_fill.specs.declared.group.Group.{Group}
-use Rattle.mw_fill.specs.declared.group.Group.TheVariants.{Asked, Helping, Filling}
-use Rattle.mw_fill.specs.Copies.{is_of, item_is_of, copy_of, entry_copies, shared_copy, shared_copies, copies_of, has_others}
+use Rattle.mw_fill.specs.Copies.{is_of, item_is_of, copy_of, entry_copies, shared_copy, shared_copies, copies_of}
 use Rattle.mw_fill.proofs.Links.{owners_of_link, item_of_slot}
 use Rattle.mw_fill.proofs.Copying.{copies_all}
 

@@ -81,7 +81,8 @@ FillRun joint openings [] puts out = out ≡ filled puts
 FillRun joint openings (copy ∷ later) puts out =
     (table : List (List ℕ)) × (w : Places) × IsPlaced joint (events_of joint ++ puts) table
     × IsLeast (steps_of joint) (in_hand joint later) table w
-    × MatchOption (first_fit (is_allowed joint (bag_with (in_hand joint later) table w) w copy) puts openings)
+    × MatchOption
+    (first_fit (is_allowed joint (bag_with (in_hand joint later) table w) w copy) puts openings)
     (out ≡ stuck_with copy)
     (λ opening. FillRun joint openings later (puts ++ put_of copy opening ∷ []) out)
 

@@ -1,7 +1,7 @@
 -- For proofs alone: what copies and locations of a joint keep, and what is put in the midst of a
 -- fill.
 use Rattle.std.specs.Prelude.{ℕ, ◌≡◌, ◌<◌, List, Option, None, Bool, true, false, ◌&&◌, All, is_none, is_some, length, slice_index_or}
-use Rattle.mw_multi.specs.Joint.{Slot, Joint, place_total, item_total}
+use Rattle.mw_multi.specs.Joint.{Joint, place_total, item_total}
 use Rattle.mw_multi.specs.Placement.{Put, PutKept, AreStanding, site_at, item_at}
 use Rattle.mw_multi.specs.Events.{has_no_event}
 use Rattle.mw_fill.specs.Copies.{ItemCopy, copy_numbers}

@@ -44,7 +44,8 @@ fn first_of(
 ) -> Option<Opening>
     requires within { All (λ s. s.place < length held.now) openings.now }
     ensures { result ≡ find (is_open_in
-        (plain.is_allowed_if joint.now missed (places_in reached.now) copy.now) held.now) openings.now }
+        (plain.is_allowed_if joint.now missed (places_in reached.now) copy.now) held.now)
+        openings.now }
 {
     for opening in openings {
         let free = held[opening.place as usize].is_none();
@@ -69,7 +70,8 @@ fn first_after(
     requires from { from ≤ length openings.now }
     requires taken { AreTaken held.now openings.now from }
     ensures { result ≡ find (is_open_in
-        (plain.is_allowed_if joint.now missed (places_in reached.now) copy.now) held.now) openings.now }
+        (plain.is_allowed_if joint.now missed (places_in reached.now) copy.now) held.now)
+        openings.now }
 {
     first_of(joint, missed, copy, &openings[from..], held, reached)
 }

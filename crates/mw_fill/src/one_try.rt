@@ -1,4 +1,4 @@
-ghost use Rattle.std.specs.Prelude.{◌≡◌, ◌<◌, ◌≤◌, [], List, All, IfOk, MatchResult, length};
+ghost use Rattle.std.specs.Prelude.{◌≡◌, ◌<◌, List, IfOk, MatchResult};
 ghost use Rattle.mw_multi.specs.Placement as plain;
 ghost use Rattle.mw_multi.specs.Placement.{IsPlacement};
 ghost use Rattle.mw_multi.specs.Steps.{rule_list};

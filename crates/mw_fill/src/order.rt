@@ -1,4 +1,4 @@
-ghost use Rattle.std.specs.Prelude.{◌≡◌, ◌≤◌, ◌-◌, List, drop, length, take};
+ghost use Rattle.std.specs.Prelude.{◌≡◌, ◌≤◌, ◌-◌, drop, length, take};
 ghost use Rattle.mw_multi.specs.Joint as plain_joint;
 ghost use Rattle.mw_fill.specs.Laying.{AreOrdered, numbers_between as plain_between};
 
@@ -30,8 +30,8 @@ pub(crate) fn numbers_between<'a>(order: &Order<'a>, from: usize, to: usize) -> 
     requires order { (joint : plain_joint.Joint) × AreOrdered joint order.now.copies.now
         order.now.numbers.now order.now.begins.now order.now.openings.now }
     requires range { (from ≤ to) × (to ≤ length order.now.copies.now) }
-    ensures { (joint : plain_joint.Joint) → AreOrdered joint order.now.copies.now order.now.numbers.now
-        order.now.begins.now order.now.openings.now
+    ensures { (joint : plain_joint.Joint) → AreOrdered joint order.now.copies.now
+        order.now.numbers.now order.now.begins.now order.now.openings.now
         → result.now ≡ plain_between joint order.now.copies.now from to }
 {
     part(order.numbers, order.begins[from], order.begins[to])

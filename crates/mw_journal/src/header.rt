@@ -1,4 +1,4 @@
-ghost use Rattle.std.specs.Prelude.{◌≡◌, ◌≢◌, ◌<◌, ◌≤◌, ◌⊎◌, ◌++◌, ◌∷◌, [], IfOk, IfErr, OnOk, length, take, drop, slice_index};
+ghost use Rattle.std.specs.Prelude.{◌≡◌, ◌≢◌, ◌<◌, ◌≤◌, ◌⊎◌, ◌++◌, ◌∷◌, [], IfOk, IfErr, OnOk, length, take, slice_index};
 ghost use Rattle.mw_journal.specs.Image.{magic, header};
 ghost use Rattle.mw_journal.specs.Opening.{RefusesStep};
 ghost use Rattle.mw_journal.specs.Refused.{IsBadHeader, IsOtherSeed};

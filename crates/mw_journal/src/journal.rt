@@ -1,4 +1,4 @@
-ghost use Rattle.std.specs.Prelude.{◌≡◌, ◌≤◌, ◌<◌, ◌+◌, ◌^◌, ◌++◌, ◌⊎◌, [], ℕ, List, length, is_some, OnOk, OnErr, IfOk, IfErr, IsErrOf};
+ghost use Rattle.std.specs.Prelude.{◌≡◌, ◌≤◌, ◌<◌, ◌+◌, ◌^◌, ◌++◌, ◌⊎◌, ℕ, List, length, is_some, OnOk, IfErr, IsErrOf};
 ghost use Rattle.mw_disk.specs.Crash.{LeavesOnly};
 ghost use Rattle.mw_journal.specs.Settled.{IsSettled};
 

@@ -1,4 +1,4 @@
-ghost use Rattle.std.specs.Prelude.{◌≡◌, ◌≢◌, ◌<◌, ◌≤◌, ◌^◌, ◌⊎◌, ◌++◌, ℕ, List, IfOk, IfErr, OnOk, MatchResult, Some, is_some};
+ghost use Rattle.std.specs.Prelude.{◌≡◌, ◌<◌, ◌≤◌, ◌^◌, ◌⊎◌, ◌++◌, ℕ, List, IfOk, IfErr, OnOk, Some, is_some};
 ghost use Rattle.mw_disk.specs.Crash.{LeavesOnly, OnlyTold};
 ghost use Rattle.mw_journal.specs.Image.{IsShut, StandsAt};
 ghost use Rattle.mw_journal.specs.Opening.{RefusesOpen, IsOfBytes, IsOutside};

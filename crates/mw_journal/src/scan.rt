@@ -1,8 +1,7 @@
-ghost use Rattle.std.specs.Prelude.{◌≡◌, ◌≢◌, ◌<◌, ◌≤◌, ◌+◌, ◌-◌, ◌^◌, ◌++◌, [], ℕ, List, IfOk, IfErr, OnOk, length, take, drop, min, vec_len, Some};
+ghost use Rattle.std.specs.Prelude.{◌≡◌, ◌<◌, ◌≤◌, ◌+◌, ◌-◌, ◌^◌, ◌++◌, [], ℕ, List, IfOk, IfErr, OnOk, length, take, drop, min, Some};
 ghost use Rattle.mw_journal.specs.Image.{IsShut};
 ghost use Rattle.mw_journal.specs.Opening.{RefusesStep, RefusesOpen, Sees, Fits, Reaches};
 ghost use Rattle.mw_journal.specs.Reads.{OnlyReads};
-ghost use Rattle.mw_journal.specs.Refused.{IsBadHeader, IsOtherSeed, wrong_at};
 ghost use Rattle.mw_journal.specs.Scan.{BadHeaderOf, OtherSeedOf, WrongAt, EndsBefore, NoPlace, NoSeed, SeesOf};
 
 use crate::creating::open_error;

@@ -5,7 +5,7 @@ use Rattle.std.proofs.lemmas.Bool.{lt-leb}
 use Rattle.std.proofs.lemmas.List.{append-nil, drop-append-le, length-append, length-drop, take-append-drop, take-append-le}
 use Rattle.std.proofs.Math.Seq.{drop-length, take-length}
 use Rattle.std.specs.declared.option.Option.{Option}
-use Rattle.mw_protocol.specs.Lives.{Call, Life, Luck, fine, lacking, Reply, messages, memory, done, StopCause, disk_fault, journal_full, Outcome, passes, lacks, stops, append, append_of, appended, appended_unless, committed_of, committed_then, pending_of, place_then, shows_pending, happens, commits, takes, answer_to, counted, life_of, life_unless, outcome, records_of, refusal, refused_by, refused_in, named_by, ends, reply_of, reply_unless}
+use Rattle.mw_protocol.specs.Lives.{Call, Life, fine, lacking, Reply, messages, memory, done, StopCause, disk_fault, journal_full, Outcome, passes, lacks, stops, append, append_of, appended, appended_unless, committed_of, committed_then, pending_of, place_then, shows_pending, happens, commits, takes, answer_to, counted, life_of, life_unless, outcome, records_of, refusal, refused_by, refused_in, named_by, ends, reply_of, reply_unless}
 use Rattle.mw_protocol.specs.Records.{Record}
 use Rattle.mw_protocol.specs.Rooms.{Room as Plain, Event, opened, sent, failed, lost, effect_in, next, taken, text_of, untaken_of, session_in}
 use Rattle.mw_protocol.specs.Spelled.{records_bytes}

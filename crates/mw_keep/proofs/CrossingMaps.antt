@@ -5,7 +5,7 @@ use Rattle.std.specs.declared.cmp.PartialEq as eq
 use Rattle.std.specs.declared.hash.Hash as hash
 use Rattle.std.specs.declared.hash.Hasher as hasher
 use Rattle.std.specs.declared.hash.BuildHasher as builder
-use Rattle.std.proofs.Crossing.{crosses, Vec-send}
+use Rattle.std.proofs.Crossing.{Vec-send}
 use Rattle.std.specs.contracts.alloc.Global as heap
 use Rattle.std.specs.contracts.impls.GlobalAllocator.TheImpl as heap_impl
 use Rattle.indexmap.specs.contracts.columns.Columns as Columns

@@ -4,7 +4,7 @@ use Rattle.std.proofs.Common.{◌≡◌, ◌⊎◌, ◌≤◌, ◌+◌, ◌++◌
 use Rattle.std.specs.Prelude.{IsTrue}
 use Rattle.std.proofs.Math.Seq.{take-add, take-append_seam}
 use Rattle.std.proofs.lemmas.Bool.{and_from, and_parts}
-use Rattle.std.proofs.lemmas.List.{append-nil, take-append-drop}
+use Rattle.std.proofs.lemmas.List.{take-append-drop}
 use Rattle.mw_disk.specs.Crash.{LeavesOnly}
 use Rattle.mw_model.specs.Seed.{Seed}
 use Rattle.mw_protocol.specs.Lives.{Life, committed_of, left_by, life_anew, new_life, pending_of}
@@ -17,7 +17,7 @@ use Rattle.mw_journal.specs.declared.state.JournalState.TheVariants.{Whole}
 use Rattle.mw_keep.specs.Entered.{AreSound}
 use Rattle.mw_keep.specs.Holds.{AreRecords, Holds}
 use Rattle.mw_keep.specs.Keeps.{Keeps, journal_of, kept_disk}
-use Rattle.mw_keep.specs.Left.{GoesOn, IsLeft}
+use Rattle.mw_keep.specs.Left.{IsLeft}
 use Rattle.mw_keep.specs.declared.kept.KeptRoom.{KeptRoom}
 
 -- ---- records

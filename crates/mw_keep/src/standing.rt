@@ -1,5 +1,4 @@
-ghost use Rattle.std.specs.Prelude.{◌≡◌, [], None, Some};
-ghost use Rattle.mw_lock.specs.Standing.{MayAnswer, StandsAfter};
+ghost use Rattle.std.specs.Prelude.{None, Some};
 ghost use Rattle.mw_keep.specs.Standing.{HasLived, MayReply};
 ghost use Rattle.mw_keep.specs.Keeps.{origin_of};
 

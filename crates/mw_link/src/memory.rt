@@ -1,7 +1,7 @@
-ghost use Rattle.std.specs.Prelude.{◌≡◌, ◌≢◌, ◌+◌, ◌↔◌, [], ◌∷◌, ◌++◌, true, false, Some, Ok, Err, IsErr, IsErrOf, IsTrue, OnOk, not};
+ghost use Rattle.std.specs.Prelude.{◌≡◌, ◌+◌, ◌↔◌, true, false, Some, Ok, Err, IsErr, IsErrOf, IsTrue, OnOk, not};
 ghost use Rattle.mw_edges.specs.Causes.{HasCause, HasFault};
 ghost use Rattle.mw_edges.specs.FaultPlan.{after_call, fails};
-ghost use Rattle.mw_link.specs.Memory.{AreNew, next_of, new_line, rest_of};
+ghost use Rattle.mw_link.specs.Memory.{next_of, rest_of};
 ghost use Rattle.mw_link.specs.Tells.{Gives, Hears, IfGiven, IsNew, Sends, ended_after, given_after};
 
 use crate::gate::Gate;

@@ -1,5 +1,5 @@
-ghost use Rattle.std.specs.Prelude.{◌≡◌, ◌≢◌, ◌+◌, [], ◌∷◌, ◌++◌, true, false, Some, Ok, Err, IfOk, OnOk, OnErr};
-ghost use Rattle.mw_edges.specs.Causes.{CountsErr, HasCause, HasFault};
+ghost use Rattle.std.specs.Prelude.{◌≡◌, ◌+◌, [], ◌∷◌, ◌++◌, true, false, Some, Ok, Err};
+ghost use Rattle.mw_edges.specs.Causes.{HasCause};
 ghost use Rattle.mw_link.specs.Memory.{AreNew, Line, new_gateway, new_line, next_of, rest_of};
 ghost use Rattle.mw_link.specs.Tells.{Gives, Hears, IfGiven, IsNew, Sends, ended_after, given_after, told};
 

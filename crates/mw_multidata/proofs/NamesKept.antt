@@ -15,13 +15,13 @@ use Rattle.mw_json.specs.declared.refusal.Kind.TheVariants.{DuplicateName, Dupli
 use Rattle.mw_json.specs.declared.refusal.Step.TheVariants.{Name, Index}
 use Rattle.mw_json.proofs.Passing.{after, within}
 use Rattle.mw_model.specs.Ascending.{Ascend, ComesBefore}
-use Rattle.mw_multidata.specs.Names.{demand, known, has_id, ids_differ, game_named, games_named, find_game, has_name, names_differ, start_named, all_names, slot_named, slots_named, played_by, received_by, names_with, groups_named, comes_after, held_named, locations_named, spot_named, sphere_named, spheres_named, names_named}
+use Rattle.mw_multidata.specs.Names.{demand, known, has_id, ids_differ, game_named, games_named, find_game, has_name, names_differ, start_named, all_names, slot_named, slots_named, played_by, received_by, groups_named, comes_after, held_named, locations_named, spot_named, sphere_named, spheres_named, names_named}
 use Rattle.mw_multidata.specs.SeedKept.{entry_id, has_item, has_location, held_cmp}
 use Rattle.mw_multidata.proofs.Bools.{neither}
 use Rattle.mw_multidata.proofs.Ids.{has_id_push}
 use Rattle.mw_multidata.proofs.GroupsKept.{AreGrouped, groups_kept}
 use Rattle.mw_multidata.proofs.Judged.{not_false, demanded, known_kept, NewNames, Differ, split_names, both_new, apart_from, both_differ}
-use Rattle.mw_multidata.proofs.Plays.{PlayAll, GroupsPlay}
+use Rattle.mw_multidata.proofs.Plays.{PlayAll}
 
 -- ---- ids
 

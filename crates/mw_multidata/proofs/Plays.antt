@@ -3,7 +3,7 @@ use Rattle.std.proofs.Common.{◌≡◌, ◌≤◌, ◌<◌, ◌+◌, ◌-◌, �
 use Rattle.std.specs.Prelude.{All, slice_get, nat_le, if◌then◌else◌}
 use Rattle.std.proofs.lemmas.Grind.{common_steps}
 use Rattle.std.proofs.lemmas.List.Elements.{All-head, All-tail}
-use Rattle.mw_model.specs.Seed.{Seed, Slot, Group, Game, slot_of, group_of}
+use Rattle.mw_model.specs.Seed.{Seed, Slot, Group, Game, slot_of}
 use Rattle.mw_multidata.specs.Names.{find_game, played_by, received_by, plays_game}
 use Rattle.mw_multidata.specs.SeedKept.{game_of, game_of_group, played, received}
 

@@ -8,7 +8,7 @@ use Rattle.std.proofs.lemmas.Slice.Eq.{bytes_eq-Decides}
 use Rattle.mw_model.specs.Json.{words, many, Members, find_member, depth, ComeAfter, IsWritable, IsOrdered, MembersAreOrdered}
 use Rattle.mw_model.specs.Games.{game_json, ids_members}
 use Rattle.mw_model.specs.Seed.{Seed, Slot, Group, Game, NamedId, Held, Spot, slot_of, group_of}
-use Rattle.mw_json.specs.Grammar.{number_at, field_at}
+use Rattle.mw_json.specs.Grammar.{number_at}
 use Rattle.mw_json.specs.Reading.{reading, max_depth}
 use Rattle.mw_json.specs.Readers.{list_of_at}
 use Rattle.mw_model.specs.Trees.{items_of}
@@ -23,7 +23,7 @@ use Rattle.mw_multidata.specs.Written.{number_json, server_json, game_member, ga
 use Rattle.mw_multidata.proofs.Bools.{by_two}
 use Rattle.mw_multidata.proofs.Again.{members_in, field_again, number_again, short_again, server_again, games_again, SlotShape, slots_again, GroupShape, is_second, form_again, groups_again, past_groups, HeldShape, held_again, list_again, SpotShape, SphereShape, spheres_again}
 use Rattle.mw_multidata.proofs.NamesAgain.{IsPlayedSlot, names_pass_all}
-use Rattle.mw_multidata.proofs.NamesKept.{IsKnown, IsWithin}
+use Rattle.mw_multidata.proofs.NamesKept.{IsKnown}
 use Rattle.mw_multidata.proofs.Orders.{seed_ordered, seed_plain, seed_shallow}
 use Rattle.mw_multidata.proofs.Plays.{PlayAll, GroupsPlay, slot_game, group_game, all_play, played_same, received_same, number_within, player_within, receiver_within}
 

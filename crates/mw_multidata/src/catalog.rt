@@ -1,4 +1,4 @@
-ghost use Rattle.std.specs.Prelude.{◌≡◌, ◌||◌, ℤ, not, IfOk, OnOk, List, [], Ok, option_map, length, codes};
+ghost use Rattle.std.specs.Prelude.{◌≡◌, ◌||◌, ℤ, not, IfOk, OnOk, List, [], Ok};
 ghost use Rattle.std.specs.Ordering.{int_eq};
 ghost use Rattle.std.specs.HashSet as hashed;
 ghost use Rattle.mw_json.specs.Grammar.{Gives, GivesBy, under};

@@ -1,4 +1,4 @@
-ghost use Rattle.std.specs.Prelude.{◌≡◌, ◌++◌, [], None, map, not, codes};
+ghost use Rattle.std.specs.Prelude.{◌≡◌, [], None, map, not};
 ghost use Rattle.mw_json.specs.Grammar.{Gives};
 ghost use Rattle.mw_json.specs.declared.refusal.Kind.TheVariants.{DuplicateName};
 ghost use Rattle.mw_model.specs.Seed.{slot_of};

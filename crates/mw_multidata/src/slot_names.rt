@@ -1,4 +1,4 @@
-ghost use Rattle.std.specs.Prelude.{◌≡◌, ◌++◌, ◌||◌, List, [], codes};
+ghost use Rattle.std.specs.Prelude.{◌≡◌, ◌++◌, ◌||◌, List, []};
 ghost use Rattle.mw_json.specs.Grammar.{Gives, under};
 ghost use Rattle.mw_json.specs.declared.refusal.Step.TheVariants.{Name, Index};
 ghost use Rattle.mw_multidata.specs.Names.{has_id, has_name, names_differ, start_named, find_game, known, demand, all_names, slot_named, slots_named};

@@ -1,4 +1,3 @@
-ghost use Rattle.std.specs.Prelude.{◌≡◌};
 ghost use Rattle.mw_json.specs.Grammar.{Gives};
 ghost use Rattle.mw_multidata.specs.Names.{spot_named, sphere_named, spheres_named};
 

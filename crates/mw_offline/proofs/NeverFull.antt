@@ -8,7 +8,7 @@ use Rattle.mw_protocol.specs.Checks.{Check, checks_at, has_check, unseen}
 use Rattle.mw_protocol.specs.Connecting.{Member, member_by}
 use Rattle.mw_protocol.specs.Effects.{effect_of}
 use Rattle.mw_protocol.specs.Entering.{joining}
-use Rattle.mw_protocol.specs.Lives.{Life, Call, happens, commits, takes, StopCause, journal_full, too_many_calls, Reply, overrun, stopped, Luck, fine, Outcome, passes, stops, answer, append, append_of, committed_then, counted, ends, length_with, life_after, life_of, life_unless, named_by, new_life, pending_of, place_then, records_of, refusal, refused_by, refused_in, refused_to, reply_of, reply_to, reply_unless, shows_pending}
+use Rattle.mw_protocol.specs.Lives.{Life, Call, happens, commits, takes, journal_full, too_many_calls, Reply, overrun, stopped, fine, passes, stops, answer, append, append_of, committed_then, counted, ends, length_with, life_after, life_of, life_unless, named_by, new_life, pending_of, place_then, records_of, refusal, refused_by, refused_in, refused_to, reply_of, reply_to, reply_unless, shows_pending}
 use Rattle.mw_protocol.specs.Locating.{checks_record}
 use Rattle.mw_protocol.specs.Locations.{location_of, new_checks}
 use Rattle.mw_protocol.specs.Packets.{Connect, connect, location_checks}

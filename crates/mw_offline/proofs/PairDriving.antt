@@ -1,6 +1,6 @@
 -- What the run of a script on a pair room comes to.
-use Rattle.std.proofs.Common.{◌≡◌, ◌∙◌, ◌⊎◌, ◌≤◌, ◌<◌, arith, ℕ, List, Bool, true, Option, Some, None, Result, Ok, Err, codes, is_some, refl, sym, ap, subst, inl, inr}
-use Rattle.std.specs.Prelude.{IfErr, IsErrAnd, OnOk}
+use Rattle.std.proofs.Common.{◌≡◌, ◌∙◌, ◌⊎◌, ◌≤◌, ◌<◌, arith, ℕ, List, Bool, true, Option, Some, Result, Ok, Err, codes, is_some, refl, sym, ap, subst, inl, inr}
+use Rattle.std.specs.Prelude.{IfErr, OnOk}
 use Rattle.std.specs.Io.KnownBytes.{Keeps}
 use Rattle.std.proofs.KnownBytes.{Keeps-refl}
 use Rattle.mw_disk.specs.Crash.{Stays}
@@ -12,7 +12,6 @@ use Rattle.mw_multidata.specs.Digest.{digest_of}
 use Rattle.mw_multidata.specs.SeedOf.{SeedOf}
 use Rattle.mw_protocol.specs.Lives.{Step, life_after_all}
 use Rattle.mw_keep.specs.Left.{IsLeft}
-use Rattle.mw_journal.proofs.Told.{on_ok_one}
 use Rattle.mw_drive.specs.Ends.{Drives, IsAsRead, IsFound, IsOfJournal, Refuses, StopsWith}
 use Rattle.mw_drive.specs.Ends as ends
 use Rattle.mw_drive.specs.Left.{KeepsFound}
@@ -30,17 +29,16 @@ use Rattle.mw_causes.specs.declared.pair_drive_cause.PairDriveCause.{PairDriveCa
 use Rattle.mw_causes.specs.declared.seed_cause.SeedCause.{SeedCause}
 use Rattle.mw_causes.specs.declared.stop.Stop.{Stop}
 use Rattle.mw_causes.specs.declared.stop.Stop.TheVariants.{Fault, Memory, Refused}
-use Rattle.mw_causes.proofs.Endings.{passed_exit}
 use Rattle.mw_pair.specs.Choosing.{IsClosedRoom, IsOpenedRoom, IsUnplayed, NamesJournal, PassesRoom, RefusesChoice, StaysSettled}
-use Rattle.mw_pair.specs.Folders.{AreShut, IsClosed, IsFault, IsOpened, IsUnmoved}
-use Rattle.mw_pair.specs.Names.{IsOther, journal_name}
+use Rattle.mw_pair.specs.Folders.{AreShut, IsClosed, IsFault, IsOpened}
+use Rattle.mw_pair.specs.Names.{journal_name}
 use Rattle.mw_pair.specs.declared.choosing.Chosen.{Chosen}
 use Rattle.mw_pair.proofs.Lifted.{tells_closed, tells_made}
 use Rattle.mw_pair.proofs.Naming.{all_names, shut_number}
 use Rattle.mw_pair.proofs.Since.{room_since, unplayed_since}
-use Rattle.mw_pair.proofs.Steps.{closed_opened, unmoved_then}
-use Rattle.mw_offline.specs.Driving.{JournalKeeps, JournalRead, RunsShort, RunsToEnd, SeedWas, run_of}
-use Rattle.mw_offline.specs.FilesAround.{FilesAround, IsUntouched, files_around}
+use Rattle.mw_pair.proofs.Steps.{closed_opened}
+use Rattle.mw_offline.specs.Driving.{JournalKeeps, JournalRead, RunsShort, RunsToEnd, run_of}
+use Rattle.mw_offline.specs.FilesAround.{FilesAround, files_around}
 use Rattle.mw_offline.specs.PairDriving.{ChoiceStays, IsRefusedChoice, PairDriveDone, PairDriveEnds, PairDriveKeeps, PairDriveStopped, RoomFound, RoomStays, RoomStopped}
 use Rattle.mw_offline.specs.PairFiles.{PairLeaves, PairOthersStay, PairUnplayed}
 use Rattle.mw_offline.proofs.Driving.{accepted_over, drives_over, found_over, from_ok, opened_same, some_for, stops_over, told_bytes}

@@ -1,22 +1,21 @@
 -- Commands on pair rooms, whose seed file was read before.
-use Rattle.std.proofs.Common.{◌≡◌, ◌∙◌, ◌⊎◌, ◌≤◌, ℕ, zero, suc, List, [], ◌++◌, Bool, Option, Some, None, Result, Ok, Err, codes, is_some, refl, sym, ap, subst, inl, inr}
-use Rattle.std.specs.Prelude.{IfErr, IfOk, IsErrAnd, OnErr, OnOk}
+use Rattle.std.proofs.Common.{◌≡◌, ◌∙◌, ◌⊎◌, ◌≤◌, ℕ, zero, suc, List, [], ◌++◌, Bool, Option, Some, Result, Ok, Err, codes, refl, ap, subst, inl, inr}
+use Rattle.std.specs.Prelude.{IfErr, IsErrAnd, OnErr, OnOk}
 use Rattle.std.specs.Io.KnownBytes.{Appends, Keeps}
 use Rattle.std.proofs.KnownBytes.{Keeps-refl}
 use Rattle.std.proofs.lemmas.Result.{on_ok_weaker}
 use Rattle.mw_disk.specs.Crash.{Stays}
 use Rattle.mw_edges.specs.Causes.{PutsFront}
-use Rattle.mw_edges.specs.Folders.{SameImages, StaysOrIsMade, opened_bytes}
+use Rattle.mw_edges.specs.Folders.{SameImages}
 use Rattle.mw_model.specs.Seed.{Seed}
 use Rattle.mw_multidata.specs.Digest.{digest_of}
-use Rattle.mw_multidata.specs.SeedOf.{SeedOf}
 use Rattle.mw_checkpoint.specs.Created.{disk_at}
 use Rattle.mw_checkpoint.specs.declared.error.PairError.{PairError}
 use Rattle.mw_checkpoint.specs.declared.error.PairError.TheVariants as error
 use Rattle.mw_checkpoint.specs.declared.switching.Kept.{Kept}
 use Rattle.mw_causes.specs.Ends.{HasLeft, Ended, IsTold, Told, stop_with}
-use Rattle.mw_causes.specs.PairCauses.{IsOfMaking, making_stop, thin_line, thin_status, thin_stop}
-use Rattle.mw_causes.specs.SeedFiles.{DigestedIn, IsFile, IsSeedStopped}
+use Rattle.mw_causes.specs.PairCauses.{IsOfMaking, making_stop, thin_stop}
+use Rattle.mw_causes.specs.SeedFiles.{DigestedIn, IsSeedStopped}
 use Rattle.mw_causes.specs.Tables.{Files}
 use Rattle.mw_causes.specs.declared.room_cause.RoomCause.{RoomCause}
 use Rattle.mw_causes.specs.declared.room_cause.RoomCause.TheVariants as room_cause
@@ -33,11 +32,11 @@ use Rattle.mw_pair.specs.Thinning.{AreThinned, KeepAllowed, KeepSettled, KeepsPa
 use Rattle.mw_pair.proofs.Lifted.{still_settles, still_stands}
 use Rattle.mw_pair.proofs.Since.{bytes_since, keep_since, settle_since}
 use Rattle.mw_pair.proofs.Steps.{unmoved_then}
-use Rattle.mw_offline.specs.FilesAround.{FilesAround, IsUntouched, files_around}
+use Rattle.mw_offline.specs.FilesAround.{FilesAround, files_around}
 use Rattle.mw_offline.specs.NewRooms.{HasSeed, room_text}
 use Rattle.mw_offline.specs.PairFiles.{PairOthersStay, PairUntouched}
 use Rattle.mw_offline.specs.PairRooms.{HasMakingCause, HasPairCause, IsPairRoom, MakesPair, MakesSomePair, PairRoomEnds}
-use Rattle.mw_offline.specs.ThinRuns.{IsThinnedIn, ThinDone, ThinEnds, ThinFails, ThinKeeps, ThinRefused, ThinStopped, ThinUntold, kept_text}
+use Rattle.mw_offline.specs.ThinRuns.{IsThinnedIn, ThinDone, ThinEnds, ThinFails, ThinKeeps, ThinStopped, kept_text}
 use Rattle.mw_offline.proofs.Driving.{told_bytes}
 use Rattle.mw_words.specs.declared.command_line.NewRoomWords.{NewRoomWords}
 use Rattle.mw_words.specs.declared.command_line.ThinWords.{ThinWords}

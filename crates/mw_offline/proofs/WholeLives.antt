@@ -1,14 +1,14 @@
 -- All runs on one journal keep what any of them put.
-use Rattle.std.proofs.Common.{◌≡◌, ◌⊎◌, ◌∙◌, ℕ, List, [], ◌∷◌, ◌++◌, Option, Some, None, true, refl, sym, ap, subst, inl, inr, append_assoc, append-nil, length, take, drop}
+use Rattle.std.proofs.Common.{◌≡◌, ◌⊎◌, ◌∙◌, ℕ, List, [], ◌∷◌, ◌++◌, Option, Some, None, true, refl, sym, ap, subst, inl, append_assoc, append-nil, length, take, drop}
 use Rattle.std.specs.Option.{is_some}
 use Rattle.std.specs.List.{AllByRecursion}
-use Rattle.std.specs.Prelude.{All, Contains, IsTrue, slice_index_or}
+use Rattle.std.specs.Prelude.{All, IsTrue, slice_index_or}
 use Rattle.mw_causes.specs.Tables.{Files}
 use Rattle.mw_drive.proofs.Calling.{all_after}
 use Rattle.mw_drive.proofs.Telling.{kept_later}
 use Rattle.mw_drive.specs.Drive.{Put, gone, overrun, message, text_put}
 use Rattle.mw_drive.specs.Ends.{IsFound}
-use Rattle.mw_drive.specs.Left.{IsKept, IsTold, KeepsShown}
+use Rattle.mw_drive.specs.Left.{IsKept, IsTold}
 use Rattle.mw_edges.specs.Causes.{PutsFront}
 use Rattle.mw_edges.specs.Folders.{opened_bytes}
 use Rattle.mw_journal.specs.Settled.{AllShut}
@@ -18,15 +18,13 @@ use Rattle.mw_laws.specs.Items.{ItemsComeOnce}
 use Rattle.mw_laws.specs.Kept.{journal_after}
 use Rattle.mw_laws.specs.Shows.{ShowsChecked}
 use Rattle.mw_laws.specs.Tails.{taking}
-use Rattle.mw_model.specs.Items.{NetItem}
 use Rattle.mw_model.specs.Seed.{Seed}
 use Rattle.mw_protocol.specs.Asked.{view}
 use Rattle.mw_protocol.specs.Connecting.{Member}
-use Rattle.mw_protocol.specs.Lives.{Life, Step, crashes, fine, left_by, life_after_all, new_life}
-use Rattle.mw_protocol.specs.Messages.{received_items}
+use Rattle.mw_protocol.specs.Lives.{Life, Step, crashes, fine, life_after_all, new_life}
 use Rattle.mw_protocol.specs.Records.{Record}
 use Rattle.mw_protocol.specs.Rooms.{Message}
-use Rattle.mw_offline.specs.WholeLives.{AreKept, AreRuns, GoesOnFrom, JournalsKeep, KeepsMessage, KeepsOn, KeepsPut, KeepsRun, Run, last_of}
+use Rattle.mw_offline.specs.WholeLives.{AreKept, AreRuns, GoesOnFrom, KeepsMessage, KeepsOn, KeepsPut, KeepsRun, Run, last_of}
 use Rattle.mw_offline.proofs.Driving.{fewer_left}
 
 -- ---- what was put

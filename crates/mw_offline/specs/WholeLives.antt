@@ -1,6 +1,6 @@
 -- The whole life of a journal: a room that was made new, and then runs of `drive` on it, each on what
 -- a crash may have left of the one before.
-use Rattle.std.specs.Prelude.{◌≡◌, ℕ, ◌∷◌, List, [], Option, Some, All, Contains, IsTrue, is_some, length, take, drop}
+use Rattle.std.specs.Prelude.{◌≡◌, ℕ, ◌∷◌, List, [], Option, All, Contains, IsTrue, is_some, length, take, drop}
 use Rattle.std.specs.List.{AllByRecursion}
 use Rattle.mw_causes.specs.Tables.{Files}
 use Rattle.mw_drive.specs.Drive.{Put, gone, overrun, message, text_put}

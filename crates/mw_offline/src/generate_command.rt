@@ -1,7 +1,6 @@
 //! The command `generate`.
-ghost use Rattle.std.specs.Prelude.{◌≡◌, ◌≢◌, ◌≤◌, ◌⊎◌, ℕ, List, Ok, IfOk, IfErr, OnOk, OnErr, length, string_bytes};
-ghost use Rattle.mw_edges.specs.Causes.{HasFault, Rose};
-ghost use Rattle.mw_edges.specs.Folders.{IsWritten};
+ghost use Rattle.std.specs.Prelude.{◌≡◌, ◌≢◌, ◌≤◌, ◌⊎◌, ℕ, List, Ok, IfOk, IfErr, OnOk, length, string_bytes};
+ghost use Rattle.mw_edges.specs.Causes.{Rose};
 ghost use Rattle.mw_multi.specs.Files.{world_files};
 ghost use Rattle.mw_multi.specs.JointOf.{joint_of};
 ghost use Rattle.mw_causes.specs.Ends.{HasLeft, told_by};

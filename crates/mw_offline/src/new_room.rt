@@ -1,5 +1,5 @@
 //! The command `new-room`.
-ghost use Rattle.std.specs.Prelude.{◌≡◌, ◌≤◌, ◌⊎◌, ℕ, List, [], IfErr, OnOk, true, false};
+ghost use Rattle.std.specs.Prelude.{◌≡◌, ◌≤◌, ◌⊎◌, [], IfErr, OnOk, true, false};
 ghost use Rattle.mw_edges.specs.Causes.{Rose};
 ghost use Rattle.mw_journal.specs.Settled.{AllShut};
 ghost use Rattle.mw_causes.specs.Ends.{HasLeft, told_by};

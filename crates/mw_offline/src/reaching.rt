@@ -1,4 +1,4 @@
-ghost use Rattle.std.specs.Prelude.{◌≡◌, ◌≤◌, ◌+◌, ◌++◌, ◌^◌, ◌<◌, ℕ, IfOk, OnOk, map, length, string_bytes};
+ghost use Rattle.std.specs.Prelude.{◌≡◌, ◌+◌, ◌++◌, ◌^◌, ◌<◌, ℕ, IfOk, OnOk, map, length, string_bytes};
 ghost use Rattle.mw_rules.specs.Holds.{Places};
 ghost use Rattle.mw_multi.specs.Joint.{slot_places};
 ghost use Rattle.mw_multi.specs.Bags.{IsBagOf};

@@ -1,5 +1,4 @@
 ghost use Rattle.std.specs.Prelude.{◌≡◌, ◌+◌, ◌++◌, false, IfOk, OnOk, map, length};
-ghost use Rattle.mw_checks.specs.Log.{checks_of};
 ghost use Rattle.mw_protocol.specs.Checks.{locations_in};
 ghost use Rattle.mw_protocol.specs.Connecting as plain;
 ghost use Rattle.mw_protocol.specs.Owed.{items_from, update_with, growth_owed as growth_owed_lem};

@@ -1,4 +1,3 @@
-ghost use Rattle.std.specs.Prelude.{◌≡◌};
 ghost use Rattle.mw_json.specs.View.{view, members_view};
 ghost use Rattle.mw_json.specs.Grammar.{Gives, GivesBy};
 ghost use Rattle.mw_packets_in.specs.Kept.{AreRead};

@@ -1,5 +1,5 @@
-ghost use Rattle.std.specs.Prelude.{◌≡◌, ◌∷◌, [], All, IfOk, map};
-ghost use Rattle.mw_model.specs.Json.{find_member, many, members};
+ghost use Rattle.std.specs.Prelude.{◌≡◌, All, IfOk, map};
+ghost use Rattle.mw_model.specs.Json.{many, members};
 ghost use Rattle.mw_json.specs.View.{view, items_view, members_view};
 ghost use Rattle.mw_packets_in.specs.Kept.{AreRead, IsRead};
 ghost use Rattle.mw_packets_in.specs.PacketsOf.{all_bad as all_bad_lem, each_inbound, inbound_named, inbound_of as inbound_of_lem, location_named, message_of as message_of_lem, packets_of as packets_of_lem, storage_named};

@@ -1,4 +1,4 @@
-ghost use Rattle.std.specs.Prelude.{◌≡◌, All, codes};
+ghost use Rattle.std.specs.Prelude.{All, codes};
 ghost use Rattle.mw_json.specs.Grammar.{Gives, field_at};
 ghost use Rattle.mw_json.specs.Readers.{each_from};
 ghost use Rattle.mw_json.specs.View.{view, items_view, members_view};

@@ -2,7 +2,7 @@ ghost use Rattle.std.specs.Prelude.{◌≡◌, ◌++◌, [], IfOk, None, Result,
 ghost use Rattle.mw_protocol.specs.Packets as plain;
 ghost use Rattle.mw_json.specs.Grammar.{Breach, GivesBy};
 ghost use Rattle.mw_packets_in.specs.PacketsOf.{bad as bad_lem, outermost as outermost_lem, told as told_lem};
-ghost use Rattle.mw_packets_in.specs.View.{bad_view, inbound_view, kind_view, packet_view};
+ghost use Rattle.mw_packets_in.specs.View.{inbound_view, kind_view, packet_view};
 
 use crate::bad::{Bad, BadKind};
 use crate::inbound::Inbound;

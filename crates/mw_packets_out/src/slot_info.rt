@@ -1,9 +1,9 @@
-ghost use Rattle.std.specs.Prelude.{◌≡◌, ◌≤◌, IfOk, decimal, length, map};
-ghost use Rattle.mw_model.specs.Json.{IsWritable, MembersAreWritable, many, members};
+ghost use Rattle.std.specs.Prelude.{◌≡◌, IfOk, decimal, map};
+ghost use Rattle.mw_model.specs.Json.{IsWritable, many, members};
 ghost use Rattle.mw_model.specs.Trees.{items_of};
 ghost use Rattle.mw_protocol.specs.Messages.{number_json, slot_info_members, slot_json};
 ghost use Rattle.mw_protocol.specs.Messages.{slot_type as slot_type_lem};
-ghost use Rattle.mw_json.specs.View.{view, members_view};
+ghost use Rattle.mw_json.specs.View.{view};
 
 use crate::people::NetworkSlot;
 use crate::placing::insert;

@@ -1,6 +1,6 @@
 //! The names of the three files of a pair room.
-ghost use Rattle.std.specs.Prelude.{◌≡◌, ◌++◌, IfOk, codes};
-ghost use Rattle.mw_pair.specs.Names.{file_names, journal_name};
+ghost use Rattle.std.specs.Prelude.{◌≡◌, ◌++◌, IfOk};
+ghost use Rattle.mw_pair.specs.Names.{file_names};
 
 use mw_base::{Memory, Text};
 use std::alloc::Global;

@@ -1,5 +1,5 @@
 //! The locations that the input names.
-ghost use Rattle.std.specs.Prelude.{◌≡◌, ◌<◌, ◌≤◌, ◌⊎◌, ◌++◌, IfOk, Err, None, Some, length, take};
+ghost use Rattle.std.specs.Prelude.{◌≡◌, ◌<◌, ◌≤◌, ◌++◌, IfOk, Err, None, Some, length, take};
 ghost use Rattle.std.specs.Io.KnownBytes.{Consumes, IsAtEnd};
 ghost use Rattle.mw_edges.specs.Causes.{Rose};
 ghost use Rattle.mw_play.specs.Ids.{HasIds, HasNoIds, IsRead, id_in as id_in_lem, id_of as id_of_lem, ids_in as ids_in_lem};

@@ -1,5 +1,5 @@
 //! What `multiplay` prints.
-ghost use Rattle.std.specs.Prelude.{◌≡◌, ◌++◌, ◌∷◌, IfOk, OnOk, string_bytes};
+ghost use Rattle.std.specs.Prelude.{◌≡◌, ◌++◌, IfOk, OnOk, string_bytes};
 ghost use Rattle.std.specs.List.{flat_map};
 ghost use Rattle.mw_play.specs.Printing.{behind_blank, item_line, joined, list_text as list_text_lem, refusal_line as refusal_line_lem};
 

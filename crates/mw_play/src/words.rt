@@ -1,4 +1,4 @@
-ghost use Rattle.std.specs.Prelude.{◌≡◌, ◌≤◌, ℕ, IfOk, Err, length, option_to_list};
+ghost use Rattle.std.specs.Prelude.{◌≡◌, ◌≤◌, IfOk, Err, length, option_to_list};
 ghost use Rattle.mw_play.specs.Words.{IsPlay};
 
 use mw_base::{Memory, Text};

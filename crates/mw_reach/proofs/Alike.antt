@@ -1,6 +1,6 @@
 -- Bags that have as many of each progression item come to the same, since rules ask for no other.
 use Rattle.std.proofs.Common.{◌≡◌, ℕ, suc, ◌+◌, true, eqb, List, [], ◌∷◌, ◌++◌, Some, get_or, map, All, refl, sym, ap, ap₂, subst, ◌∙◌, inl, inr, arith}
-use Rattle.std.specs.Prelude.{◌&&◌, flat_map, is_none, slice_get, if◌then◌else◌}
+use Rattle.std.specs.Prelude.{◌&&◌, flat_map, slice_get, if◌then◌else◌}
 use Rattle.std.proofs.lemmas.Bool.{false≢true, or_cases, eqb-true}
 use Rattle.std.proofs.lemmas.List.Concat.{flat_map-cons}
 use Rattle.std.proofs.lemmas.List.Elements.{All-nil, All-cons, All-append, All-map}
@@ -15,8 +15,7 @@ use Rattle.mw_multi.specs.Joint.{Slot, Joint, SlotKept, IsJoint}
 use Rattle.mw_multi.specs.Steps.{Step, entrance_step, location_step, location_steps, origin_step, slot_steps, steps_of}
 use Rattle.mw_reach.specs.Reach.{Placed, found, bag_with, starts_in, is_open, Closed, IsLeast}
 use Rattle.mw_reach.specs.Goals.{goal_holds, unmet_from, unmet_goal}
-use Rattle.mw_reach.specs.Required.{is_required, missed_location, or_location, first_lack}
-use Rattle.mw_reach.proofs.Requiring.{required_is}
+use Rattle.mw_reach.specs.Required.{missed_location, or_location, first_lack}
 
 -- as many of each progression item of the slot
 abbrev pub SlotAlike : Bag → Bag → Slot → Type 0
@@ -96,7 +95,3 @@ goals_alike joint kept a b alike placed w = unmet_alike 1 joint.slots a b placed
 
 pub lack_alike : (joint : Joint) → IsJoint joint → (a b : Bag) → All (SlotAlike a b) joint.slots → (placed : Placed) (w : Places) → first_lack joint (bag_with a placed w) w ≡ first_lack joint (bag_with b placed w) w
 lack_alike joint kept a b alike placed w = ap (λ u. or_location u (missed_location joint w)) (goals_alike joint kept a b alike placed w)
-
-pub required_alike : (joint : Joint) → IsJoint joint → (a b : Bag) → All (SlotAlike a b) joint.slots → (placed : Placed) (w : Places) → is_required joint (bag_with a placed w) w ≡ is_required joint (bag_with b placed w) w
-required_alike joint kept a b alike placed w =
-    required_is joint (bag_with a placed w) w ∙ ap is_none (lack_alike joint kept a b alike placed w) ∙ sym (required_is joint (bag_with b placed w) w)

@@ -19,7 +19,6 @@ use Rattle.mw_reach.specs.Goals.{goal_holds, GoalsHold, unmet_from, unmet_goal, 
 use Rattle.mw_reach.specs.Building.{HasRules}
 use Rattle.mw_reach.specs.Rows.{no_slot, slot_at}
 use Rattle.mw_reach.proofs.Slots.{rules_back, slot_fits, slot_rules_there}
-use Rattle.mw_reach.proofs.Walks.{bag_more}
 
 -- ---- more items and places
 
@@ -61,10 +60,7 @@ unmet_from-same number (s ∷ slots) a b w h = elim (cases_Bool (goal_holds a w 
   | inr fails ↦ unmet a w s number slots fails ∙ sym (unmet b w s number slots (sym (goal_same a b w s h) ∙ fails))
 ]
 
--- each goal holds exactly where none is the first that doesn't
-pub goals_hold : (joint : Joint) (bag : Bag) (w : Places) → unmet_goal joint bag w ≡ None → GoalsHold joint bag w
-goals_hold joint bag w e = all_met 1 joint.slots bag w e
-
+-- where each goal holds none is the first that doesn't
 pub no_goal_unmet : (joint : Joint) (bag : Bag) (w : Places) → GoalsHold joint bag w → unmet_goal joint bag w ≡ None
 no_goal_unmet joint bag w all = none_unmet 1 joint.slots bag w all
 
@@ -76,12 +72,6 @@ unmet_goal-same joint a b w h = unmet_from-same 1 joint.slots a b w h
 module _ (joint : Joint) (placed : Placed) (w : Places) (least : IsLeast (steps_of joint) (start_count joint.slots) placed w) where
   abbrev bag : Bag
   bag = bag_with (start_count joint.slots) placed w
-
-  -- goals that hold for the least list hold for every closed one
-  pub met_by_least : unmet_goal joint bag w ≡ None → MeetsGoals joint placed
-  met_by_least e = λ v closed.
-      let part = least.least v closed in
-      goals_more joint bag (bag_with (start_count joint.slots) placed v) w v (bag_more (start_count joint.slots) placed w v part) part (goals_hold joint bag w e)
 
   pub least_of_met : MeetsGoals joint placed → unmet_goal joint bag w ≡ None
   least_of_met meets = no_goal_unmet joint bag w (meets w least.closed)

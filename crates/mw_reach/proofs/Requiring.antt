@@ -16,7 +16,7 @@ use Rattle.mw_reach.specs.Goals.{goal_holds, unmet_from, unmet_goal}
 use Rattle.mw_reach.specs.Required.{first_outside, wanted, missed_in, slot_required, is_required, Required, IsBeatable, or_later, missed_from, missed_location, or_location, first_lack}
 use Rattle.mw_reach.specs.declared.lack.Lack.{Lack}
 use Rattle.mw_reach.specs.Rows.{slot_at}
-use Rattle.mw_reach.proofs.Beating.{goal_more, unmet_goal-same, unmet_by_counts, slot_here}
+use Rattle.mw_reach.proofs.Beating.{goal_more, unmet_by_counts, slot_here}
 use Rattle.mw_reach.proofs.Walks.{bag_more}
 
 -- ---- nothing lacks exactly where all is as required
@@ -109,13 +109,6 @@ slots_more a b v w (s ∷ slots) more part e =
 pub required_more : (joint : Joint) (a b : Bag) (v w : Places) → HasNoLess a b → IsPartOf v w → Required joint a v → Required joint b w
 required_more joint a b v w more part e = slots_more a b v w joint.slots more part e
 
--- with as many of each item it's the same
-pub first_lack-same : (joint : Joint) (a b : Bag) (w : Places) → ((i : ℕ) → a i ≡ b i) → first_lack joint a w ≡ first_lack joint b w
-first_lack-same joint a b w h = ap (λ u. or_location u (missed_location joint w)) (unmet_goal-same joint a b w h)
-
-pub is_required-same : (joint : Joint) (a b : Bag) (w : Places) → ((i : ℕ) → a i ≡ b i) → is_required joint a w ≡ is_required joint b w
-is_required-same joint a b w h = required_is joint a w ∙ ap is_none (first_lack-same joint a b w h) ∙ sym (required_is joint b w)
-
 -- what is lacking by counts in hand
 pub lack_by_counts : (joint : Joint) (base : List ℕ) (placed : Placed) (w : Places) (counts : List ℕ) (start : Bag) → ((i : ℕ) → bag_of base i ≡ start i)
     → ((i : ℕ) → bag_of counts i ≡ bag_with (bag_of base) placed w i) → first_lack joint (bag_of counts) w ≡ first_lack joint (bag_with start placed w) w
@@ -132,9 +125,6 @@ module _ (joint : Joint) (placed : Placed) (w : Places) (least : IsLeast (steps_
   beatable_by_least e = λ v closed.
       let part = least.least v closed in
       required_more joint bag (bag_with (start_count joint.slots) placed v) w v (bag_more (start_count joint.slots) placed w v part) part (required_of_none joint bag w e)
-
-  pub least_of_beatable : IsBeatable joint placed → first_lack joint bag w ≡ None
-  least_of_beatable beatable = none_of_required joint bag w (beatable w least.closed)
 
 -- ---- location by location, and slot by slot
 

@@ -18,7 +18,8 @@ LiesWithin items placed = All (All (λ i. i < items)) placed
 
 -- no count gets too large, however many of the other places are added
 abbrev pub CountsFit : Placed → List Bool → List ℕ → Type 0
-CountsFit placed places counts = (i : ℕ) → bag_of counts i + found placed (outside places) i < 2 ^ 32
+CountsFit placed places counts =
+    (i : ℕ) → bag_of counts i + found placed (outside places) i < 2 ^ 32
 
 -- how many places aren't in the list
 abbrev pub missing : List Bool → ℕ

@@ -1,4 +1,4 @@
-ghost use Rattle.std.specs.Prelude.{◌≡◌, ◌++◌, ◌∷◌, [], IfOk, OnOk, map};
+ghost use Rattle.std.specs.Prelude.{◌≡◌, ◌++◌, IfOk, OnOk, map};
 ghost use Rattle.mw_rules.specs.View.{view};
 ghost use Rattle.mw_reach.specs.Split as plain;
 ghost use Rattle.mw_reach.specs.Split.{entrance_always, location_always, slot_always, always_list};

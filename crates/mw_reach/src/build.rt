@@ -1,5 +1,5 @@
-ghost use Rattle.std.specs.Prelude.{◌≡◌, ◌<◌, ◌≤◌, ◌+◌, ◌^◌, ◌∷◌, ◌++◌, [], Some, None, All, List, OnOk, IfOk, length, map};
-ghost use Rattle.mw_multi.specs.Joint.{place_total, item_total};
+ghost use Rattle.std.specs.Prelude.{◌≡◌, ◌<◌, ◌≤◌, ◌+◌, ◌^◌, ◌∷◌, ◌++◌, [], Some, List, OnOk, IfOk, length, map};
+ghost use Rattle.mw_multi.specs.Joint.{place_total};
 ghost use Rattle.mw_multi.specs.Steps.{entrance_rule, location_rule, entrance_step, location_steps, origin_step, slot_rules, slot_steps, steps_of, rule_list};
 ghost use Rattle.mw_reach.specs.Rows.{StartFits, steps_in};
 ghost use Rattle.mw_reach.specs.Building.{SlotFits, HasRules, AreJointRows};

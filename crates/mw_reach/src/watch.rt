@@ -1,4 +1,4 @@
-ghost use Rattle.std.specs.Prelude.{◌≡◌, ◌<◌, ◌≤◌, ◌+◌, ◌^◌, ◌∷◌, ◌++◌, [], Some, None, All, List, OnOk, length, nat_eq};
+ghost use Rattle.std.specs.Prelude.{◌≡◌, ◌<◌, ◌+◌, ◌^◌, ◌∷◌, ◌++◌, [], Some, None, All, OnOk, length, nat_eq};
 ghost use Rattle.mw_reach.specs.Reach.{one_if, times_in};
 ghost use Rattle.mw_reach.specs.Building.{StartsThere, StartsNowhere, AddsStep};
 ghost use Rattle.mw_reach.specs.Tables.{IsNoted, shifted, but_at};

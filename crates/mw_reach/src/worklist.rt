@@ -7,7 +7,6 @@ ghost use Rattle.mw_multi.specs.Joint.{Joint, item_total, place_total, slot_item
 ghost use Rattle.mw_multi.specs.Placement.{numbers_at};
 ghost use Rattle.mw_multi.specs.Steps.{Step, rule_list};
 ghost use Rattle.mw_reach.specs.Reach.{is_open as step_is_open};
-ghost use Rattle.mw_reach.specs.Counts.{missing};
 ghost use Rattle.mw_reach.specs.Rows.{slot_at, step_of};
 ghost use Rattle.mw_reach.specs.Reached.{IsTallyFor, IsFrontierFor};
 ghost use Rattle.mw_reach.specs.Worklist.{IsOrigin, Wakes, cost_at, steps_at, numbers_of};

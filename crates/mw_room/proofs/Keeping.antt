@@ -13,7 +13,7 @@ use Rattle.mw_protocol.specs.Standing.{Standing, steps, standing}
 use Rattle.mw_owed.specs.Written.{message_of}
 use Rattle.mw_room.specs.Known as kept
 use Rattle.mw_laws.proofs.Journal.{steps-append}
-use Rattle.mw_room.specs.Known.{Shown, shown, known, shown_after, fresh_session, emptied, member_at, members_of, shown_at, texts_at, emptied_among, leaves, known_effect, known_affected, known_next, known_taken, Known}
+use Rattle.mw_room.specs.Known.{Shown, shown, known, shown_after, emptied, member_at, members_of, shown_at, texts_at, emptied_among, leaves, known_effect, known_affected, known_next, known_taken, Known}
 
 -- ---- one session
 

@@ -1,8 +1,8 @@
-ghost use Rattle.std.specs.Prelude.{◌≡◌, ◌+◌, ◌++◌, ◌∷◌, ◌≤◌, ◌^◌, ℕ, [], IfOk, IsErr, map, length};
+ghost use Rattle.std.specs.Prelude.{◌≡◌, ◌+◌, ◌∷◌, ◌≤◌, ◌^◌, ℕ, [], IfOk, IsErr, map, length};
 ghost use Rattle.mw_protocol.specs.Rooms as plain;
 ghost use Rattle.mw_packets_in.specs.View.{packet_view, bad_view};
 ghost use Rattle.mw_room.specs.Fits.{Fits, ChangesFit};
-ghost use Rattle.mw_room.specs.Known.{Known, greeted, texts_at, known_affected, known_next, known_taken};
+ghost use Rattle.mw_room.specs.Known.{greeted, texts_at, known_affected, known_taken};
 ghost use Rattle.mw_room.specs.Represents.{Represents, Plans, IsPlan};
 ghost use Rattle.mw_room.specs.Events.{event_view};
 ghost use Rattle.mw_room.specs.States.{state_of};

@@ -1,9 +1,8 @@
-ghost use Rattle.std.specs.Prelude.{◌≡◌, ◌++◌, ◌&&◌, ◌==◌, ◌<◌, ◌^◌, ◌+◌, ℕ, IfOk, OnOk, option_to_list, map};
+ghost use Rattle.std.specs.Prelude.{◌≡◌, ◌++◌, ◌&&◌, ◌==◌, ◌<◌, ◌+◌, ℕ, IfOk, OnOk, option_to_list, map};
 ghost use Rattle.mw_protocol.specs.Owed.{owed, answers_to as answers_to_lem};
 ghost use Rattle.mw_protocol.specs.Rooms.{member_after as member_after_lem};
 ghost use Rattle.mw_packets_out.specs.View.{packet_view};
 ghost use Rattle.mw_room.specs.Fits.{ChangesFit};
-ghost use Rattle.mw_room.specs.Known.{shown_after};
 ghost use Rattle.mw_effects.specs.Parts.{IsLogged};
 ghost use Rattle.mw_effects.specs.Views.{effect_view};
 ghost use Rattle.mw_owed.specs.Shared.{IsShared};

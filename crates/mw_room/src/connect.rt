@@ -1,4 +1,4 @@
-ghost use Rattle.std.specs.Prelude.{◌≡◌, ◌≤◌, ◌-◌, ◌++◌, length, slice_get, IfOk, OnOk, unwrap_or, []};
+ghost use Rattle.std.specs.Prelude.{◌≡◌, ◌≤◌, ◌-◌, ◌++◌, length, IfOk, OnOk, []};
 ghost use Rattle.std.specs.Option.{option_copied};
 ghost use Rattle.mw_protocol.specs.Connecting.{connect_errors as connect_errors_lem, error_where, is_game_of as is_game_of_lem, is_old as is_old_lem, is_wrong_password as is_wrong_password_lem, looks_on as looks_on_lem, member_by as member_by_lem, player_named as player_named_lem, slot_played as slot_played_lem, team_named as team_named_lem, text_or_empty};
 ghost use Rattle.mw_room.specs.Joining.{errors_with, mask_asked, member_where as member_where_lem};

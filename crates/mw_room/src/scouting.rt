@@ -1,4 +1,4 @@
-ghost use Rattle.std.specs.Prelude.{◌≡◌, ◌++◌, ◌∷◌, [], ℕ, IfOk, OnOk, map};
+ghost use Rattle.std.specs.Prelude.{◌≡◌, ◌++◌, ◌∷◌, [], IfOk, OnOk, map};
 ghost use Rattle.mw_protocol.specs.Checks.{checks_at};
 ghost use Rattle.mw_protocol.specs.Locating.{hints_scouted as hints_scouted_lem, scouting as scouting_lem};
 ghost use Rattle.mw_protocol.specs.Locations.{scouted_at};

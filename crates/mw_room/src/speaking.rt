@@ -1,4 +1,4 @@
-ghost use Rattle.std.specs.Prelude.{◌≡◌, ◌++◌, ◌∷◌, [], None, IfOk, IsTrue, map};
+ghost use Rattle.std.specs.Prelude.{◌≡◌, ◌∷◌, [], None, IfOk, IsTrue, map};
 ghost use Rattle.mw_base.specs.Permissions.{permission_number};
 ghost use Rattle.mw_model.specs.Statuses.{is_client_status};
 ghost use Rattle.std.specs.Option.{option_to_list};

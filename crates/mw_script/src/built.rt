@@ -1,7 +1,6 @@
 ghost use Rattle.std.specs.Prelude.{◌≡◌, ◌++◌, ◌∷◌, [], OnOk, IfOk, map};
 ghost use Rattle.std.specs.Option.{option_to_list};
 ghost use Rattle.mw_packets_in.specs.PacketsOf.{packets_of as packets_of_lem};
-ghost use Rattle.mw_packets_in.specs.View.{inbound_view};
 ghost use Rattle.mw_script.specs.Commands.{command_view, sends};
 ghost use Rattle.mw_script.specs.Lines.{line_of as line_of_lem};
 ghost use Rattle.mw_script.specs.Script.{asked_by};

@@ -1,6 +1,6 @@
 //! The items of receivers' worlds by their ids: one index for a world, however many slots and links
 //! are of it.
-ghost use Rattle.std.specs.Prelude.{◌≡◌, ◌≤◌, ◌++◌, ℤ, IfOk, OnOk, Some, length, map, true};
+ghost use Rattle.std.specs.Prelude.{◌≡◌, ℤ, IfOk, Some, map, true};
 ghost use Rattle.mw_multi.specs.Indexes.{index_of_id};
 ghost use Rattle.mw_multi.specs.Joint.{LinkKept};
 ghost use Rattle.mw_multi.specs.WorldKept.{item_id};

@@ -1,11 +1,11 @@
 //! What stands at the locations of a seed.
-ghost use Rattle.std.specs.Prelude.{◌≡◌, ◌≤◌, ◌<◌, ◌+◌, ◌^◌, ◌++◌, ℕ, IfOk, IfSome, OnOk, Some, None, length, option_copied, slice_get, slice_index_or, slice_set};
+ghost use Rattle.std.specs.Prelude.{◌≡◌, ◌≤◌, ◌<◌, ◌+◌, ◌^◌, ◌++◌, IfOk, OnOk, Some, None, length, slice_get, slice_index_or};
 ghost use Rattle.std.specs.Option.{option_to_list};
 ghost use Rattle.mw_multi.specs.Joint.{place_total, slot_places};
-ghost use Rattle.mw_multi.specs.Placement.{IsPlacement, what_stands};
+ghost use Rattle.mw_multi.specs.Placement.{IsPlacement};
 ghost use Rattle.mw_multi.specs.Steps.{location_place};
 ghost use Rattle.mw_multidata.specs.SeedKept.{held_cmp};
-ghost use Rattle.mw_seeds.specs.SeedFile.{held_item as plain_item, held_put as plain_held, held_where, location_held, slot_held, all_held, AreLocations};
+ghost use Rattle.mw_seeds.specs.SeedFile.{held_item as plain_item, held_put as plain_held, held_where, slot_held, all_held, AreLocations};
 
 use crate::owners::first_owner;
 use crate::seed_slots::class_flags;

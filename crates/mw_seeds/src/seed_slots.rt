@@ -1,5 +1,5 @@
 //! The slots of a seed.
-ghost use Rattle.std.specs.Prelude.{◌≡◌, ◌++◌, IfOk, OnOk, Some, flat_map, length, map, replicate, slice_get};
+ghost use Rattle.std.specs.Prelude.{◌≡◌, ◌++◌, IfOk, OnOk, Some, flat_map, map, replicate};
 ghost use Rattle.mw_multi.specs.Joint.{StartFits};
 ghost use Rattle.mw_seeds.specs.SeedFile.{class_flags as plain_flags, start_of, start_copies, start_items, file_slot};
 

@@ -40,8 +40,8 @@ use Rattle.mw_serve.specs.WholeLives.{ServedRun}
 -- the journal keeps a message that a session took in the life to which these steps came: each check
 -- that it shows is among the journal's; and the items of each ReceivedItems of it stand at its index
 -- in what the session is to receive by the journal
-pub record KeepsMessageAcross (seed : Seed) (steps : List Step) (journal : List Record) (session : ℕ)
-    (luck : Luck) (member : Option Member) (m : Message)
+pub record KeepsMessageAcross (seed : Seed) (steps : List Step) (journal : List Record)
+    (session : ℕ) (luck : Luck) (member : Option Member) (m : Message)
     : Type 0 where
   pub told : IsToldAcross seed steps session luck member m
   pub shows : (k : Member) → MayPlayAs k member → ShowsChecked seed journal k m

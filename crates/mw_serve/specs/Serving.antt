@@ -100,7 +100,8 @@ module _ {T D : Type 0} (heard_by : T → List Heard) (sent_by : T → List (Lis
       → DriveError → Type 0
   FileHostsShort files name bytes seed served error =
       IsUnserved (JournalRefused files (Some name) (digest_of bytes) seed)
-      (JournalStays files (Some name) (digest_of bytes)) (JournalRead files (Some name)) served error
+      (JournalStays files (Some name) (digest_of bytes)) (JournalRead files (Some name))
+      served error
       ⊎ HostsShort heard_by sent_by faults opened is_shut may_leave
       (IsFound (opened_bytes (files.before name)) (files.might_leave name) (digest_of bytes) seed)
       (files.may_leave name) (digest_of bytes) seed served error

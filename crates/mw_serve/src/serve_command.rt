@@ -1,8 +1,8 @@
 //! The command `serve`.
-ghost use Rattle.std.specs.Prelude.{◌≡◌, ◌⊎◌, ◌<◌, ◌≤◌, ◌+◌, ℕ, List, [], Some, Ok, Err, IfOk, IfErr, OnOk, false, true};
-ghost use Rattle.std.specs.Io.KnownBytes.{Appends, Keeps};
+ghost use Rattle.std.specs.Prelude.{◌≡◌, ◌⊎◌, ◌<◌, ◌≤◌, ◌+◌, List, [], Some, Ok, Err, IfOk, IfErr, OnOk, false, true};
+ghost use Rattle.std.specs.Io.KnownBytes.{Keeps};
 ghost use Rattle.std.specs.Prelude.{IsTrue, is_ok, string_bytes};
-ghost use Rattle.mw_edges.specs.Causes.{PutsFront, Rose};
+ghost use Rattle.mw_edges.specs.Causes.{Rose};
 ghost use Rattle.mw_edges.specs.Folders.{opened_bytes};
 ghost use Rattle.mw_multidata.specs.Digest.{digest_of};
 ghost use Rattle.mw_multidata.specs.SeedOf.{SeedOf};
@@ -198,7 +198,8 @@ where
         (G.ended result.1)) }
     ensures listened { ListensAfter (JournalFound
         (files_around F.holds F.images F.is_open F.may_fail F.faults folder.old folder.new)
-        words.now) (IsTrue (is_ok result.0)) (G.listened gate) (G.listened result.1) words.now.bind }
+        words.now) (IsTrue (is_ok result.0)) (G.listened gate) (G.listened result.1)
+        words.now.bind }
     ensures fault { result.0 ≡ Err Stop.Fault
         → Rose (F.faults folder.old) (F.faults folder.new)
         ⊎ ((0 < G.faults result.1) ⊎ Rose (O.faults out.old) (O.faults out.new)) }

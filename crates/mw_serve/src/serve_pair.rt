@@ -1,5 +1,5 @@
 //! The command `serve --pair`.
-ghost use Rattle.std.specs.Prelude.{◌≡◌, ◌⊎◌, ◌<◌, ◌≤◌, [], IfErr, IsTrue, OnOk, is_ok};
+ghost use Rattle.std.specs.Prelude.{◌≡◌, ◌⊎◌, ◌<◌, ◌≤◌, IfErr, IsTrue, OnOk, is_ok};
 ghost use Rattle.mw_edges.specs.Causes.{Rose};
 ghost use Rattle.mw_session.specs.Desks.{AreAll, IsWithin};
 ghost use Rattle.mw_session.specs.Numbers.{all_numbers, NoneTwice};
@@ -89,7 +89,8 @@ where
         (G.ended result.1)) }
     ensures listened { ListensAfter (PairJournalFound
         (files_around F.holds F.images F.is_open F.may_fail F.faults folder.old folder.new)
-        words.now) (IsTrue (is_ok result.0)) (G.listened gate) (G.listened result.1) words.now.bind }
+        words.now) (IsTrue (is_ok result.0)) (G.listened gate) (G.listened result.1)
+        words.now.bind }
     ensures fault { result.0 ≡ Err Stop.Fault
         → Rose (F.faults folder.old) (F.faults folder.new)
         ⊎ ((0 < G.faults result.1) ⊎ Rose (O.faults out.old) (O.faults out.new)) }

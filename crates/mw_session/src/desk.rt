@@ -1,5 +1,5 @@
 //! The gate that workers share: it lies under a lock, with what is to be known of it at the end.
-ghost use Rattle.std.specs.Prelude.{◌≡◌, ◌+◌, ◌*◌, ◌<◌, ◌≤◌, ◌||◌, ◌⊎◌, ℕ, [], None, true, false};
+ghost use Rattle.std.specs.Prelude.{◌≡◌, ◌+◌, ◌*◌, ◌<◌, ◌||◌, ◌⊎◌, ℕ, [], None, true, false};
 ghost use Rattle.mw_link.specs.Tells.{IsNew};
 ghost use Rattle.mw_session.specs.Desks.{HasNone, IfLine, IsWithin, is_reached, link_weight, weight_of};
 

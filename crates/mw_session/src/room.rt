@@ -1,5 +1,5 @@
 //! A room that is served over all links of a gate.
-ghost use Rattle.std.specs.Prelude.{List, ◌≡◌, ◌<◌, ◌≤◌, ◌+◌, ◌*◌, ℕ, [], All, length, vec_len, vec_capacity, IfSome, MatchOption, Some, None, true, false, is_some};
+ghost use Rattle.std.specs.Prelude.{List, ◌≡◌, ◌<◌, ◌≤◌, ◌+◌, ℕ, [], All, length, vec_len, vec_capacity, IfSome, MatchOption, Some, None, true, false};
 ghost use Rattle.mw_model.specs.Seed.{Seed};
 ghost use Rattle.mw_protocol.specs.Records.{Record};
 ghost use Rattle.mw_lock.specs.History.{events};

@@ -1,4 +1,4 @@
-ghost use Rattle.std.specs.Prelude.{◌≡◌, ◌≢◌, ◌<◌, ◌≤◌, [], ◌∷◌, ◌++◌, map, length, Option, None, Some, IfOk};
+ghost use Rattle.std.specs.Prelude.{◌≡◌, ◌<◌, [], ◌∷◌, map, length, Option, None, Some};
 ghost use Rattle.mw_lock.specs.Passes.{IsTrueTo};
 ghost use Rattle.mw_link.specs.declared.link.Heard.TheVariants as Heard;
 ghost use Rattle.mw_packets_in.specs.View.{inbound_view};

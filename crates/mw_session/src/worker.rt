@@ -1,5 +1,5 @@
 //! One worker, which serves one link after the other, and several workers side by side.
-ghost use Rattle.std.specs.Prelude.{◌≡◌, ◌+◌, ◌<◌, ◌≤◌, ℕ, [], All, length, vec_capacity, false, true};
+ghost use Rattle.std.specs.Prelude.{◌≡◌, ◌+◌, ◌<◌, ◌≤◌, All, length, vec_capacity, false, true};
 ghost use Rattle.std.specs.Thread.{IsSend, IsSync};
 ghost use Rattle.mw_link.specs.Tells.{IsNew};
 ghost use Rattle.mw_session.specs.Rooms.{IsDone, IsReport, ServesOne};

@@ -2,7 +2,6 @@ ghost use Rattle.std.specs.Prelude.{◌≡◌, ◌<◌, ◌≤◌, ◌+◌, ◌^
 ghost use Rattle.mw_model.specs.Seed as plain;
 ghost use Rattle.mw_rules.specs.Holds.{bag_of, places_of};
 ghost use Rattle.mw_multi.specs.Joint.{Slot, place_total, slot_places};
-ghost use Rattle.mw_multi.specs.Steps.{location_place};
 ghost use Rattle.mw_multi.specs.Placement.{numbers_at};
 ghost use Rattle.mw_reach.specs.Reach.{times_in};
 ghost use Rattle.mw_reach.specs.Reached.{places_in};

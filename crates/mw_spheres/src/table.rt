@@ -1,4 +1,4 @@
-ghost use Rattle.std.specs.Prelude.{◌≡◌, ◌≤◌, IfOk, OnOk, length, sum_by};
+ghost use Rattle.std.specs.Prelude.{◌≡◌, ◌≤◌, IfOk, length, sum_by};
 ghost use Rattle.mw_multi.specs.Joint.{IsJoint};
 ghost use Rattle.mw_multi.specs.Placement.{IsPlacement};
 ghost use Rattle.mw_reach.specs.Reached.{IsPlacedFor};

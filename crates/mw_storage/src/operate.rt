@@ -1,4 +1,3 @@
-ghost use Rattle.std.specs.Prelude.{◌≡◌};
 ghost use Rattle.mw_json.specs.View.{view, items_view, members_view};
 ghost use Rattle.mw_protocol.specs.Operations.{joined, added, removed, popped_index, popped_name, popped, updated_list, updated_object, updated, operated};
 ghost use Rattle.mw_storage.specs.Results.{IsResultOf};

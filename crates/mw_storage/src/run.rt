@@ -1,4 +1,4 @@
-ghost use Rattle.std.specs.Prelude.{◌≡◌, Result};
+ghost use Rattle.std.specs.Prelude.{Result};
 ghost use Rattle.mw_model.specs.Json.{Json};
 ghost use Rattle.mw_json.specs.View.{view};
 ghost use Rattle.mw_protocol.specs.Operations.{Fault as PlainFault};

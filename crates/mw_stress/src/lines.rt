@@ -1,5 +1,5 @@
 //! The lines of `stress`.
-ghost use Rattle.std.specs.Prelude.{◌≡◌, ◌+◌, ◌≤◌, ◌++◌, ℕ, IfOk, OnOk, string_bytes, flat_map};
+ghost use Rattle.std.specs.Prelude.{◌≡◌, ◌+◌, ◌≤◌, ◌++◌, IfOk, OnOk, string_bytes, flat_map};
 ghost use Rattle.mw_stress.specs.Received.{received_in};
 ghost use Rattle.mw_stress.specs.Lines.{asked_line, last_text, made_lines, received, received_by, slot_line, slot_lines, stress_lines};
 

@@ -1,5 +1,5 @@
 //! The players of `stress`.
-ghost use Rattle.std.specs.Prelude.{◌≡◌, ◌+◌, ◌≤◌, ◌<◌, ◌∷◌, [], IfOk};
+ghost use Rattle.std.specs.Prelude.{◌≡◌, ◌+◌, ◌≤◌, ◌<◌, IfOk};
 ghost use Rattle.mw_stress.specs.Stress as plain;
 ghost use Rattle.mw_stress.specs.Stress.{IsCrowd};
 

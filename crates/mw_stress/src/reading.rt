@@ -1,5 +1,5 @@
 //! What is received by a text.
-ghost use Rattle.std.specs.Prelude.{◌≡◌, ◌++◌, OnOk, codes, option_map};
+ghost use Rattle.std.specs.Prelude.{◌≡◌, ◌++◌, OnOk, codes};
 ghost use Rattle.mw_model.specs.Json.{field_of};
 ghost use Rattle.mw_json.specs.View.{view, items_view};
 ghost use Rattle.mw_stress.specs.Received.{id_in, ids_in, listed_in, message_items, packet_items, packets_items, received_in};

@@ -1,5 +1,5 @@
 //! The seed that `stress` plays.
-ghost use Rattle.std.specs.Prelude.{◌≡◌, ◌≤◌, [], ◌∷◌, IfOk, IfErr, List, Ok, length};
+ghost use Rattle.std.specs.Prelude.{◌≡◌, [], ◌∷◌, IfOk, IfErr, List, Ok, length};
 ghost use Rattle.mw_multi.specs.World.{World as PlainWorld};
 ghost use Rattle.mw_multi.specs.JointOf.{joint_of};
 ghost use Rattle.mw_multi.specs.Placement.{IsPlacement};

@@ -17,7 +17,7 @@ use Rattle.mw_rules.specs.View as seen
 use Rattle.mw_multi.specs.World.{Item}
 use Rattle.mw_multi.specs.WorldKept.{item_name}
 use Rattle.mw_multi.specs.RulesKept as whole
-use Rattle.mw_multi.specs.RulesKept.{IsItemList, IsCount, IsInLimits, is_progression_item, IsProgressionAt, RuleKept}
+use Rattle.mw_multi.specs.RulesKept.{IsItemList, IsInLimits, is_progression_item, IsProgressionAt, RuleKept}
 use Rattle.mw_multi.specs.Indexes.{index_of_name}
 use Rattle.mw_tables.specs.Names.{demand, known}
 use Rattle.mw_tables.specs.Raw.{RawWorld, RawRule, always, never, has, has_all, has_any, has_count, reach_region, reach_location, all_of, some_of, RawRules, no_rules, a_rule, nodes, nodes_of, depth, depth_of}

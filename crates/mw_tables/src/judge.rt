@@ -1,4 +1,3 @@
-ghost use Rattle.std.specs.Prelude.{◌≡◌};
 ghost use Rattle.mw_json.specs.Grammar.{Gives};
 ghost use Rattle.mw_tables.specs.Names.{demand, known as has_to_be_there};
 

@@ -1,4 +1,3 @@
-ghost use Rattle.std.specs.Prelude.{◌≡◌};
 ghost use Rattle.mw_json.specs.View.{view};
 ghost use Rattle.mw_json.specs.Grammar.{Gives, name_at, number_at};
 ghost use Rattle.mw_tables.specs.PlayersShape.{team_names_at, player_at, player_list_at, form_of, form_at, players_shape_at};

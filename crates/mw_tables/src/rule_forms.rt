@@ -1,4 +1,4 @@
-ghost use Rattle.std.specs.Prelude.{◌≡◌, option_map};
+ghost use Rattle.std.specs.Prelude.{option_map};
 ghost use Rattle.mw_json.specs.View.{view, members_view};
 ghost use Rattle.mw_json.specs.Grammar.{Gives, GivesBy};
 ghost use Rattle.mw_tables.specs.RawView.{raw_view};

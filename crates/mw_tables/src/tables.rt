@@ -1,4 +1,4 @@
-ghost use Rattle.std.specs.Prelude.{◌≡◌, ◌≤◌, map, length, IfOk};
+ghost use Rattle.std.specs.Prelude.{◌≡◌, map, IfOk};
 ghost use Rattle.mw_multi.specs.WorldKept.{item_name, item_id};
 ghost use Rattle.mw_multi.specs.Indexes.{index_of_name, index_of_id};
 ghost use Rattle.mw_tables.specs.RuleNames.{raw_location_name, place_of_location};

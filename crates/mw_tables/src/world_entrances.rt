@@ -1,4 +1,3 @@
-ghost use Rattle.std.specs.Prelude.{◌≡◌};
 ghost use Rattle.mw_json.specs.View.{view};
 ghost use Rattle.mw_json.specs.Grammar.{Gives};
 ghost use Rattle.mw_tables.specs.WorldShape.{entrance_at};

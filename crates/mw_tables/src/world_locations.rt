@@ -1,4 +1,3 @@
-ghost use Rattle.std.specs.Prelude.{◌≡◌};
 ghost use Rattle.mw_json.specs.View.{view, members_view};
 ghost use Rattle.mw_json.specs.Grammar.{Gives, other_kind};
 ghost use Rattle.mw_json.specs.Parts.{id_at, null_or_at};

@@ -1,4 +1,4 @@
-use Rattle.std.proofs.Common.{◌≡◌, ◌∙◌, Bool, true, false, ◌&&◌, sym, ap}
+use Rattle.std.proofs.Common.{◌≡◌, ◌∙◌, Bool, true, ◌&&◌, sym, ap}
 use Rattle.std.specs.Prelude.{find}
 use Rattle.mw_rules.specs.Holds.{bag_of}
 use Rattle.mw_reach.specs.Required.{is_required}

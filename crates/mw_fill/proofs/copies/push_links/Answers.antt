@@ -1,5 +1,5 @@
 use Rattle.std.proofs.Common.{◌≡◌, ◌++◌, ◌+◌, suc, length, take, ap, sym, ◌∙◌, append_assoc, arith}
-use Rattle.mw_multi.specs.Joint.{Joint, Slot}
+use Rattle.mw_multi.specs.Joint.{Joint}
 use Rattle.mw_multi.specs.Numbered.{each_numbered}
 use Rattle.mw_multi.proofs.Numbered.{numbered_more}
 use Rattle.mw_fill.specs.Copies.{link_copies}

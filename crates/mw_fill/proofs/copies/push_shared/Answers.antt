@@ -1,7 +1,7 @@
-use Rattle.std.proofs.Common.{◌≡◌, ◌++◌, List, get_or, sym, ap, ap₂, subst, ◌∙◌, append-nil, false, true, replicate}
-use Rattle.std.specs.Prelude.{OnOk, []}
+use Rattle.std.proofs.Common.{◌≡◌, ◌++◌, get_or, sym, ap, ◌∙◌, append-nil, false, true}
+use Rattle.std.specs.Prelude.{[]}
 use Rattle.mw_multi.specs.World.{Item, PoolEntry}
-use Rattle.mw_fill.specs.Copies.{ItemCopy, is_of, shared_copy, shared_copies}
+use Rattle.mw_fill.specs.Copies.{is_of, shared_copies}
 use Rattle.mw_fill.proofs.Pools.{shared_is}
 use Rattle.mw_fill.proofs.copies.push_shared.Goals as goal
 

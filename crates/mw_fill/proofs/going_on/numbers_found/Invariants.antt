@@ -1,4 +1,4 @@
-use Rattle.std.proofs.Common.{◌≡◌, List, length, drop, map, take}
+use Rattle.std.proofs.Common.{◌≡◌, length, drop, map, take}
 use Rattle.mw_multi.specs.Joint.{Joint}
 use Rattle.mw_multi.specs.Placement.{put_numbers}
 use Rattle.mw_reach.specs.Reached.{places_in}

@@ -1,5 +1,4 @@
 use Rattle.std.proofs.Common.{◌≡◌, ◌≢◌, ◌∙◌, ◌≤◌, [], length, sym, subst, ap, arith}
-use Rattle.std.specs.Prelude.{Ok}
 use Rattle.mw_protocol.specs.Spelled.{records_bytes}
 use Rattle.mw_journal.proofs.Told.{on_ok_one}
 use Rattle.mw_keep.proofs.Appending.{appends_none, appends_list, bytes_none, no_records, some_length}

@@ -1,4 +1,4 @@
-use Rattle.std.proofs.Common.{◌≡◌, ◌∙◌, ℕ, List, Err, refl, sym, ap, inl, inr, subst, arith}
+use Rattle.std.proofs.Common.{◌≡◌, ◌∙◌, Err, refl, sym, ap, inl, inr, subst, arith}
 use Rattle.mw_causes.specs.declared.stop.Stop.TheVariants.{Fault}
 use Rattle.mw_drive.specs.declared.error.DriveError.TheVariants as why
 use Rattle.std.proofs.KnownBytes.{Keeps-refl}

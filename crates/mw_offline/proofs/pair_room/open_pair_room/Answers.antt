@@ -1,4 +1,4 @@
-use Rattle.std.proofs.Common.{Ok, ap, subst, sym}
+use Rattle.std.proofs.Common.{Ok, subst, sym}
 use Rattle.mw_multidata.specs.Digest.{digest_of}
 use Rattle.mw_multidata.specs.SeedOf.{SeedOf}
 use Rattle.mw_causes.specs.SeedFiles.{IsFile}

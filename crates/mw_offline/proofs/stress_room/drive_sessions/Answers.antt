@@ -3,7 +3,7 @@ use Rattle.mw_disk.specs.Calls.{DiskHistory, IsImage, bytes_of}
 use Rattle.mw_disk.specs.Laws.{bytes_are_image}
 use Rattle.mw_journal.specs.Settled.{AllShut}
 use Rattle.mw_drive.specs.Drive.{stop}
-use Rattle.mw_offline.specs.Stressing.{all_calls, all_taken, first_life}
+use Rattle.mw_offline.specs.Stressing.{all_taken, first_life}
 use Rattle.mw_offline.proofs.Driving.{from_ok}
 use Rattle.mw_offline.proofs.NeverFull.{never_full}
 use Rattle.mw_offline.proofs.Sessions.{new_going, new_keeps, only_memory}
