@@ -97,11 +97,11 @@ pub(crate) fn sink_of(alloc: Global, calls: &str, place: usize) -> Result<Memory
 }
 
 /// A run. Its clauses stay here: the tests look at what it leaves.
-fn ran<O: Sink, R: Threads + Wait + Sync>(
+fn ran<F: Folder, O: Sink, R: Threads + Wait + Sync>(
     rt: &R,
     alloc: Global,
     words: &[Text],
-    folder: &mut MemoryFolder,
+    folder: &mut F,
     input: &mut MemorySource,
     out: &mut O,
     err: &mut MemorySink,
@@ -112,10 +112,10 @@ fn ran<O: Sink, R: Threads + Wait + Sync>(
 }
 
 /// The status of a run of a line of words and a script, and what the error sink got.
-pub(crate) fn ended<O: Sink, R: Threads + Wait + Sync>(
+pub(crate) fn ended<F: Folder, O: Sink, R: Threads + Wait + Sync>(
     rt: &R,
     alloc: Global,
-    folder: &mut MemoryFolder,
+    folder: &mut F,
     line: &str,
     script: &str,
     out: &mut O,
@@ -142,7 +142,7 @@ pub(crate) fn told_of(
 }
 
 /// What a file has, and `no file` where there is none.
-fn bytes_in(alloc: Global, folder: &mut MemoryFolder, name: &str) -> Result<Bytes, Fail> {
+fn bytes_in<F: Folder>(alloc: Global, folder: &mut F, name: &str) -> Result<Bytes, Fail> {
     let name = Text::of(alloc, name)?;
     match folder.read_file(alloc, &name, 1_000_000) {
         Ok(FileRead::Whole(bytes)) => Ok(bytes),
@@ -152,7 +152,7 @@ fn bytes_in(alloc: Global, folder: &mut MemoryFolder, name: &str) -> Result<Byte
 }
 
 /// The same as a text.
-fn text_in(alloc: Global, folder: &mut MemoryFolder, name: &str) -> Result<String, Fail> {
+fn text_in<F: Folder>(alloc: Global, folder: &mut F, name: &str) -> Result<String, Fail> {
     let bytes = bytes_in(alloc, folder, name)?;
     let text = std::str::from_utf8(bytes.as_slice()).or(Err("no text"))?;
     Ok(String::from_str(alloc, text)?)
@@ -174,10 +174,10 @@ pub(crate) fn holds(
 
 /// What a run tells of a line of words and a script of short lines. The word `file` and a name
 /// stand for no run, and what that file has is told.
-pub(crate) fn told<R: Threads + Wait + Sync>(
+pub(crate) fn told<F: Folder, R: Threads + Wait + Sync>(
     rt: &R,
     alloc: Global,
-    folder: &mut MemoryFolder,
+    folder: &mut F,
     line: &str,
     lines: &str,
     calls: &str,

@@ -13,10 +13,10 @@ use std::test::Fail;
 use std::thread::Threads;
 
 /// Bob connects, and takes what that owes him.
-const BOB_CONNECTS: &str = "open\nconnect 1 Bob 7\ntake 1\n";
+pub(crate) const BOB_CONNECTS: &str = "open\nconnect 1 Bob 7\ntake 1\n";
 
 /// How that is told where Ann has checked 101.
-const BOB_HAS_SWORD: &str =
+pub(crate) const BOB_HAS_SWORD: &str =
     r#"0 1 [..,"team":0},{"cmd":"ReceivedItems","index":0,"items":[{"class":"NetworkItem","flags":1,"item":7,"location":101,"player":1}]}]
 "#;
 

@@ -4,14 +4,14 @@
 mod run;
 
 use crate::run::run;
-use mw_edges::{ReaderSource, Sink, SystemFolder, WriterSink};
+use mw_edges::{NotedWriter, ReaderSource, Sink, SystemFolder, WriterSink};
 use mw_link::TcpGate;
 use mw_words::{WordsError, given_words};
 use std::process::ExitCode;
 
 fn main(rt: HostRuntime) -> ExitCode {
     let alloc = rt.alloc();
-    let mut err = WriterSink::new(rt.stderr());
+    let mut err = WriterSink::new(NotedWriter::new(rt.stderr()));
     let words = match given_words(alloc, &rt) {
         Ok(words) => words,
         Err(WordsError::Memory) => {
@@ -26,7 +26,7 @@ fn main(rt: HostRuntime) -> ExitCode {
     let mut folder = SystemFolder::new(&rt, alloc);
     let gate = TcpGate::new(rt, alloc);
     let mut input = ReaderSource::new(rt.stdin());
-    let mut out = WriterSink::new(rt.stdout());
+    let mut out = WriterSink::new(NotedWriter::new(rt.stdout()));
     let (status, _, _) = run(
         &rt,
         alloc,
@@ -80,6 +80,8 @@ mod session_tests;
 mod storage_tests;
 #[cfg(test)]
 mod stress_tests;
+#[cfg(test)]
+mod system_tests;
 #[cfg(test)]
 mod team_tests;
 #[cfg(test)]

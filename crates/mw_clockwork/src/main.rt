@@ -4,14 +4,14 @@
 mod run;
 
 use crate::run::run;
-use mw_edges::{Sink, SystemFolder, WriterSink};
+use mw_edges::{NotedWriter, Sink, SystemFolder, WriterSink};
 use mw_words::{WordsError, given_words};
 use std::process::ExitCode;
 
 /// Runs the command, and answers its status.
 fn clockwork(rt: &HostRuntime) -> u8 {
     let alloc = rt.alloc();
-    let mut err = WriterSink::new(rt.stderr());
+    let mut err = WriterSink::new(NotedWriter::new(rt.stderr()));
     let words = match given_words(alloc, rt) {
         Ok(words) => words,
         Err(WordsError::Memory) => {
@@ -24,7 +24,7 @@ fn clockwork(rt: &HostRuntime) -> u8 {
         }
     };
     let mut folder = SystemFolder::new(rt, alloc);
-    let mut out = WriterSink::new(rt.stdout());
+    let mut out = WriterSink::new(NotedWriter::new(rt.stdout()));
     run(alloc, words.as_slice(), &mut folder, &mut out, &mut err)
 }
 

@@ -45,7 +45,7 @@ impl EventLog {
 
     /// The record of a file that holds these bytes, all of them safe from a crash, and was made now or
     /// not.
-    pub(crate) fn of(found: &[u8], fresh: bool) -> EventLog
+    pub fn of(found: &[u8], fresh: bool) -> EventLog
         ensures { result ≡ opened_log found.now fresh }
     {
         EventLog {

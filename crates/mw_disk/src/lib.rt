@@ -1,6 +1,7 @@
 //! A disk: bytes that are read, written, cut and synced, and what a crash may leave of them.
 #![tactic(auto)]
 
+mod call_plan;
 mod calls;
 mod disk;
 mod event_log;
@@ -18,6 +19,7 @@ mod steady;
 mod tally;
 mod tear;
 
+pub use call_plan::{CallLuck, CallPlan};
 pub use calls::{DiskCall, MadeCall, Tear};
 pub use disk::{Disk, DiskError};
 pub use event_log::EventLog;
@@ -27,7 +29,7 @@ pub use file_event::FileEvent;
 pub use history::History;
 pub use host_file::{HostFile, open_file_disk, open_host_file};
 pub use memory::MemDisk;
-pub use memory_file::{CallLuck, MemoryFile};
+pub use memory_file::MemoryFile;
 pub use recorded_file::{RecordedFile, is_honest_record};
 pub use seen::Seen;
 pub use steady::SteadyDisk;

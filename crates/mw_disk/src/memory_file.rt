@@ -1,6 +1,7 @@
 ghost use Rattle.std.specs.Prelude.{◌≡◌, ◌<◌, ◌≤◌, IfOk, IsTrue, [], true, length, take, false};
 ghost use Rattle.mw_disk.specs.FileLogs.{state_of, is_read};
 
+use crate::call_plan::{CallLuck, CallPlan};
 use crate::event_log::EventLog;
 use crate::file_calls::FileCalls;
 use crate::file_event::FileEvent;
@@ -10,44 +11,14 @@ use mw_base::List;
 use std::alloc::Global;
 use std::io::{self, ErrorKind};
 
-/// How a call on a file in memory goes.
-#[derive(Clone, Copy)]
-pub enum CallLuck {
-    /// As it should.
-    Whole,
-    /// A read or a write takes so many bytes at most, and at least one.
-    Short(usize),
-    /// A signal interrupts it.
-    Interrupted,
-    /// It fails.
-    Failed,
-}
-
 /// A file in memory, whose calls go as planned. Its answers are those of an honest file.
 #[derive(Drop)]
 pub struct MemoryFile {
     bytes: Vec<u8>,
-    luck: List<CallLuck>,
-    call: usize,
+    plan: CallPlan,
     log: EventLog,
     ghost held: { bytes.items ≡ (state_of log).bytes },
     ghost honest: { IsTrue (state_of log).honest },
-}
-
-/// How many bytes the next call takes at most, or how it fails.
-fn draw(luck: &[CallLuck], call: &mut usize) -> io::Result<usize>
-    ensures { IfOk result (λ most. 0 < most) }
-{
-    let Some(drawn) = luck.get(*call) else {
-        return Ok(usize::MAX);
-    };
-    *call = call.saturating_add(1);
-    match *drawn {
-        CallLuck::Whole => Ok(usize::MAX),
-        CallLuck::Short(most) => Ok(most.max(1)),
-        CallLuck::Interrupted => Err(io::Error::from(ErrorKind::Interrupted)),
-        CallLuck::Failed => Err(io::Error::other("planned to fail")),
-    }
 }
 
 /// Reads so many bytes at most from a place on.
@@ -70,8 +41,7 @@ impl MemoryFile {
     {
         MemoryFile {
             bytes: Vec::new(alloc),
-            luck,
-            call: 0,
+            plan: CallPlan::new(luck),
             log: EventLog::of(b"", true),
         }
     }
@@ -83,10 +53,22 @@ impl MemoryFile {
         let log = EventLog::of(bytes.as_slice(), false);
         MemoryFile {
             bytes,
-            luck,
-            call: 0,
+            plan: CallPlan::new(luck),
             log,
         }
+    }
+
+    /// The bytes that it holds, and the record of its calls.
+    pub fn into_parts(self) -> (Vec<u8>, EventLog)
+        ensures bytes { result.0.items ≡ (state_of (log_of self)).bytes }
+        ensures log { result.1 ≡ log_of self }
+    {
+        let MemoryFile {
+            bytes,
+            plan: _,
+            log,
+        } = self;
+        (bytes, log)
     }
 }
 
@@ -96,7 +78,7 @@ impl FileCalls for MemoryFile {
     ghost is_honest = { λ _. true };
 
     fn length(&mut self) -> io::Result<u64> {
-        if let Err(error) = draw(self.luck.as_slice(), &mut self.call) {
+        if let Err(error) = self.plan.draw() {
             self.log.note(FileEvent::Length { answer: None });
             return Err(error);
         }
@@ -107,7 +89,7 @@ impl FileCalls for MemoryFile {
 
     fn read_at(&mut self, at: u64, into: &mut [u8]) -> io::Result<usize> {
         let room = into.len();
-        let most = match draw(self.luck.as_slice(), &mut self.call) {
+        let most = match self.plan.draw() {
             Ok(most) => most,
             Err(error) => {
                 self.log.note(FileEvent::Read {
@@ -126,7 +108,7 @@ impl FileCalls for MemoryFile {
 
     fn write_at(&mut self, at: u64, bytes: &[u8]) -> io::Result<usize> {
         let seen = Seen::of(bytes);
-        let most = match draw(self.luck.as_slice(), &mut self.call) {
+        let most = match self.plan.draw() {
             Ok(most) => most,
             Err(error) => {
                 self.log.note(FileEvent::Write {
@@ -155,7 +137,7 @@ impl FileCalls for MemoryFile {
     }
 
     fn set_length(&mut self, len: u64) -> io::Result<()> {
-        if let Err(error) = draw(self.luck.as_slice(), &mut self.call) {
+        if let Err(error) = self.plan.draw() {
             self.log.note(FileEvent::Resize { len, done: false });
             return Err(error);
         }
@@ -168,7 +150,7 @@ impl FileCalls for MemoryFile {
     }
 
     fn sync(&mut self) -> io::Result<()> {
-        let answer = draw(self.luck.as_slice(), &mut self.call);
+        let answer = self.plan.draw();
         self.log.note(FileEvent::Sync {
             done: answer.is_ok(),
         });
@@ -177,7 +159,7 @@ impl FileCalls for MemoryFile {
     }
 
     fn sync_folder(&mut self) -> io::Result<()> {
-        let answer = draw(self.luck.as_slice(), &mut self.call);
+        let answer = self.plan.draw();
         self.log.note(FileEvent::SyncFolder {
             done: answer.is_ok(),
         });

@@ -21,7 +21,7 @@ off : (b : Bool) → ¬ (b ≡ true) → b ≡ false
 off true h = absurd (h refl)
 off false h = refl
 
-differ : (a b : List ℕ) → a ≢ b → bytes_eq a b ≡ false
+pub differ : (a b : List ℕ) → a ≢ b → bytes_eq a b ≡ false
 differ a b h = off (bytes_eq a b) (λ e. h ((bytes_eq-Decides a b).0 e))
 
 pub entry_there : {T : Type 0} (entries : Entries T) (name : List ℕ) (value : T) → entry_of (with_entry entries name value) name ≡ Some value

@@ -1,7 +1,7 @@
 //! The program `multiplay`: a player's client that keeps its items.
 #![tactic(auto)]
 
-use mw_edges::{ReaderSource, Sink, SystemFolder, WriterSink};
+use mw_edges::{NotedWriter, ReaderSource, Sink, SystemFolder, WriterSink};
 use mw_link::TcpDial;
 use mw_play::run_play;
 use mw_words::{WordsError, given_words};
@@ -9,7 +9,7 @@ use std::process::ExitCode;
 
 fn main(rt: HostRuntime) -> ExitCode {
     let alloc = rt.alloc();
-    let mut err = WriterSink::new(rt.stderr());
+    let mut err = WriterSink::new(NotedWriter::new(rt.stderr()));
     let words = match given_words(alloc, &rt) {
         Ok(words) => words,
         Err(WordsError::Memory) => {
@@ -24,7 +24,7 @@ fn main(rt: HostRuntime) -> ExitCode {
     let mut folder = SystemFolder::new(&rt, alloc);
     let mut dial = TcpDial::new(rt, alloc);
     let mut input = ReaderSource::new(rt.stdin());
-    let mut out = WriterSink::new(rt.stdout());
+    let mut out = WriterSink::new(NotedWriter::new(rt.stdout()));
     let status = run_play(
         alloc,
         &words,

@@ -199,7 +199,7 @@ fn files_are_disks(rt: HostRuntime) -> Result<(), Fail> {
 }
 
 /// Luck by which each of ten reads and writes takes one byte, after a signal interrupted it.
-fn one_by_one(alloc: Global) -> Result<List<CallLuck>, Memory> {
+pub(crate) fn one_by_one(alloc: Global) -> Result<List<CallLuck>, Memory> {
     let mut luck = List::new(alloc);
     for _ in 0..10 {
         luck.push(CallLuck::Interrupted)?;

@@ -104,7 +104,7 @@ fn gives<S: Source + Drop + Send>(mut source: S, room: usize, wanted: &str) -> b
 }
 
 /// Whether these are put, one after the other, and just those fail that a `!` stands before.
-fn puts<S: Sink>(sink: &mut S, pieces: &str) -> bool {
+pub(crate) fn puts<S: Sink>(sink: &mut S, pieces: &str) -> bool {
     for piece in pieces.split(',') {
         let (bytes, wanted) = match piece.strip_prefix('!') {
             Some(bytes) => (bytes, Err(SinkError::Failed)),
@@ -179,7 +179,7 @@ fn is_answered<F: Folder>(alloc: Global, folder: &mut F, case: &str) -> Result<b
 }
 
 /// Fails at the first of the cases that a folder doesn't answer so.
-fn answers<F: Folder>(alloc: Global, folder: &mut F, cases: &str) -> Result<(), Fail> {
+pub(crate) fn answers<F: Folder>(alloc: Global, folder: &mut F, cases: &str) -> Result<(), Fail> {
     for case in cases.split('\n') {
         if !is_answered(alloc, folder, case)? {
             return Err(Fail::new(case));

@@ -39,6 +39,8 @@ mod seed_files;
 #[cfg(test)]
 mod sockets;
 #[cfg(test)]
+mod systems;
+#[cfg(test)]
 mod tables;
 #[cfg(test)]
 mod trees;
