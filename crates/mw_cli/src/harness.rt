@@ -105,7 +105,10 @@ fn ran<F: Folder, O: Sink, R: Threads + Wait + Sync>(
     input: &mut MemorySource,
     out: &mut O,
     err: &mut MemorySink,
-) -> u8 {
+) -> u8
+where
+    F::Drive: Drop,
+{
     // A gate without links: only `serve` asks for one.
     let gate = SteadyGate::<SteadyLink>::new(VecDeque::new(alloc));
     run(rt, alloc, words, folder, gate, input, out, err).0
@@ -120,7 +123,10 @@ pub(crate) fn ended<F: Folder, O: Sink, R: Threads + Wait + Sync>(
     script: &str,
     out: &mut O,
     calls: &str,
-) -> Result<(u8, MemorySink), Fail> {
+) -> Result<(u8, MemorySink), Fail>
+where
+    F::Drive: Drop,
+{
     let words = words_of(alloc, line)?;
     let mut input = source_of(alloc, script, calls)?;
     let mut err = sink_of(alloc, calls, 3)?;
@@ -181,7 +187,10 @@ pub(crate) fn told<F: Folder, R: Threads + Wait + Sync>(
     line: &str,
     lines: &str,
     calls: &str,
-) -> Result<String, Fail> {
+) -> Result<String, Fail>
+where
+    F::Drive: Drop,
+{
     if let Some(name) = line.strip_prefix("file ") {
         return text_in(alloc, folder, name);
     }

@@ -13,10 +13,10 @@ use std::test::Fail;
 use std::thread::Threads;
 
 /// Bob connects, and takes what that owes him.
-pub(crate) const BOB_CONNECTS: &str = "open\nconnect 1 Bob 7\ntake 1\n";
+const BOB_CONNECTS: &str = "open\nconnect 1 Bob 7\ntake 1\n";
 
 /// How that is told where Ann has checked 101.
-pub(crate) const BOB_HAS_SWORD: &str =
+const BOB_HAS_SWORD: &str =
     r#"0 1 [..,"team":0},{"cmd":"ReceivedItems","index":0,"items":[{"class":"NetworkItem","flags":1,"item":7,"location":101,"player":1}]}]
 "#;
 
@@ -86,7 +86,7 @@ fn crash_ends_sessions(rt: HostRuntime) -> Result<(), Fail> {
 /// A room is made, and Ann checks 101 in one run of it, which ends uncommitted: that is lost. She
 /// checks it again in another one, which commits. Bob is told of that in the next one, and not
 /// without the journal.
-const RUNS: [Run<'static>; 7] = [
+pub(crate) const RUNS: [Run<'static>; 7] = [
     ("new-room A J", "", "0 room made\n"),
     ("drive A J", BOB_CONNECTS, BOB_HAS_NOTHING),
     ("drive A J", "open\nconnect 1 Ann 7\nchecks 1 [101]\n", "0 "),

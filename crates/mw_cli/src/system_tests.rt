@@ -1,6 +1,6 @@
 //! A room over the files of a system in memory, whose calls take a few bytes each.
 use crate::harness::{fits, told};
-use crate::kept_room_tests::{BOB_CONNECTS, BOB_HAS_SWORD};
+use crate::kept_room_tests::RUNS;
 use mw_base::{List, Memory, Text};
 use mw_cases::ROOM_A;
 use mw_disk::CallLuck;
@@ -10,14 +10,9 @@ use std::sync::Wait;
 use std::test::Fail;
 use std::thread::Threads;
 
-/// Luck by which each of two hundred calls takes three bytes, after a signal interrupted it.
+/// Luck by which each of a thousand reads and writes takes three bytes.
 fn few_bytes(alloc: Global) -> Result<List<CallLuck>, Memory> {
-    let mut luck = List::new(alloc);
-    for _ in 0..200 {
-        luck.push(CallLuck::Interrupted)?;
-        luck.push(CallLuck::Short(3))?;
-    }
-    Ok(luck)
+    Ok(List::from_vec(vec![in alloc; CallLuck::Short(3); 1_000]?))
 }
 
 /// The files of such a system, of which the seed file of Room A is the first.
@@ -29,23 +24,15 @@ fn folder_of_few(alloc: Global) -> Result<SystemFolder<MemorySystem>, FolderErro
     Ok(folder)
 }
 
-/// A room is made, Ann checks 101, and in another run Bob connects.
-const RUNS: [(&str, &str, &str); 3] = [
-    ("new-room A J", "", "0 "),
-    (
-        "drive A J",
-        "open\nconnect 1 Ann 7\nchecks 1 [101]\ncommit\n",
-        "0 ",
-    ),
-    ("drive A J", BOB_CONNECTS, BOB_HAS_SWORD),
-];
-
-/// Fails, with its words, at the first run that tells otherwise.
+/// Fails, with its words, at the first run of the room that tells otherwise.
 fn runs_over<F: Folder, R: Threads + Wait + Sync>(
     rt: &R,
     alloc: Global,
     folder: &mut F,
-) -> Result<(), Fail> {
+) -> Result<(), Fail>
+where
+    F::Drive: Drop,
+{
     for (line, script, wanted) in RUNS.iter() {
         let found = told(rt, alloc, folder, line, script, "")?;
         if !fits(found.as_str(), wanted) {
@@ -56,7 +43,7 @@ fn runs_over<F: Folder, R: Threads + Wait + Sync>(
 }
 
 #[test]
-fn a_room_over_short_and_interrupted_calls(rt: HostRuntime) -> Result<(), Fail> {
+fn a_room_over_short_calls(rt: HostRuntime) -> Result<(), Fail> {
     let mut folder = folder_of_few(rt.alloc()).or(Err("no files"))?;
     runs_over(&rt, rt.alloc(), &mut folder)
 }

@@ -29,6 +29,8 @@ mod numerals;
 #[cfg(test)]
 mod plain_fill;
 #[cfg(test)]
+mod plain_pieces;
+#[cfg(test)]
 mod random_worlds;
 #[cfg(test)]
 mod reaching;

@@ -46,16 +46,27 @@ fn folder_over(alloc: Global, luck: List<CallLuck>) -> SystemFolder<MemorySystem
     SystemFolder::over(MemorySystem::new(alloc, luck), alloc)
 }
 
-/// Luck by which the first call fails.
-fn first_fails(alloc: Global) -> Result<List<CallLuck>, Memory> {
-    Ok(List::from_vec(Vec::from_slice(alloc, &[CallLuck::Failed])?))
+/// Luck by which the first calls go so.
+fn luck_of(alloc: Global, first: &[CallLuck]) -> Result<List<CallLuck>, Memory> {
+    Ok(List::from_vec(Vec::from_slice(alloc, first)?))
 }
 
 #[test]
 fn a_system_in_memory_has_files(rt: HostRuntime) -> Result<(), Fail> {
     let alloc = rt.alloc();
-    let mut folder = folder_over(alloc, one_by_one(alloc)?);
-    answers(alloc, &mut folder, SHORT_CALLS)?;
+    answers(
+        alloc,
+        &mut folder_over(alloc, one_by_one(alloc)?),
+        SHORT_CALLS,
+    )
+}
+
+#[test]
+fn a_system_in_memory_has_disks(rt: HostRuntime) -> Result<(), Fail> {
+    let alloc = rt.alloc();
+    let luck = luck_of(alloc, [CallLuck::Short(1); 12].as_slice())?;
+    let mut folder = folder_over(alloc, luck);
+    answers(alloc, &mut folder, "write | five_bytes | bytes | done")?;
     leaves(alloc, &mut folder, "five_bytes").or(Err("no disk"))?;
     leaves(alloc, &mut folder, "new").or(Err("no new disk"))?;
     answers(alloc, &mut folder, LEFT_BY_A_DISK)
@@ -64,7 +75,7 @@ fn a_system_in_memory_has_files(rt: HostRuntime) -> Result<(), Fail> {
 #[test]
 fn a_system_in_memory_fails(rt: HostRuntime) -> Result<(), Fail> {
     let alloc = rt.alloc();
-    let mut folder = folder_over(alloc, first_fails(alloc)?);
+    let mut folder = folder_over(alloc, luck_of(alloc, &[CallLuck::Failed])?);
     answers(alloc, &mut folder, "write | five_bytes | bytes | failed")
 }
 
