@@ -9,7 +9,7 @@ use Rattle.mw_checkpoint.specs.Choices.{AreChoices, named_in}
 use Rattle.mw_checkpoint.specs.Pair.{PairStands, journal_at}
 use Rattle.mw_checkpoint.specs.Preparing.{RefusesPrepare}
 use Rattle.mw_checkpoint.specs.Refused.{RefusesChosen}
-use Rattle.mw_checkpoint.specs.Switching.{RefusesSwitch}
+use Rattle.mw_checkpoint.specs.Switching.{IsOutsideOrFull, RefusesSwitch}
 use Rattle.mw_checkpoint.specs.Whole.{AreRecords}
 use Rattle.mw_checkpoint.specs.declared.error.PairError.{PairError}
 use Rattle.mw_checkpoint.specs.declared.files.Files.{Files}
@@ -91,7 +91,8 @@ pub record IsThinned {D : Type 0} (told : D → Option (List ℕ)) (may_leave : 
   pub left : kept.kept ≡ length (thinned records)
 
 -- each error of a checkpoint: CHOICE names no journal; what counts of the one that it names isn't
--- written into the other; or CHOICE, as it was opened, doesn't take its number
+-- written into the other; or CHOICE, as it was opened, doesn't take its number, which isn't for its
+-- bytes where it tells them, unless it is full
 abbrev pub RefusesCheckpoint : {D : Type 0} → (D → Option (List ℕ)) → (D → ℕ) → List ℕ → Files D
     → Files D → PairError → Type 0
 RefusesCheckpoint told faults digest before after error =
@@ -100,4 +101,5 @@ RefusesCheckpoint told faults digest before after error =
     × ((f : List ℕ) → told before.choice ≡ Some f → Stands f digest text)
     × RefusesPrepare told faults digest (named_in text) before after error)
     ⊎ ((opened : Option (List ℕ)) × (is_some opened ≡ is_some (told before.choice))
-    × RefusesSwitch opened digest (faults before.choice) (faults after.choice) error))
+    × RefusesSwitch opened digest (faults before.choice) (faults after.choice) error
+    × ((f : List ℕ) → opened ≡ Some f → IsOutsideOrFull error)))

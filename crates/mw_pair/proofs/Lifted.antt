@@ -146,12 +146,13 @@ module _ {D : Type 0} (told : D → Option (List ℕ)) (may_leave : D → List �
         now = faults (journal_at (other_of (named_in text)) after);
         refused = inr (subst (λ t. RefusesWriting (journal_place (other_of (named_in text))) t (faults (journal_at (other_of (named_in text)) files)) (faults (journal_at (other_of (named_in text)) after)) error) (own_number (other_of (named_in text))).tells writing);
       }))
-      lift_refused (inr (inr (opened_as, tells, switching))) = inr (inr (inr record {
+      lift_refused (inr (inr (opened_as, tells, switching, outside))) = inr (inr (inr record {
         opened = opened_as;
         tells = tells ∙ ap is_some opened.choice.tells;
         was = faults files.choice;
         now = faults after.choice;
         refused = switching;
+        outside = outside;
       }))
 
     module _ (after : Files D) (old new : ℕ) (passes : PassesAll faults after old new) where
@@ -161,7 +162,7 @@ module _ {D : Type 0} (told : D → Option (List ℕ)) (may_leave : D → List �
           passes_number faults after old new passes (named_in text) (rose_zero (faults (journal_at (named_in text) files)) (faults (journal_at (named_in text) after)) spared.refused.1)
       lift_fault (DiskFault place) (inr (inl (text, names, inr writing))) is =
           passes_number faults after old new passes (other_of (named_in text)) (rose_zero (faults (journal_at (other_of (named_in text)) files)) (faults (journal_at (other_of (named_in text)) after)) writing.1)
-      lift_fault (DiskFault place) (inr (inr (opened_as, tells, switching))) is = passes.choice (rose_zero (faults files.choice) (faults after.choice) switching.1)
+      lift_fault (DiskFault place) (inr (inr (opened_as, tells, switching, outside))) is = passes.choice (rose_zero (faults files.choice) (faults after.choice) switching.1)
       lift_fault (NotEmpty place) r is = absurd is
       lift_fault (NotJournal place at) r is = absurd is
       lift_fault (OtherSeed place found) r is = absurd is

@@ -8,7 +8,7 @@ use Rattle.mw_checkpoint.specs.Choices.{named_in}
 use Rattle.mw_checkpoint.specs.Pair.{journal_place, other_of}
 use Rattle.mw_checkpoint.specs.Preparing.{RefusesReading, RefusesWriting}
 use Rattle.mw_checkpoint.specs.Refused.{RefusesChosen}
-use Rattle.mw_checkpoint.specs.Switching.{RefusesSwitch}
+use Rattle.mw_checkpoint.specs.Switching.{IsOutsideOrFull, RefusesSwitch}
 use Rattle.mw_checkpoint.specs.declared.error.PairError.{PairError}
 use Rattle.mw_checkpoint.specs.declared.switching.Kept.{Kept}
 use Rattle.mw_pair.specs.Folders.{IsOpening}
@@ -62,7 +62,8 @@ pub record RefusesCopy (before : List ℕ → Option (Option (List ℕ))) (choic
       ⊎ RefusesWriting (journal_place (other_of (named_in text)))
       (bytes_in before (journal_name choice (other_of (named_in text)))) was now error
 
--- why CHOICE, as it was opened, doesn't take the other journal's number
+-- why CHOICE, as it was opened, doesn't take the other journal's number: not for its bytes where it
+-- tells them, unless it is full
 pub record RefusesNumber (before : List ℕ → Option (Option (List ℕ))) (choice digest : List ℕ)
     (error : PairError)
     : Type 0 where
@@ -71,6 +72,7 @@ pub record RefusesNumber (before : List ℕ → Option (Option (List ℕ))) (cho
   pub was : ℕ
   pub now : ℕ
   pub refused : RefusesSwitch opened digest was now error
+  pub outside : (f : List ℕ) → opened ≡ Some f → IsOutsideOrFull error
 
 -- each error of a checkpoint: a file isn't opened, or memory is wanting; or it is of CHOICE, of the
 -- journals, or of CHOICE once more

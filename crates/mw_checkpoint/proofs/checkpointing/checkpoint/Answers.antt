@@ -130,6 +130,7 @@ returns-in-Err-switch-clause-refused g c =
       refuses_since told c.args.digest.now (g.D.Disk.faults c.args.files.choice) (g.D.Disk.faults made.files.choice) after c.in-Err-switch.error
           (subst (λ d. g.D.Disk.faults c.args.files.choice ≤ g.D.Disk.faults d) (sym p.choice) e.count)
           (subst (λ d. RefusesSwitch told d (g.D.Disk.faults made.files.choice) after c.in-Err-switch.error) p.prepares.seed w.refused),
+      (λ f is. w.settled f is),
     ))
 
 pub returns-in-Err-prepare-clause-refused : goal.returns-in-Err-prepare-clause-refused
