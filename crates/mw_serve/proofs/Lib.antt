@@ -8,4 +8,5 @@ mod Files
 pub mod Starting
 pub mod WholeLives
 pub mod Pairs
+mod Accepting
 pub mod PairLives

@@ -11,36 +11,47 @@ use Rattle.mw_disk.specs.Crash.{Stays}
 use Rattle.mw_checkpoint.specs.Checkpointing.{HasSettled, MayStand, with_thinned}
 use Rattle.mw_checkpoint.specs.Choices.{named_in}
 use Rattle.mw_checkpoint.specs.Chosen.{IsChosen}
+use Rattle.mw_checkpoint.specs.Pair.{journal_place, other_of}
+use Rattle.mw_checkpoint.specs.Refused.{RefusesChosen}
+use Rattle.mw_checkpoint.specs.Switching.{IsOutsideOrFull}
 use Rattle.mw_checkpoint.specs.Whole.{AreRecords}
+use Rattle.mw_checkpoint.specs.declared.error.PairError.{PairError}
 use Rattle.mw_checkpoint.proofs.Spelt.{both_records}
 use Rattle.mw_drive.specs.Drive.{Put, gone, overrun, message, text_put}
-use Rattle.mw_drive.specs.Ends.{IsFound, StaysSettled}
+use Rattle.mw_drive.specs.Ends.{IsFound, Refuses, StaysSettled}
 use Rattle.mw_drive.specs.Left.{KeepsFound, KeepsFrom}
+use Rattle.mw_drive.specs.declared.error.JournalRefusal.{JournalRefusal}
 use Rattle.mw_drive.proofs.Telling.{none_put, some_told}
 use Rattle.mw_edges.specs.Causes.{PutsFront}
 use Rattle.mw_edges.specs.Folders.{opened_bytes}
-use Rattle.mw_journal.specs.Settled.{AllShut}
+use Rattle.mw_journal.specs.Settled.{AllShut, IsSettled}
 use Rattle.mw_keep.proofs.Leaving.{committed_records, first_records, left_so}
+use Rattle.mw_keep.proofs.Naming.{names_fit}
 use Rattle.mw_keep.proofs.OneSeed.{one_seed}
 use Rattle.mw_keep.specs.Left.{IsLeft}
 use Rattle.mw_laws.specs.Items.{ItemsComeOnce}
+use Rattle.mw_laws.specs.Naming.{JournalsAreNamed, NamesFit}
 use Rattle.mw_laws.specs.Shows.{ShowsChecked}
 use Rattle.mw_laws.specs.Tails.{taking}
 use Rattle.mw_link.specs.declared.link.Heard.{Heard}
 use Rattle.mw_model.specs.Seed.{Seed}
 use Rattle.mw_multidata.specs.Digest.{digest_of}
 use Rattle.mw_multidata.specs.SeedOf.{SeedOf}
+use Rattle.mw_multidata.proofs.SeedKept.{file_kept}
 use Rattle.mw_offline.specs.Across.{IsKeptAcross, IsToldAcross}
 use Rattle.mw_offline.specs.FilesAround.{FilesAround, files_around}
 use Rattle.mw_offline.specs.PairDriving.{RoomFound, RoomStays}
 use Rattle.mw_offline.proofs.Driving.{told_bytes}
 use Rattle.mw_offline.proofs.Keeping.{Laws, across_append, across_from, across_seed}
-use Rattle.mw_pair.specs.Choosing.{NamesJournal}
+use Rattle.mw_pair.specs.Choosing.{NamesJournal, RefusesChoice}
+use Rattle.mw_pair.specs.Folders.{IsOpening}
 use Rattle.mw_pair.specs.Names.{IsOneOf, file_names, journal_name}
+use Rattle.mw_pair.specs.Thinning.{RefusesCopy, RefusesNumber, RefusesThin}
 use Rattle.mw_pair.proofs.Lifted.{fewer_has, fewer_stand}
 use Rattle.mw_protocol.specs.Asked.{view}
 use Rattle.mw_protocol.specs.Connecting.{Member}
 use Rattle.mw_protocol.specs.Lives.{Life, Luck, committed_of, crashes, fine, left_by, new_life}
+use Rattle.mw_protocol.specs.Named.{are_named}
 use Rattle.mw_protocol.specs.Records.{Record}
 use Rattle.mw_protocol.specs.Rooms.{Message}
 use Rattle.mw_protocol.specs.Spelled.{records_bytes}
@@ -48,10 +59,12 @@ use Rattle.mw_session.specs.declared.served.Served.{Served}
 use Rattle.mw_thinning.specs.Across.{took}
 use Rattle.mw_thinning.specs.Checkpoints.{Step, goes, thins, after, journal_after, life_after_all}
 use Rattle.mw_thinning.specs.Thinning.{thinned}
+use Rattle.mw_serve.specs.Accepting.{AcceptsPair, IsSettledJournal, IsThere, RefusesNone}
 use Rattle.mw_serve.specs.Across.{AllAcross, AreSentAcross, IsSentAcross}
 use Rattle.mw_serve.specs.PairLives.{ArePairKept, AreRuns, GoesOnFrom, KeepsMessageAcross, KeepsPairRun, KeepsPutAcross, KeepsTextAcross, KeepsTextsAcross, PairRun, ShowsOn, checks, end_of, first_of, hosts, last_of, plays}
 use Rattle.mw_serve.specs.PairServing.{PairServeKeeps}
 use Rattle.mw_serve.specs.Sent.{SendsFound, SendsFrom}
+use Rattle.mw_serve.proofs.Accepting.{back_named, choice_accepted, journal_accepted, left_named, one_text, opening_outside, reading_accepted, writing_accepted}
 use Rattle.mw_serve.proofs.Sending.{all_weaker, every_weaker, sends_across}
 
 -- ---- lists
@@ -334,6 +347,91 @@ module _ (choice digest : List ℕ) (seed : Seed) where
                   told = subst W same on.2;
                 }
 
+-- ---- that no run refuses them
+
+module _ (naming : JournalsAreNamed) (seed : Seed) (fit : NamesFit seed) (choice digest : List ℕ) (steps : List Step) (holds : Files) (images : List ℕ → List ℕ → Type 0) (s : Stands images choice digest seed steps)
+    (told : (n : List ℕ) → IsOneOf choice n → IsTrue (is_some (opened_bytes (holds n)))) (may_stay : (n c : List ℕ) → holds n ≡ Some (Some c) → images n c)
+  where
+    -- each of the allowed lists of records names only what the seed has
+    named_allowed : (rs : List Record) → Contains s.allowed rs → IsTrue (are_named seed rs)
+    named_allowed rs has = let r = s.reached rs has in subst (λ js. IsTrue (are_named seed js)) (sym r.is) (left_named naming seed fit (steps ++ r.more) r.left)
+
+    named_settled : (left : List ℕ → Type 0) → HasSettled left digest s.allowed → IsSettledJournal left digest seed
+    named_settled left h = record {
+      kept = h.kept;
+      batch = h.batch;
+      first = record { spelled = h.front; named = named_allowed h.kept h.first };
+      more = record { spelled = batch_records h.kept h.batch h.spelled; named = back_named seed h.kept h.batch (named_allowed (h.kept ++ h.batch) h.both) };
+      settled = h.settled;
+    }
+
+    journal_settled : (number : ℕ) → NamesJournal (opened_bytes (holds choice)) (images choice) digest number → IsSettledJournal (images (journal_name choice number)) digest seed
+    journal_settled number names =
+        named_settled (images (journal_name choice number)) (named_has choice digest seed images images steps s (opened_bytes (holds choice)) (told choice (inl refl)) number names)
+
+    module _ (there : (n : List ℕ) → IsOneOf choice n → IsThere (holds n)) where
+      own : (f : List ℕ) × (holds choice ≡ Some (Some f))
+      own = there choice (inl refl)
+
+      own_settled : IsSettled own.0 digest s.stand.text s.stand.body
+      own_settled = s.stand.choice own.0 (may_stay choice own.0 own.1)
+
+      chosen_so : (was now : ℕ) (error : PairError) → RefusesChosen (opened_bytes (holds choice)) digest was now error → IsOpening error
+      chosen_so was now error r =
+          choice_accepted (opened_bytes (holds choice)) own.0 digest s.stand.text s.stand.body (ap opened_bytes own.1) own_settled s.stand.texts s.stand.bodies was now error r
+
+      journal_of : (number : ℕ) → (f : List ℕ) × (holds (journal_name choice number) ≡ Some (Some f))
+      journal_of number = there (journal_name choice number) (one_name choice number)
+
+      playing : (number : ℕ) (refusal : JournalRefusal) → NamesJournal (opened_bytes (holds choice)) (images choice) digest number → Refuses (opened_bytes (holds (journal_name choice number))) digest seed refusal → ⊥
+      playing number refusal names r =
+          let h = journal_settled number names in
+          let j = journal_of number in
+          journal_accepted (opened_bytes (holds (journal_name choice number))) j.0 digest h.kept h.batch (ap opened_bytes j.1) (h.settled j.0 (may_stay (journal_name choice number) j.0 j.1)) seed h.first h.more refusal r
+
+      copying : (error : PairError) → RefusesCopy holds choice digest error → IsOutsideOrFull error
+      copying error c =
+          let number = named_in c.text in
+          let other = other_of number in
+          let stands = c.names own.0 (ap opened_bytes own.1) in
+          let h = s.stand.journals number (elim (one_text (opened_bytes (holds choice)) own.0 digest s.stand.text s.stand.body (ap opened_bytes own.1) own_settled c.text stands) [
+            | inl one ↦ inl (ap named_in one)
+            | inr both ↦ inr (ap named_in both)
+          ]) in
+          let j = journal_of number in
+          let o = journal_of other in
+          elim (c.refused) [
+            | inl reading ↦
+                reading_accepted (opened_bytes (holds (journal_name choice number))) j.0 digest h.kept h.batch (ap opened_bytes j.1) (h.settled j.0 (may_stay (journal_name choice number) j.0 j.1))
+                h.front (batch_records h.kept h.batch h.spelled) (journal_place number) c.was c.now error reading
+            | inr writing ↦ writing_accepted (opened_bytes (holds (journal_name choice other))) o.0 (ap opened_bytes o.1) (journal_place other) c.was c.now error writing
+          ]
+
+      numbering : (error : PairError) → RefusesNumber holds choice digest error → IsOutsideOrFull error
+      numbering error n =
+          let f = some_told n.opened (n.tells ∙ told choice (inl refl)) in
+          n.outside f.0 f.1
+
+      choosing : (error : PairError) → RefusesChoice holds choice digest error → IsOpening error
+      choosing error (inl is) = is
+      choosing error (inr (was, now, c)) = chosen_so was now error c
+
+      thinning : (error : PairError) → RefusesThin holds choice digest error → IsOutsideOrFull error
+      thinning error (inl is) = opening_outside error is
+      thinning error (inr (inl (was, now, c))) = opening_outside error (chosen_so was now error c)
+      thinning error (inr (inr (inl c))) = copying error c
+      thinning error (inr (inr (inr n))) = numbering error n
+
+      none_refused : RefusesNone holds images choice digest seed
+      none_refused = record { choosing = choosing; playing = playing; thinning = thinning }
+
+    accepts : AcceptsPair holds images choice digest seed
+    accepts = record {
+      own = record { text = s.stand.text; body = s.stand.body; texts = s.stand.texts; bodies = s.stand.bodies; settled = s.stand.choice };
+      journal = journal_settled;
+      none = none_refused;
+    }
+
 -- ---- the runs
 
 module _ {F T D : Type 0} (holds : F → Files) (images : F → List ℕ → List ℕ → Type 0) (is_open : F → List ℕ → Bool) (may_fail : F → Bool) (faults : F → ℕ)
@@ -476,10 +574,10 @@ module _ {F T D : Type 0} (holds : F → Files) (images : F → List ℕ → Lis
         every_weaker (λ (e : Served T). AreSentAcross seed steps e.session (sent_by e.line)) (λ (e : Served T). KeepsTextsAcross seed steps journal e.session (sent_by e.line)) (λ e. texts_kept seed steps more journal is e.session (sent_by e.line)) r.served h
     run_kept steps more journal is (checks first last) h = tt
 
-    pub pair_kept : ItemsComeOnce → (made : F) (runs : List (PairRun F T)) → ((n : List ℕ) → IsOneOf choice n → AllShut (images made n) digest [] 40)
+    pub pair_kept : ItemsComeOnce → JournalsAreNamed → ((folder : F) (n c : List ℕ) → holds folder n ≡ Some (Some c) → images folder n c) → (made : F) (runs : List (PairRun F T)) → ((n : List ℕ) → IsOneOf choice n → AllShut (images made n) digest [] 40)
         → AreRuns holds images is_open may_fail faults heard_by sent_by line_faults opened is_shut may_leave multidata choice bytes made runs
         → ArePairKept holds images is_open may_fail faults heard_by sent_by line_faults opened is_shut may_leave multidata choice seed digest made runs
-    pair_kept once made runs shut are =
+    pair_kept once naming may_stay made runs shut are =
         let c = come made runs [] (stands_made choice digest seed (images made) shut) are in
         let end = Last made runs in
         record {
@@ -493,4 +591,6 @@ module _ {F T D : Type 0} (holds : F → Files) (images : F → List ℕ → Lis
                 all_weaker (λ x. Told x c.more) (λ x. KeepsPairRun holds images is_open may_fail faults heard_by sent_by line_faults opened is_shut may_leave multidata choice seed c.more journal x) (run_kept c.more life.0 journal is) runs c.all_told,
                 once seed journal,
               );
+          accepted = λ next g.
+              accepts naming seed (names_fit seed (file_kept bytes seed accepted)) choice digest c.more (holds next) (images next) (stands_first end next c.more g c.stands) g.told (may_stay next);
         }

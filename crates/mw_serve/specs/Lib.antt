@@ -6,4 +6,5 @@ pub mod Runs
 pub mod Serving
 pub mod WholeLives
 pub mod PairServing
+pub mod Accepting
 pub mod PairLives

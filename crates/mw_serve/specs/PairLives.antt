@@ -31,6 +31,7 @@ use Rattle.mw_protocol.specs.Records.{Record}
 use Rattle.mw_protocol.specs.Rooms.{Message, text_of}
 use Rattle.mw_thinning.specs.Checkpoints.{Step}
 use Rattle.mw_words.specs.declared.command_line.ServeWords.{ServeWords}
+use Rattle.mw_serve.specs.Accepting.{AcceptsPair}
 use Rattle.mw_serve.specs.Across.{AreFirstAcross}
 use Rattle.mw_serve.specs.PairServing.{PairServeKeeps}
 use Rattle.mw_serve.specs.WholeLives.{ServedRun}
@@ -145,8 +146,9 @@ module _ {F T D : Type 0} (holds : F → Files) (images : F → List ℕ → Lis
         (λ e. KeepsTextsAcross seed steps journal e.session (sent_by e.line))) r.served
     KeepsPairRun seed steps journal (checks first last) = Unit {0}
 
-    -- some steps of lives, with checkpoints between them, came of the runs; and whatever journal a
-    -- later run finds by CHOICE, it keeps what each run showed, and gives no item twice
+    -- some steps of lives, with checkpoints between them, came of the runs; whatever journal a
+    -- later run finds by CHOICE, it keeps what each run showed, and gives no item twice; and no
+    -- later run refuses CHOICE, or the journal that it names
     pub record ArePairKept (seed : Seed) (digest : List ℕ) (folder : F)
         (runs : List (PairRun F T))
         : Type 0 where
@@ -157,6 +159,8 @@ module _ {F T D : Type 0} (holds : F → Files) (images : F → List ℕ → Lis
           → IsFound (opened_bytes (holds next (journal_name choice number)))
           (images next (journal_name choice number)) digest seed journal place
           → AllByRecursion (KeepsPairRun seed steps journal) runs × NoItemTwice seed journal
+      pub accepted : (next : F) → GoesOnFrom (last_of folder runs) next
+          → AcceptsPair (holds next) (images next) choice digest seed
 
     -- after a `new-room --pair` that made the three files, and any runs on them
     abbrev pub PairRoomsKeep : Type 0

@@ -5,7 +5,8 @@ ghost use Rattle.mw_serve.specs.WholeLives.{AllRunsKeep};
 
 use mw_edges::Folder;
 use mw_keep::laws::{
-    no_item_twice, shown_is_checked, shown_is_checked_across, tails_across, tails_of_the_last_view,
+    journals_are_named, no_item_twice, shown_is_checked, shown_is_checked_across, tails_across,
+    tails_of_the_last_view,
 };
 use mw_link::Link;
 
@@ -36,6 +37,13 @@ pub fn all_runs_keep<F: Folder, L: Link>()
 /// messages that its session was owed; and no item is received twice. So it is behind every
 /// checkpoint, and where one was stopped by an error.
 ///
+/// And no later run is refused for its files (`accepted`). What a crash may leave of CHOICE is
+/// settled for bytes 0 and 1, and what it may leave of the journal that CHOICE names, whichever
+/// that is, for records which name only what the seed has: then `chosen` and `resume` give no error
+/// but a fault or want of memory. So where the three files are there, none of `NotJournal`,
+/// `OtherSeed`, `BadChoice` and `BadRecord` is an error of `drive --pair`, of `serve --pair` or of
+/// `thin`: no cause of these, as the ends of the commands name it, is so.
+///
 /// It speaks of any folder that tells the seed file and the three, and of any links. Of each run it
 /// takes what a run keeps, which are the clauses `pair` of `cmd_drive` and `cmd_serve` (`kept`) and
 /// `ends` of `cmd_thin` (`keeps`) where the run returned. Of one that never did, cut off at any
@@ -46,10 +54,12 @@ pub fn pair_rooms_keep<F: Folder, L: Link>()
         → PairRoomsKeep F.holds F.images F.is_open F.may_fail F.faults L.heard L.sent L.faults
         L.opened L.is_shut F.Drive.may_leave multidata choice }
 {
-    // No item stands twice, whatever journal a run finds; and what was taken is kept.
+    // No item stands twice, whatever journal a run finds; what was taken is kept; and what records
+    // name the seed has.
     no_item_twice();
     shown_is_checked();
     tails_of_the_last_view();
     shown_is_checked_across();
     tails_across();
+    journals_are_named();
 }
