@@ -1,0 +1,16 @@
+use denote.Param.Send.{sendable}
+use Rattle.std.proofs.Crossing.{crosses}
+use Rattle.mw_rows.proofs.Crosses.{file_send}
+use Rattle.mw_rows.proofs.systems.a_system_in_memory_has_disks.Goals as goal
+
+pub answers-requires-send-F-Drive : goal.answers-requires-send-F-Drive
+answers-requires-send-F-Drive c κs = search (sendable, crosses, file_send) depth 60 fits 20000
+
+pub leaves-requires-send-F-Drive : goal.leaves-requires-send-F-Drive
+leaves-requires-send-F-Drive c κs = search (sendable, crosses, file_send) depth 60 fits 20000
+
+pub leaves-requires-2-send-F-Drive : goal.leaves-requires-2-send-F-Drive
+leaves-requires-2-send-F-Drive c κs = search (sendable, crosses, file_send) depth 60 fits 20000
+
+pub answers-requires-2-send-F-Drive : goal.answers-requires-2-send-F-Drive
+answers-requires-2-send-F-Drive c κs = search (sendable, crosses, file_send) depth 60 fits 20000
